@@ -12,7 +12,7 @@ class Maker:
         self.random, self.version = random, version
         self.bases = random.choice([1, 1, 1, 2, 3, MOST_BASES[version]])
         self.lanes = random.choice([1, 1, 2, 3, MOST_LANES[version]])
-        self.kinds = []
+        self.kinds, self.lane = [], 0
 
     def small(self):
         return self.random.randrange(self.random.choice([2, 3, 10, 60]))
@@ -60,8 +60,16 @@ class Maker:
     def expire(self):
         return f"{self.random.choice(['expire', 'expire', 'softexpire'][: self.version + 1])} {self.base()} {self.random.choice([0, 1, 2, 8, 8, 4096])}"
 
+    def shift(self):
+        """A base goes off line, more often than not where timers are, or on line."""
+        base = self.random.choice([1, self.random.randrange(1, self.bases)])
+        budget = self.random.choice([0, 1, 2, 8, 8, 4096])
+        return self.random.choice([f"offline {base} {self.random.randrange(base)} {budget}"] * 2 + [f"online {base}"])
+
     def calls(self):
         """A few calls: one by chance, or a timer that is set, and may expire."""
+        if self.version == 2 and self.bases > 1 and self.lane == 0 and self.random.random() < 0.2:
+            return [self.shift()]
         if not self.kinds or self.random.random() < 0.3:
             return [self.random.choice([self.write, self.expire])()]
         timer = self.random.randrange(len(self.kinds))
@@ -75,8 +83,8 @@ class Maker:
         made += [self.declaration() for _ in range(self.random.randrange(7))]
         for _ in range(self.random.randrange(1, 7)):
             made.append("round")
-            lane = self.random.randrange(self.lanes)
-            made += [f"{lane} {call}" for _ in range(self.random.randrange(12)) for call in self.calls()]
+            self.lane = self.random.choice([0, self.random.randrange(self.lanes)])
+            made += [f"{self.lane} {call}" for _ in range(self.random.randrange(12)) for call in self.calls()]
         return made
 
 
@@ -103,7 +111,7 @@ def damaged_line(random, line):
     elif change == 2:
         del words[at]
     elif change == 3:
-        words[at] = random.choice([b"start", b"startrange", b"monotonic", b"round", b"soft", b"once", b"every", b"read", b"abs", b"hrt"])
+        words[at] = random.choice([b"start", b"startrange", b"monotonic", b"round", b"soft", b"once", b"every", b"read", b"abs", b"hrt", b"offline", b"online"])
     elif change == 4:
         return line[:place] + random.choice(BYTES) + line[place:]
     else:

@@ -21,9 +21,10 @@ class Seen(NamedTuple):
 
 
 class Record:
-    def __init__(self, version, timers, lane_sizes):
+    def __init__(self, version, bases, timers, lane_sizes):
         self.version = version
         self.clock = []
+        self.bases = [[] for _ in range(bases)]
         self.timers = [[] for _ in range(timers)]
         self.looks = [[] for _ in range(timers)]
         self.objects = [[] for _ in range(timers)]
@@ -49,6 +50,8 @@ def history(entry_kind, seen_kind, number, entries, seen):
 def text(record):
     lines = [f"record {record.version}"]
     lines += [line("clock", at, entry.lane, entry.call, *entry.words) for at, entry in enumerate(record.clock, 1)]
+    for number, entries in enumerate(record.bases):
+        lines += history("base", "", number, entries, ())
     for number, entries in enumerate(record.timers):
         lines += history("timer", "look", number, entries, record.looks[number])
     for number, entries in enumerate(record.objects):

@@ -16,6 +16,8 @@ MOST_TIMERS = {1: 256, 2: 4096}
 MOST_ENTRIES = {1: 2**48 - 16, 2: 2**48 - 2048}
 
 HEADERS = ("hrt", "bases", "lanes", "limit")
+# The calls that take a base off line and on line, which the first lane makes alone.
+BASE_CALLS = ("offline", "online")
 KINDS_OF_CALL = {
     "start": ("raw", "soft"),
     "startrange": ("raw", "soft"),
@@ -84,7 +86,7 @@ FORMS = [
     *(form(1, "call", f"K {text}") for text in ("start I MODE NS B", "cancel I", "peek I", "expire B N")),
     *(form(1, "call", f"K {verb} D") for verb in ("advance", "set", "suspend")),
     *(form(1, "call", f"K {text}") for text in ("settime I F VS VN IS IN", "gettime I", "accept I", "overrun I", "read I LEN", "readable I")),
-    *(form(2, "call", f"K {text}") for text in ("startrange I MODE NS SLACK B", "softexpire B N")),
+    *(form(2, "call", f"K {text}") for text in ("startrange I MODE NS SLACK B", "softexpire B N", "offline B H N", "online B")),
 ]
 
 
@@ -211,14 +213,16 @@ class Script:
             cause, most = self.header_limit(chosen.key)
             return None if 1 <= value <= most else cause
         if name == "K":
-            return None if value < self.lanes else "LaneLimit"
+            return None if value < (1 if chosen.key in BASE_CALLS else self.lanes) else "LaneLimit"
         if name == "B":
             return None if value < self.bases else "BaseLimit"
         if name == "I" and chosen.part == "declaration":
             return None if value == len(self.declarations) else "BadId"
         if name == "I":
             return None if value < len(self.declarations) else "NoTimer"
-        if chosen.key in ("expire", "softexpire") and name == "N":
+        if name == "H":
+            return None if value < values["B"] else "HeirLimit"
+        if chosen.key in ("expire", "softexpire", "offline") and name == "N":
             return None if value <= MOST_BUDGET else "BudgetLimit"
         return None
 

@@ -76,6 +76,13 @@ def after_write(reading, verb, number):
 # ---- one timer
 
 
+class Terms(NamedTuple):
+    """How many entries a timer may have, and how many more while it is armed and is moved off a base."""
+
+    limit: int
+    reach: int = 0
+
+
 class Timer(NamedTuple):
     """A timer's state. `armed` and `running` are generations: numbers of the entries that armed it."""
 
@@ -125,50 +132,57 @@ class Finish(NamedTuple):
 Event = Union[Out, Start, Cancel, Claim, Forward, Finish]
 
 
-def step(timer, stamp, limit, event):
-    """The state after the event, and its answer. `stamp` is how many entries the timer has, `limit` how many it may have."""
-    return STEPS[type(event)](timer, stamp, limit, event)
+def step(timer, stamp, terms, event):
+    """The state after the event, and its answer. `stamp` is how many entries the timer has, `terms` how many it may have."""
+    return STEPS[type(event)](timer, stamp, terms, event)
 
 
-def out(timer, stamp, limit, event):
-    need(timer.running is None and not timer.moving, "only a timer at rest is taken to another base")
-    need(event.to != timer.base and stamp < limit, "it is taken to another base, below the limit")
+def may_send(timer, stamp, terms, to):
+    """A timer on the move goes on only where it has a reach, to lower bases; an armed one is sent past the limit within its reach."""
+    if timer.moving:
+        return terms.reach > 0 and to < timer.base
+    return stamp < terms.limit + (terms.reach if timer.armed is not None else 0)
+
+
+def out(timer, stamp, terms, event):
+    need(timer.running is None, "a timer whose function runs is not taken to another base")
+    need(event.to != timer.base and may_send(timer, stamp, terms, event.to), "it is taken to another base, with room")
     return timer._replace(base=event.to, armed=None, moving=True), timer.armed is not None
 
 
-def start(timer, stamp, limit, event):
+def start(timer, stamp, terms, event):
     need(timer.running is not None or event.base == timer.base, "a timer is started where it stands")
-    need(stamp < limit or timer.moving, "a start has room")
+    need(stamp < terms.limit or timer.moving, "a start has room")
     clock = effective_clock(timer.declared, event.mode, timer.effective)
     soft = sat(event.ns + (event.reading.of(clock) if event.mode == "rel" else 0))
     after = timer._replace(effective=clock, soft=soft, expires=sat(soft + event.slack), armed=stamp + 1, moving=False)
     return after, timer.armed is not None
 
 
-def cancel(timer, stamp, limit, event):
+def cancel(timer, stamp, terms, event):
     need(timer.armed is not None and timer.running is None and not timer.moving, "only an armed timer at rest is cancelled")
     return timer._replace(armed=None), timer.armed
 
 
-def claim(timer, stamp, limit, event):
+def claim(timer, stamp, terms, event):
     need(timer.is_due(event.base, event.reading), "only a due timer is claimed")
     need(timer.running is None and not timer.moving, "only a timer at rest is claimed")
     return timer._replace(armed=None, running=timer.armed), timer.armed
 
 
-def forward(timer, stamp, limit, event):
-    need(timer.running is not None and timer.armed is None and stamp < limit, "a running timer that isn't armed is forwarded")
+def forward(timer, stamp, terms, event):
+    need(timer.running is not None and timer.armed is None and stamp < terms.limit, "a running timer that isn't armed is forwarded")
     periods = passed(timer.expires, event.reading.of(timer.effective), event.interval)
     by = periods * max(event.interval, 1)
     return timer._replace(soft=sat(timer.soft + by), expires=sat(timer.expires + by)), periods
 
 
-def finish(timer, stamp, limit, event):
+def finish(timer, stamp, terms, event):
     need(timer.running is not None, "only a running timer finishes")
     armed, outcome = timer.armed, "none"
     if event.restart and armed is None:
-        outcome = stamp + 1 if stamp < limit else "spent"
-        armed = stamp + 1 if stamp < limit else None
+        outcome = stamp + 1 if stamp < terms.limit else "spent"
+        armed = stamp + 1 if stamp < terms.limit else None
     return timer._replace(running=None, armed=armed), (timer.running, outcome)
 
 

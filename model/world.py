@@ -3,12 +3,18 @@ import objects
 import timers
 from objects import NOT_ASKED, Accept, Gettime, Object, Read, Settime, Trigger
 from record import Entry, Record, Seen
-from timers import CLOCKS, MOST_WRITES, Cancel, Claim, Finish, Forward, Out, Reading, Start, Timer
+from timers import CLOCKS, MOST_WRITES, Cancel, Claim, Finish, Forward, Out, Reading, Start, Terms, Timer
+
+# How many entries past the limit an armed timer may have that is moved off a base.
+REACH = {1: 0, 2: 1024}
+# A base with so many entries isn't taken off line any more.
+LAST_STANDING = 65534
 
 
 class World:
     def __init__(self, script):
         self.script, self.limit = script, script.limit
+        self.terms = Terms(script.limit, REACH[script.version])
         self.reading = Reading()
         declared = script.declarations
         self.timers = [Timer(it.clock, it.clock) for it in declared]
@@ -16,7 +22,8 @@ class World:
         contexts = [(base, soft) for base in range(script.bases) for soft in (False, True)]
         self.queues = {(*context, clock): [] for context in contexts for clock in CLOCKS}
         self.running = dict.fromkeys(contexts)
-        self.record = Record(script.version, len(declared), [len(calls) for calls in script.calls])
+        self.heirs = [None] * script.bases
+        self.record = Record(script.version, script.bases, len(declared), [len(calls) for calls in script.calls])
         self.label = None
 
     def run(self):
@@ -44,7 +51,7 @@ class World:
     def enter(self, timer, event):
         """One entry of a timer: its step, its place in the queues, and its line."""
         old = self.timers[timer]
-        new, answer = timers.step(old, self.stamp_of(timer), self.limit, event)
+        new, answer = timers.step(old, self.stamp_of(timer), self.terms, event)
         self.timers[timer] = new
         soft = self.is_soft(timer)
         if new.armed != old.armed:
@@ -85,6 +92,8 @@ class World:
         """The generation that the timer is armed with, and whether it was armed before; None where its limit refuses."""
         if self.is_spent(timer):
             return None
+        while self.heirs[base] is not None:
+            base = self.heirs[base]
         was_armed = self.timers[timer].armed is not None
         if self.timers[timer].running is None and self.timers[timer].base != base:
             self.enter(timer, Out(base))
@@ -113,6 +122,43 @@ class World:
     def call_peek(self, I):
         state = self.timers[I]
         return f"peek {self.stamp_of(I)} {state.base} {int(state.armed is not None)} {int(state.running is not None)} 0"
+
+    # ---- bases off line and on line
+
+    def shift(self, base, heir, *words):
+        """One entry of a base: its heir from now on, none where it is on line. How many entries the base has then."""
+        self.heirs[base] = heir
+        self.record.bases[base].append(Entry(*self.label, words))
+        return len(self.record.bases[base])
+
+    def front_of(self, base):
+        """The first timer of the base's first queue that isn't empty, the hard context's before the soft one's."""
+        queues = [self.queues[base, soft, clock] for soft in (False, True) for clock in CLOCKS]
+        return next((queue[0][1] for queue in queues if queue), None)
+
+    def call_offline(self, B, H, N):
+        if self.heirs[B] is not None:
+            return f"already {len(self.record.bases[B])}"
+        if self.heirs[H] is not None:
+            return f"heiroff {len(self.record.bases[H])}"
+        if len(self.record.bases[B]) >= LAST_STANDING:
+            return f"basespent {len(self.record.bases[B])}"
+        moved = 0
+        while (timer := self.front_of(B)) is not None:
+            if moved == N:
+                return f"more {moved}"
+            if self.stamp_of(timer) >= self.terms.limit + self.terms.reach:
+                return f"spent {moved} {timer} {self.stamp_of(timer)}"
+            kept = self.timers[timer]
+            self.enter(timer, Out(H))
+            self.enter(timer, Start("keep", kept.soft, kept.expires - kept.soft, self.reading, H))
+            moved += 1
+        return f"off {moved} {self.shift(B, H, 'offline', H)}"
+
+    def call_online(self, B):
+        if self.heirs[B] is None:
+            return f"already {len(self.record.bases[B])}"
+        return f"on {self.shift(B, None, 'online')}"
 
     # ---- the clock
 

@@ -4,7 +4,7 @@
     tools/draw.py [--script SCRIPT] [FILE]
 
 Time goes to the right: each column is one step, in an order that the record allows (tools/record_order.py). Above are the writes of the clock; then the
-lanes with their calls; then each timer's life, armed, running, on the move, with a mark for each entry, and below it its object's entries. With
+lanes with their calls; then each base that goes off line; then each timer's life, armed, running, on the move, with a mark for each entry, and below it its object's entries. With
 the script each call shows its words, and rounds are marked: a record tells neither. To point at a mark shows its line of the record."""
 import os
 import sys
@@ -21,6 +21,7 @@ ROW, LEFT, TOP, CHARACTER = 36, 100, 60, 6.7
 # A column is as wide as the words of its calls want, within these bounds.
 NARROWEST, WIDEST = 58, 200
 MOST_STEPS = 3000
+OFF_LINE = "#d9d9d9"
 MARKS = {"out": "o", "start": "s", "cancel": "x", "claim": "c", "forward": "f", "finish": "e"}
 NAMES = {"out": "out", "start": "start", "cancel": "cancel", "claim": "claim", "forward": "forward", "finish": "end of the function"}
 STYLE = """
@@ -133,13 +134,13 @@ class Picture:
                 self.text(begin + 4, top + y, text, end - begin - 6)
             self.add("</g>")
 
-    def histories(self, kinds):
-        """By timer: the columns and lines of these kinds, from left to right."""
+    def histories(self, kinds, of="timer"):
+        """By timer, or by base: the columns and lines of these kinds, from left to right."""
         found = {}
         for at in sorted(self.column, key=self.column.get):
             fields = self.order.steps[at].fields
             if fields["kind"] in kinds:
-                found.setdefault(fields["timer"], []).append((self.column[at], fields))
+                found.setdefault(fields[of], []).append((self.column[at], fields))
         return found
 
     def bar(self, kind, top, begin, end):
@@ -173,6 +174,17 @@ class Picture:
         self.add(f'<g><title>{self.line(fields)}</title><circle class="mark" cx="{x}" cy="{top + 18}" r="8"/>')
         self.add(f'<text x="{x}" y="{top + 22}" text-anchor="middle">{letter}</text></g>')
 
+    def draw_base(self, base, entries):
+        """When a base is off line, and over it its entries."""
+        top = self.row(f"base {base}")
+        for (column, fields), (end, _) in zip(entries, [*entries[1:], (self.columns, None)]):
+            if fields["event"] == "offline":
+                self.add(f'<rect fill="{OFF_LINE}" x="{self.x(column)}" y="{top + 6}" width="{self.x(end) - self.x(column)}" height="{ROW - 12}"/>')
+        for column, fields in entries:
+            self.add(f'<g class="entry"><title>{self.line(fields)}</title>')
+            self.text_in(column, top + 22, f"to {fields['heir']}" if fields["event"] == "offline" else "on line")
+            self.add("</g>")
+
     def draw_object(self, timer, entries):
         top = self.row(f"  object {timer}")
         for column, fields in entries:
@@ -192,8 +204,12 @@ class Picture:
 
     def draw_legend(self):
         x = 8
-        for kind, name in (("armed", "armed"), ("running", "its function runs"), ("moving", "on the move")):
-            self.add(f'<rect class="{kind}" x="{x}" y="10" width="14" height="10"/><text x="{x + 18}" y="19">{name}</text>')
+        kinds = [("armed", "armed"), ("running", "its function runs"), ("moving", "on the move")]
+        if self.histories(("base",), "base"):
+            kinds.append(("offline", "base off line"))
+        for kind, name in kinds:
+            look = f'class="{kind}"' if kind != "offline" else f'fill="{OFF_LINE}"'
+            self.add(f'<rect {look} x="{x}" y="10" width="14" height="10"/><text x="{x + 18}" y="19">{name}</text>')
             x += 18 + int(len(name) * CHARACTER) + 14
         names = ", ".join([*(f"{letter} {NAMES[event]}" for event, letter in MARKS.items()), "? a look"])
         self.add(f'<text class="faint" x="8" y="36">{names}</text>')
@@ -205,6 +221,8 @@ class Picture:
         lanes = sorted({call.lane for call in self.calls})
         for lane in lanes:
             self.draw_lane(lane)
+        for base, entries in sorted(self.histories(("base",), "base").items()):
+            self.draw_base(base, entries)
         timers, objects = self.histories(("timer", "look")), self.histories(("object", "skip"))
         for timer in sorted({*timers, *objects}):
             self.draw_timer(timer, timers.get(timer, []))

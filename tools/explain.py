@@ -182,7 +182,8 @@ def limit_fault(cause, words, at, script):
     declared = len(script.declarations)
     return {
         "BaseLimit": lambda: f"base {word}: {of_these(script.bases, 'base')}",
-        "LaneLimit": lambda: f"lane {word}: {of_these(script.lanes, 'lane')}",
+        "LaneLimit": lambda: f"lane {word}: " + ("the first lane, 0, makes this call" if words[1] in scripts.BASE_CALLS else of_these(script.lanes, "lane")),
+        "HeirLimit": lambda: f"heir {word}: a base of a lower number than {words[2]}",
         "BadId": lambda: f"timer {word}: timers are numbered from 0, in the order of their lines: this one is {declared}",
         "NoTimer": lambda: f"timer {word}: " + (of_these(declared, "timer") if declared else "the script declares none"),
         "BudgetLimit": lambda: f"a budget of {word}: 0 to {scripts.MOST_BUDGET}",

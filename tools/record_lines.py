@@ -16,6 +16,7 @@ WRITE = "number monotonic realtime boottime changes"
 KINDS = {
     "record": "version",
     "clock": f"write {LABEL} event",
+    "base": f"base entry {LABEL} event",
     "timer": f"timer entry {LABEL} event",
     "look": f"timer entry {LABEL} event",
     "object": f"timer entry {LABEL} event",
@@ -25,6 +26,7 @@ KINDS = {
 }
 EVENTS = {
     "clock": {"advance": WRITE, "set": WRITE, "suspend": WRITE},
+    "base": {"offline": "heir", "online": ""},
     "timer": {
         "out": "base was_armed",
         "start": "mode ns stamp asked_base base clock expires was_armed",
@@ -54,8 +56,8 @@ ANSWERS = {
     "idle": ["entries"],
     "peek": ["entries base enqueued running_now moving"],
     "done": ["count stamp timers"],
-    "more": ["count stamp timers"],
-    "busy": ["count stamp running_timer generation timers"],
+    "more": ["count stamp timers", "moved"],
+    "busy": ["count stamp running_timer generation timers", "moved running_timer generation"],
     "clock": ["write"],
     "range": ["time"],
     "clockspent": [""],
@@ -64,13 +66,18 @@ ANSWERS = {
     "einval": [""],
     "unarmed": ["entries"],
     "left": ["left interval stamp entries", "left interval"],
-    "spent": ["entries"],
+    "spent": ["entries", "moved full_timer entries"],
     "accepted": ["overrun"],
     "nosignal": [""],
     "overrun": ["overrun entries"],
     "count": ["expirations"],
     "again": [""],
     "readable": ["ready stamp entries"],
+    "off": ["moved entries"],
+    "on": ["entries"],
+    "already": ["entries"],
+    "heiroff": ["entries"],
+    "basespent": ["entries"],
 }
 
 

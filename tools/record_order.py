@@ -1,4 +1,4 @@
-"""One order of all that a record tells, for a picture: an order in which each lane's calls, each timer's, object's and the clock's entries come as the
+"""One order of all that a record tells, for a picture: an order in which each lane's calls, each base's, timer's, object's and the clock's entries come as the
 record has them, and each reading behind the write that it shows. A record may have many such orders; which one a run had, it doesn't tell."""
 import heapq
 from collections import defaultdict
@@ -25,7 +25,7 @@ class Call(NamedTuple):
 def by_label(lines):
     made = defaultdict(list)
     for fields in lines:
-        if fields["kind"] in ("clock", "timer", "look", "object", "skip"):
+        if fields["kind"] in ("clock", "base", "timer", "look", "object", "skip"):
             made[fields["lane"], fields["call"]].append(fields)
     return made
 
@@ -57,7 +57,8 @@ def in_turn(made, answer):
     for histories in (timers, objects):
         for history in histories.values():
             steps += history
-    return steps
+    # A base goes off line when its timers have been moved.
+    return steps + [fields for fields in made if fields["kind"] == "base"]
 
 
 def calls_of(lines, script=None):
@@ -106,6 +107,8 @@ class Order:
         kind = fields["kind"]
         if kind in ("timer", "object"):
             return kind, fields["timer"], fields["entry"]
+        if kind == "base":
+            return kind, fields["base"], fields["entry"]
         return ("clock", fields["write"]) if kind == "clock" else (kind, id(fields))
 
     def tie_histories(self):
@@ -115,6 +118,8 @@ class Order:
             history = {"look": "timer", "skip": "object"}.get(kind, kind)
             if history == "clock":
                 self.tie(("clock", fields["write"] - 1), at)
+            elif history == "base":
+                self.tie(("base", fields["base"], fields["entry"] - 1), at)
             elif history in ("timer", "object"):
                 number = fields["entry"]
                 self.tie((history, fields["timer"], number if kind in ("look", "skip") else number - 1), at)

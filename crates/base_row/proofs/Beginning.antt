@@ -1,6 +1,6 @@
 -- The rule holds of a new row: every base is free, and nothing has happened.
 use Rattle.base_row.specs.Places.{lock_at, word_at}
-use Rattle.std.proofs.Common.{◌≡◌, ℕ, zero, suc, ◌<◌, List, [], ◌∷◌, length, map, replicate, refl, ap, sym, ◌∙◌, subst, arith}
+use Rattle.std.proofs.Common.{◌≡◌, ℕ, zero, suc, ◌+◌, ◌<◌, List, [], ◌∷◌, length, map, replicate, refl, ap, sym, ◌∙◌, subst, arith}
 use Rattle.std.specs.Prelude.{slice_index, Option, Some, None}
 use Rattle.std.proofs.lemmas.Bool.Decides.{nat_tests}
 use Rattle.std.proofs.lemmas.List.{length-replicate, length-map}
@@ -16,7 +16,8 @@ use Rattle.seq_timer.specs.Tables.{timer_at}
 use Rattle.base_row.specs.declared.view.HeldContent.{HeldContent}
 use Rattle.base_row.specs.declared.view.BaseView.{BaseView}
 use Rattle.seq_timer.specs.Systems.{BaseContent, no_base}
-use Rattle.base_row.specs.Rules.{runs, number_of, PassHolds, RowHolds, HasOneHistory}
+use Rattle.seq_timer.specs.Standings.{first_standing}
+use Rattle.base_row.specs.Rules.{runs, number_of, standing_number, PassHolds, RowHolds, HasOneHistory}
 use Rattle.seq_timer.specs.Systems.{IsFresh}
 use Rattle.base_row.specs.Plays.{first_base_view, KnowsBases}
 use Rattle.base_row.specs.Calls.{AreFresh}
@@ -39,12 +40,16 @@ fresh_word : (t : Timer) → IsFresh t → number_of t ≡ 0
 unfolding number_of
 fresh_word t f = rw (f.stamp, f.first, f.armed, f.running, f.still) refl
 
+fresh_standing : standing_number first_standing ≡ 0
+unfolding standing_number
+fresh_standing = refl
+
 module _ (bases : ℕ) (opened : List Timer) (fresh : AreFresh opened) where
   abbrev first : BaseView BaseContent
   first = first_base_view (record { bases = bases; timers = opened })
 
   abbrev start : State (Option BaseContent) (BaseView BaseContent)
-  start = opening (replicate (word_at bases (length opened)) 0) (replicate bases (Some (no_base opened))) first
+  start = opening (replicate (word_at bases (length opened + bases)) 0) (replicate bases (Some (no_base opened))) first
 
   fits_first : PassHolds bases opened number_of [] start.words first
   fits_first = record {
@@ -56,6 +61,7 @@ module _ (bases : ℕ) (opened : List Timer) (fresh : AreFresh opened) where
     full = λ live. length-replicate {A = ℕ} bases 0;
     met = λ b h. omega (arith, met_zero bases b);
     takes = λ b k some_one. absurd (omega arith);
+    first = λ live name b. refl;
     gone = λ off. (refl, (refl, (refl, refl)));
   }
     where
@@ -68,17 +74,19 @@ module _ (bases : ℕ) (opened : List Timer) (fresh : AreFresh opened) where
   begins_home : RowHolds bases opened number_of [] start
   begins_home = record {
     allowed = tt;
-    words_len = length-replicate {A = ℕ} (word_at bases (length opened)) 0;
+    words_len = length-replicate {A = ℕ} (word_at bases (length opened + bases)) 0;
     homes_len = length-map (replicate bases (Some (no_base opened))) some ∙ length-replicate bases (Some (no_base opened));
     each_base = λ b h. record {
       taken = 0;
-      number = omega (arith, met_zero (word_at bases (length opened)) (lock_at b));
+      number = omega (arith, met_zero (word_at bases (length opened + bases)) (lock_at b));
       once = omega arith;
       free = λ z. slot_at bases b (Some (no_base opened)) h;
       out = λ z. absurd (omega arith);
       each = λ k. sym (none_within k);
     };
-    each_timer = λ t h. met_zero (word_at bases (length opened)) (word_at bases t) ∙ sym (fresh_word (timer_at opened t) (fresh.each t));
+    each_timer = λ t h. met_zero (word_at bases (length opened + bases)) (word_at bases t) ∙ sym (fresh_word (timer_at opened t) (fresh.each t));
+    each_standing = λ b h. met_zero (word_at bases (length opened + bases)) (word_at bases (length opened + b)) ∙ sym fresh_standing;
+    shifts = λ b k h. sym (none_within k);
     each_view = λ j v e. here j v e;
     tree = first_tree;
     tally = λ t k h. sym (ap (λ n. one_if (within k n)) (fresh.each t).stamp ∙ none_within k);
@@ -93,11 +101,11 @@ module _ (bases : ℕ) (opened : List Timer) (fresh : AreFresh opened) where
       idle : (t g b : ℕ) → one_if (runs g b (timer_at opened t)) ≡ 0
       idle t g b = grind (arith, (fresh.each t).running)
 
-  pub begins : (words : List ℕ) (slots : List (Option BaseContent)) → words ≡ replicate (word_at bases (length opened)) 0
+  pub begins : (words : List ℕ) (slots : List (Option BaseContent)) → words ≡ replicate (word_at bases (length opened + bases)) 0
       → slots ≡ replicate bases (Some (no_base opened)) → HasOneHistory bases opened number_of (opening words slots first)
   begins words slots is_words is_slots =
       subst (λ ws. HasOneHistory bases opened number_of (opening ws slots first)) (sym is_words)
-      (subst (λ ss. HasOneHistory bases opened number_of (opening (replicate (word_at bases (length opened)) 0) ss first)) (sym is_slots) ([], begins_home))
+      (subst (λ ss. HasOneHistory bases opened number_of (opening (replicate (word_at bases (length opened + bases)) 0) ss first)) (sym is_slots) ([], begins_home))
 
   pub knows_first : KnowsBases bases opened number_of first
   knows_first = knows_of bases opened number_of [] start begins_home 0 first refl refl refl

@@ -9,7 +9,8 @@ use Rattle.pass_names.specs.SharedHistory.{ExtendsBy, Known, LooksOn, MeetWith, 
 use Rattle.pass_names.proofs.Passes.{begins_trans, begins_more}
 use Rattle.seq_timer.specs.Events.{Asked}
 use Rattle.seq_timer.specs.Events.{Event}
-use Rattle.seq_timer.specs.declared.system.TimerEntry.{TimerEntry}
+use Rattle.seq_timer.specs.declared.system.SystemEntry.{SystemEntry}
+use Rattle.seq_timer.specs.declared.system.SystemEntry.TheVariants as entries
 use Rattle.seq_timer.specs.declared.event.EventBy.TheVariants.{Start}
 use Rattle.seq_timer.specs.Steps.{Timer, after}
 use Rattle.seq_timer.specs.Tables.{timer_at}
@@ -21,10 +22,11 @@ use Rattle.base_row.specs.declared.view.Claimed.{Claimed}
 use Rattle.base_row.specs.declared.view.HeldContent.{HeldContent}
 use Rattle.base_row.specs.declared.view.Opening.{Opening}
 use Rattle.base_row.specs.declared.view.BaseView.{BaseView}
-use Rattle.base_row.specs.Rules.{takes_at}
+use Rattle.base_row.specs.Rules.{now, number_of, takes_at}
 use Rattle.base_row.specs.Plays.{SeatState, GotBase, KnowsOwn, Lost, carried_slots}
 use Rattle.base_row.specs.Calls.{Absorbs, Appended, AreFresh, LearnsFrom, LetsGo, GetsBase, MayAppend}
 use Rattle.base_row.specs.Calls.{MissesBase, SeesFurther, Waits, entry_in, known_of, own_entry, timer_seen}
+use Rattle.base_row.proofs.Stable.{steady_trans}
 
 -- ---- takes
 
@@ -82,7 +84,7 @@ locks_after b u v w h waits locks = record {
   newer = omega (arith, waits.newer, locks.newer);
   apart = λ c n. locks.apart c n ∙ waits.apart c n;
   seen = begins_trans waits.seen locks.seen;
-  steady = λ t e. locks.steady t (ap (λ (x : BaseView BaseContent). x.carry) waits.rest ∙ e) ∙ waits.steady t e;
+  steady = steady_trans waits.steady locks.steady (ap (λ (x : BaseView BaseContent). x.carry) waits.rest) (ap (λ (x : BaseView BaseContent). x.id) waits.rest);
 }
 
 pub waits_after : (b : ℕ) (u v w : BaseView BaseContent) → Waits b u v → Waits b v w → Waits b u w
@@ -91,7 +93,7 @@ waits_after b u v w first second = record {
   newer = omega (arith, first.newer, second.newer);
   apart = λ c n. second.apart c n ∙ first.apart c n;
   seen = begins_trans first.seen second.seen;
-  steady = λ t e. second.steady t (ap (λ (x : BaseView BaseContent). x.carry) first.rest ∙ e) ∙ first.steady t e;
+  steady = steady_trans first.steady second.steady (ap (λ (x : BaseView BaseContent). x.carry) first.rest) (ap (λ (x : BaseView BaseContent). x.id) first.rest);
 }
 
 -- the last pass misses no base that may still be taken
@@ -122,9 +124,9 @@ looks_as : (v x w : BaseView BaseContent) → w ≡ x → known_of v ≡ known_o
 looks_as v x w is same seen =
     let all = ap (λ (y : BaseView BaseContent). known_of (record y { seen = v.seen })) is ∙ sym same in record {
       seen = seen;
-      mine = ap (λ (k : Known TimerEntry Claimed). k.mine) all;
-      id = ap (λ (k : Known TimerEntry Claimed). k.id) all;
-      claims = ap (λ (k : Known TimerEntry Claimed). k.claims) all;
+      mine = ap (λ (k : Known SystemEntry Claimed). k.mine) all;
+      id = ap (λ (k : Known SystemEntry Claimed). k.id) all;
+      claims = ap (λ (k : Known SystemEntry Claimed). k.claims) all;
     }
 
 pub looks_locks : (b : ℕ) (v w : BaseView BaseContent) (h : HeldContent BaseContent) → GetsBase b v w h → LooksOn (known_of v) (known_of w)
@@ -183,12 +185,12 @@ module _ (o : Opening) (fresh : AreFresh o.timers) (h : HeldContent BaseContent)
   pub extends_appended : ExtendsBy entries_of (known_of v) (known_of w) t (own_entry o v t event ∷ [])
   extends_appended =
       let e = entry_in o v t event in
-      let seen : w.seen ≡ told.before ++ e ∷ [] = ap (λ (x : BaseView BaseContent). x.seen) told.rest in
-      let one : entries_of t (e ∷ []) ≡ own_entry o v t event ∷ [] = ap (λ b. if b then own_entry o v t event ∷ [] else []) (eq-eqb t t refl) in
+      let seen : w.seen ≡ told.before ++ entries.Timer e ∷ [] = ap (λ (x : BaseView BaseContent). x.seen) told.rest in
+      let one : entries_of t (entries.Timer e ∷ []) ≡ own_entry o v t event ∷ [] = ap (λ b. if b then own_entry o v t event ∷ [] else []) (eq-eqb t t refl) in
       record {
-        seen = subst (λ l. Begins v.seen l) (sym seen) (begins_trans told.seen (begins_more told.before (e ∷ [])));
-        own = ap (entries_of t) seen ∙ (entries_of-append t told.before (e ∷ [])
-            ∙ (ap (λ l. l ++ entries_of t (e ∷ [])) told.own ∙ ap (λ l. entries_of t v.seen ++ l) one));
+        seen = subst (λ l. Begins v.seen l) (sym seen) (begins_trans told.seen (begins_more told.before (entries.Timer e ∷ [])));
+        own = ap (entries_of t) seen ∙ (entries_of-append t told.before (entries.Timer e ∷ [])
+            ∙ (ap (λ l. l ++ entries_of t (entries.Timer e ∷ [])) told.own ∙ ap (λ l. entries_of t v.seen ++ l) one));
         mine = ap (λ (x : BaseView BaseContent). x.mine) told.rest ∙ ap (λ n. v.mine ++ (t, n + 1) ∷ []) (stamp_seen o fresh v t);
         id = ap (λ (x : BaseView BaseContent). x.id) told.rest;
       }
@@ -208,14 +210,24 @@ seen_same o v w t own = after_entries-entries_of (first_system o.timers) t w.see
     ∙ (ap (seq.after_all (timer_at o.timers t)) own ∙ sym (after_entries-entries_of (first_system o.timers) t v.seen))
 
 -- a timer on the move may be started by who carries it, on the base that it was sent to
-pub may_start : (o : Opening) (v : BaseView BaseContent) (h : HeldContent BaseContent) (t : ℕ) (asked : Asked) → t < length o.timers
+pub may_start : (o : Opening) (v : BaseView BaseContent) (h : HeldContent BaseContent) (t : ℕ) (asked : Asked)
+    → h.content.standing.heir ≡ None → h.content ≡ (now o.bases o.timers number_of v.seen).bases h.base → t < length o.timers
     → v.held ≡ Some h → v.carry ≡ Some t → (timer_seen o v t).moving ≡ true
     → asked.base ≡ (timer_seen o v t).base → (timer_seen o v t).base ≡ h.base
     → MayAppend o v h t (Start asked)
-may_start o v h t asked inside held carry moves here there = record {
+may_start o v h t asked online whole inside held carry moves here there = record {
   may = record {
     held = held;
-    allowed = record { within = inside; needs = (inr here, inr moves); reply = refl; base = tt };
+    allowed = record {
+      within = inside;
+      needs = (inr here, inr moves);
+      reply = refl;
+      base = record {
+        needs = tt;
+        online = subst (λ q. ((now o.bases o.timers number_of v.seen).bases q).standing.heir ≡ None) (sym there)
+            (subst (λ (x : BaseContent). x.standing.heir ≡ None) whole online);
+      };
+    };
     base = there;
     carries = λ m. carry;
   };

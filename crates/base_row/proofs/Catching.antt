@@ -3,6 +3,7 @@ use Rattle.std.proofs.Common.{◌≡◌, ℕ, ◌+◌, ◌%◌, ◌/◌, ◌^◌
 use Rattle.std.specs.Prelude.{slice_index, Option, Some, None, MatchOption}
 use Rattle.std.proofs.lemmas.List.{get_or-set_other}
 use Rattle.pass_names.proofs.Passes.{begins_trans}
+use Rattle.base_row.proofs.Stable.{steady_trans}
 use Rattle.base_row.specs.declared.view.HeldContent.{HeldContent}
 use Rattle.base_row.specs.declared.view.Opening.{Opening}
 use Rattle.seq_timer.specs.Systems.{BaseContent}
@@ -42,7 +43,7 @@ module _ (o : Opening) (b : ℕ) (me mid : SeatState) (found : ℕ) (met : Met o
     newer = omega (arith, met.newer, met.is, lost.newer);
     apart = λ c n. lost.apart c n ∙ else_met c n;
     seen = begins_trans met.seen lost.seen;
-    steady = λ t e. lost.steady t (ap (λ (m : SeatState). m.0.carry) met.rest ∙ e) ∙ met.steady t e;
+    steady = steady_trans met.steady lost.steady (ap (λ (m : SeatState). m.0.carry) met.rest) (ap (λ (m : SeatState). m.0.id) met.rest);
     knows = lost.knows;
   }
 
@@ -66,7 +67,7 @@ module _ (o : Opening) (b : ℕ) (me mid : SeatState) (found : ℕ) (met : Met o
     newer = omega (arith, met.newer, met.is, caught.newer);
     apart = λ c n. caught.apart c n ∙ else_met c n;
     seen = begins_trans met.seen caught.seen;
-    steady = λ t e. caught.steady t (ap (λ (m : SeatState). m.0.carry) met.rest ∙ e) ∙ met.steady t e;
+    steady = steady_trans met.steady caught.steady (ap (λ (m : SeatState). m.0.carry) met.rest) (ap (λ (m : SeatState). m.0.id) met.rest);
     knows = caught.knows;
   }
 

@@ -12,6 +12,7 @@ use Rattle.pass_names.specs.Passes.{within}
 use Rattle.pass_names.proofs.Counts.{set_there}
 use Rattle.pass_names.proofs.Passes.{begins_refl, begins_nil, count_place, within_more}
 use Rattle.seq_timer.specs.Steps.{Timer, Needs, after, reply_to}
+use Rattle.seq_timer.specs.declared.system.SystemEntry.{SystemEntry}
 use Rattle.seq_timer.specs.declared.system.TimerEntry.{TimerEntry}
 use Rattle.base_row.specs.declared.view.Claimed.{Claimed}
 use Rattle.base_row.specs.declared.view.HeldContent.{HeldContent}
@@ -20,7 +21,8 @@ use Rattle.base_row.specs.declared.view.BaseView.{BaseView}
 use Rattle.seq_timer.specs.Events.{Event}
 use Rattle.base_row.proofs.Events.{go_along}
 use Rattle.seq_timer.specs.Systems.{BaseContent, System, first_system, after_entry, changed, IsSystemStep, FitsBase}
-use Rattle.base_row.specs.Rules.{held_in, places_at, base_claims_at, holds_at, carries_at, runs, now, HeldHolds, PassHolds, RowHolds, HasOneHistory, number_of}
+use Rattle.seq_timer.specs.declared.system.SystemEntry.TheVariants as entries
+use Rattle.base_row.specs.Rules.{base_place, held_in, places_at, base_claims_at, holds_at, carries_at, runs, now, HeldHolds, PassHolds, RowHolds, HasOneHistory, number_of}
 use Rattle.base_row.specs.Plays.{SeatState, having_entered, GoAlong, MayEnter, EnteredTimer, OwnNeeds}
 use Rattle.base_row.specs.Plays.{EntersAs, EntersBy, entry_of_event, seen_timer, claims_with_event, carry_after}
 use Rattle.seq_timer.proofs.Systems.{after_entries-append, base_here, timer_here, timer_else}
@@ -42,13 +44,13 @@ module _ (bases : ℕ) (opened : List Timer) (code : Timer → ℕ) (id : ℕ) (
   abbrev t : Timer
   t = seen.timers e.timer
 
-  module _ (log : List TimerEntry) (s : State (Option BaseContent) (BaseView BaseContent)) (home : RowHolds bases opened code log s)
+  module _ (log : List SystemEntry) (s : State (Option BaseContent) (BaseView BaseContent)) (home : RowHolds bases opened code log s)
       (at : get_elem? s.views id ≡ some v) (along : GoAlong t e v claims carry) where
     abbrev w : System
     w = now bases opened code log
 
     abbrev w' : System
-    w' = now bases opened code (log ++ e ∷ [])
+    w' = now bases opened code (log ++ entries.Timer e ∷ [])
 
     abbrev v' : BaseView BaseContent
     v' = having_entered log e t h claims carry v
@@ -81,7 +83,7 @@ module _ (bases : ℕ) (opened : List Timer) (code : Timer → ℕ) (id : ℕ) (
     }
 
     followed : w' ≡ after_entry w e
-    followed = after_entries-append (first_system opened) log (e ∷ [])
+    followed = after_entries-append (first_system opened) log (entries.Timer e ∷ [])
 
     new_timer : w'.timers e.timer ≡ after t e.event
     new_timer = ap (λ (x : System). x.timers e.timer) followed ∙ (timer_here w e ∙ ap (λ x. after x e.event) same_timer)
@@ -106,18 +108,19 @@ module _ (bases : ℕ) (opened : List Timer) (code : Timer → ℕ) (id : ℕ) (
     holds_same : (b : ℕ) → holds_at b v' ≡ holds_at b v
     holds_same b = ap (held_in b) (sym may.held)
 
-    fits' : PassHolds bases opened code (log ++ e ∷ []) new_words v'
+    fits' : PassHolds bases opened code (log ++ entries.Timer e ∷ []) new_words v'
     fits' = record {
-      seen = begins_refl (log ++ e ∷ []);
-      heard = begins_nil (log ++ e ∷ []);
+      seen = begins_refl (log ++ entries.Timer e ∷ []);
+      heard = begins_nil (log ++ entries.Timer e ∷ []);
       held = λ g q. let r : record { base = h.base; word = h.word; content = changed e.timer t e.event h.content } ≡ g = cc in subst
-          (λ x. HeldHolds bases opened code (log ++ e ∷ []) new_words v' x) r
+          (λ x. HeldHolds bases opened code (log ++ entries.Timer e ∷ []) new_words v' x) r
           (record { within = holds.within; seen = new_base; whole = new_base; word = lock_same h.base holds.within ∙ holds.word; number = holds.number });
       carry = λ k q. refl;
       wide = fits.wide;
       full = fits.full;
       met = λ b inside. omega (arith, fits.met b inside, lock_same b inside);
       takes = λ b k some_one. omega (arith, fits.takes b k some_one, holds_same b);
+      first = λ alive name b. refl;
       gone = λ off. absurd (true≢false (sym live ∙ off));
     }
 
@@ -145,6 +148,13 @@ module _ (bases : ℕ) (opened : List Timer) (code : Timer → ℕ) (id : ℕ) (
         ))
         (cases_eq k e.timer)
 
+    places_else : (c i : ℕ) → places_at (base_place n c) i v' ≡ places_at (base_place n c) i v
+    places_else c i = omega (
+      arith,
+      count_place e.timer (base_place n c) i (t.stamp + 1) v.mine,
+      ap (λ x. one_if (x && eqb (t.stamp + 1) i)) (ne_eqb e.timer (base_place n c) (λ q. omega (arith, q, may.allowed.within))),
+    )
+
     claimed : (k g b : ℕ) → base_claims_at k g b v' + one_if (runs g b (w.timers k)) ≡ base_claims_at k g b v + one_if (runs g b (w'.timers k))
     claimed k g b =
         ⊎_elim
@@ -162,14 +172,14 @@ module _ (bases : ℕ) (opened : List Timer) (code : Timer → ℕ) (id : ℕ) (
         (λ apart. omega (arith, along.carry_else k apart, ap (λ (x : Timer). one_if x.moving) (timers_else k apart)))
         (cases_eq k e.timer)
 
-    pub enters_home : RowHolds bases opened code (log ++ e ∷ []) record {
+    pub enters_home : RowHolds bases opened code (log ++ entries.Timer e ∷ []) record {
       words = slice_set s.words (word_at bases e.timer)
           (code (after t e.event));
       homes = s.homes;
       views = slice_set s.views id v';
     }
     enters_home =
-        subst (λ x. RowHolds bases opened code (log ++ e ∷ []) record {
+        subst (λ x. RowHolds bases opened code (log ++ entries.Timer e ∷ []) record {
           words = slice_set s.words (word_at bases e.timer)
               (code x);
           homes = s.homes;
@@ -179,7 +189,7 @@ module _ (bases : ℕ) (opened : List Timer) (code : Timer → ℕ) (id : ℕ) (
         (ap (λ q. holds_at q v) here ∙ holds_one v h may.held)
         (λ moves. carries_one v e.timer (may.carries (ap (λ (x : Timer). x.moving) (sym same_timer) ∙ moves)))
         fits' (record { holds = holds_same; takes = λ b k. refl }) refl
-        (λ k i inside. places k i) (λ k g b inside. claimed k g b) (λ k inside. carried k))
+        (λ k i inside. places k i) (λ c i. places_else c i) (λ k g b inside. claimed k g b) (λ k inside. carried k))
 
   -- the store of the timer's new word adds the entry
   pub enters : (slots : ℕ) (slot : List (ℕ × Option BaseContent)) → GoAlong t e v claims carry
@@ -191,13 +201,14 @@ module _ (bases : ℕ) (opened : List Timer) (code : Timer → ℕ) (id : ℕ) (
         v',
         keeps,
         tt,
-        (log ++ e ∷ [], next),
+        (log ++ entries.Timer e ∷ [], next),
         record {
           before = log;
           seen = (home.each_view id v at).seen;
+          shifts = λ name b. sym ((home.each_view id v at).first live name b);
           own = same_own (first_system opened) e.timer v.seen log (home.each_view id v at).seen (same_timer log s home at along);
           rest = refl;
-          knows = knows_of bases opened code (log ++ e ∷ []) record {
+          knows = knows_of bases opened code (log ++ entries.Timer e ∷ []) record {
             words = slice_set s.words (word_at bases e.timer)
                 (code (after t e.event));
             homes = s.homes;

@@ -15,7 +15,7 @@ use Rattle.base_row.specs.declared.view.Claimed.{Claimed}
 use Rattle.base_row.specs.declared.view.BaseView.{BaseView}
 use Rattle.seq_timer.specs.Systems.{BaseContent}
 use Rattle.base_row.specs.Rules.{base_claims_at, carried_in, is_base_claim, is_generation, runs}
-use Rattle.base_row.specs.Plays.{GoAlong, OwnNeeds, OwnNeedsBy, carried_by, carry_after, claims_by, claims_with_event}
+use Rattle.base_row.specs.Plays.{CarriesAlone, GoAlong, OwnNeeds, OwnNeedsBy, carried_by, carry_after, claims_by, claims_with_event}
 
 none_runs : (g b : ℕ) (t : Timer) → t.running ≡ None → one_if (runs g b t) ≡ 0
 none_runs g b t none = ap (λ r. one_if (is_generation g r && eqb t.base b)) none
@@ -49,7 +49,7 @@ own_claims v id t false sent own is = absurd (false≢true is)
 own_claims v id t true None own is = own
 own_claims v id t true (Some base) own is = own.0
 
-own_carry : (v : BaseView BaseContent) (id base : ℕ) (t : Timer) (by_claimer : Bool) → OwnNeedsBy by_claimer (Some base) v id t → v.carry ≡ None
+own_carry : (v : BaseView BaseContent) (id base : ℕ) (t : Timer) (by_claimer : Bool) → OwnNeedsBy by_claimer (Some base) v id t → CarriesAlone v id t
 own_carry v id base t false own = own
 own_carry v id base t true own = own.1
 
@@ -68,22 +68,33 @@ carry_none_else id k was true carry n has = refl
 carry_none_else id k true false carry n has = omega (arith, ap (carried_in k) (has refl), ap one_if (ne_eqb id k (λ e. n (sym e))))
 carry_none_else id k false false carry n has = refl
 
+carry_alone : (id : ℕ) (moving : Bool) (carry : Option ℕ) → carry ≡ (if moving then Some id else None) → carried_in id carry ≡ one_if moving
+carry_alone id true carry is = omega (arith, ap (carried_in id) is, ap one_if (eq-eqb id id refl))
+carry_alone id false carry is = omega (arith, ap (carried_in id) is)
+
+carry_alone_else : (id k : ℕ) (moving : Bool) (carry : Option ℕ) → k ≢ id → carry ≡ (if moving then Some id else None) → carried_in k carry ≡ 0
+carry_alone_else id k true carry n is = omega (arith, ap (carried_in k) is, ap one_if (ne_eqb id k (λ e. n (sym e))))
+carry_alone_else id k false carry n is = omega (arith, ap (carried_in k) is)
+
 module _ (v : BaseView BaseContent) (id : ℕ) (t now : Timer) (by_claimer : Bool) (moves : t.moving ≡ true → v.carry ≡ Some id) where
   carry_here : (sent : Option ℕ) → IsSent sent t now → SentNeeds sent t now → OwnNeedsBy by_claimer sent v id t
       → carried_in id (carried_by sent id t now v.carry) + one_if t.moving ≡ carried_in id v.carry + one_if now.moving
   carry_here None is needs own = carry_none id t.moving now.moving v.carry is.1 moves
   carry_here (Some base) is needs own = omega (
     arith,
-    ap (carried_in id) (own_carry v id base t by_claimer own),
+    carry_alone id t.moving v.carry (own_carry v id base t by_claimer own),
     ap one_if (eq-eqb id id refl),
-    ap one_if needs.1,
     ap one_if is.1,
   )
 
   carry_else : (sent : Option ℕ) → OwnNeedsBy by_claimer sent v id t → (k : ℕ) → k ≢ id
       → carried_in k (carried_by sent id t now v.carry) ≡ carried_in k v.carry
   carry_else None own k n = carry_none_else id k t.moving now.moving v.carry n moves
-  carry_else (Some base) own k n = omega (arith, ap (carried_in k) (own_carry v id base t by_claimer own), ap one_if (ne_eqb id k (λ e. n (sym e))))
+  carry_else (Some base) own k n = omega (
+    arith,
+    carry_alone_else id k t.moving v.carry n (own_carry v id base t by_claimer own),
+    ap one_if (ne_eqb id k (λ e. n (sym e))),
+  )
 
 -- ---- claims
 
@@ -91,7 +102,7 @@ module _ (v : BaseView BaseContent) (id : ℕ) (t now : Timer) (by_claimer : Boo
 runs_same : (g b : ℕ) (t now : Timer) (sent : Option ℕ) → IsSent sent t now → SentNeeds sent t now → now.running ≡ t.running
     → one_if (runs g b now) ≡ one_if (runs g b t)
 runs_same g b t now None is needs same = λ i. one_if (is_generation g (same i) && eqb (is.0 i) b)
-runs_same g b t now (Some base) is needs same = none_runs g b now needs.3 ∙ sym (none_runs g b t needs.0)
+runs_same g b t now (Some base) is needs same = none_runs g b now needs.2 ∙ sym (none_runs g b t needs.0)
 
 module _ (v : BaseView BaseContent) (id : ℕ) (t now : Timer) (by_claimer : Bool)
     (claimed : by_claimer ≡ true → 0 < base_claims_at id (unwrap_or t.running 0) t.base v) where

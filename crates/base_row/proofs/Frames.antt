@@ -3,7 +3,7 @@ use Rattle.base_row.specs.Places.{lock_at, word_at}
 use Rattle.std.proofs.Common.{◌≡◌, ℕ, ◌+◌, ◌<◌, ◌≤◌, ◌≢◌, true, List, [], ◌∷◌, ◌++◌, length, map, set, refl, ap, sym, ◌∙◌, subst, ⊎_elim, arith}
 use Rattle.std.specs.Prelude.{slice_index, slice_set, Option, Some}
 use Rattle.std.proofs.lemmas.Bool.{cases_eq, cases_Bool, eq-eqb}
-use Rattle.std.proofs.lemmas.List.{length-set, get_or-set_same, get_or-set_other, map-append, map-set}
+use Rattle.std.proofs.lemmas.List.{append-nil, length-set, get_or-set_same, get_or-set_other, map-append, map-set}
 use mathlib.Core.Option.{some}
 use lib.ListN.{get_elem?}
 use Rattle.atomic_table.specs.Table.{State}
@@ -14,13 +14,16 @@ use Rattle.pass_names.specs.Passes.{Begins, within}
 use Rattle.pass_names.proofs.Counts.{total-append, total_set, total_at, total_two, map_kept}
 use Rattle.pass_names.proofs.Passes.{begins_refl, begins_trans, begins_more}
 use Rattle.seq_timer.specs.Steps.{Timer}
+use Rattle.seq_timer.specs.declared.system.SystemEntry.{SystemEntry}
 use Rattle.seq_timer.specs.declared.system.TimerEntry.{TimerEntry}
 use Rattle.base_row.specs.declared.view.HeldContent.{HeldContent}
 use Rattle.base_row.specs.declared.view.BaseView.{BaseView}
-use Rattle.seq_timer.specs.Systems.{BaseContent, System, first_system, after_entry, IsSystemStep}
-use Rattle.base_row.specs.Rules.{base_pass_id, held_in, carried_in, places_at, base_claims_at, holds_at}
+use Rattle.seq_timer.specs.declared.standing.Standing.{Standing}
+use Rattle.seq_timer.specs.declared.system.SystemEntry.TheVariants as entries
+use Rattle.seq_timer.specs.Systems.{BaseContent, System, first_system, after_entry, shifts_of, IsSystemStep}
+use Rattle.base_row.specs.Rules.{base_pass_id, base_place, standing_number, held_in, carried_in, places_at, base_claims_at, holds_at}
 use Rattle.base_row.specs.Rules.{carries_at, takes_at, runs, LockState, now, PassHolds, RowHolds}
-use Rattle.seq_timer.proofs.Systems.{after_entries-append, steps_push, base_else, timer_else}
+use Rattle.seq_timer.proofs.Systems.{after_entries-append, steps_push, base_else, shifts_of-append, standing_same, timer_else}
 
 -- the same locks are held and were taken
 pub record SameLocks (v v' : BaseView BaseContent) : Type 0 where
@@ -88,13 +91,14 @@ carries_one v t e = ap (carried_in t) e ∙ ap one_if (eq-eqb t t refl)
 
 module _ (bases : ℕ) (opened : List Timer) (code : Timer → ℕ) where
   -- what a seat knows stays true where the history goes on, but for what it holds and carries, and no lock word falls
-  pub fits_on : (log log' : List TimerEntry) (words words' : List ℕ) (v : BaseView BaseContent) → PassHolds bases opened code log words v → Begins log log'
+  pub fits_on : (log log' : List SystemEntry) (words words' : List ℕ) (v : BaseView BaseContent) → PassHolds bases opened code log words v → Begins log log'
       → ((b : ℕ) → b < bases → slice_index words (lock_at b) ≤ slice_index words' (lock_at b))
       → ((h : HeldContent BaseContent) → v.held ≡ Some h → ((now bases opened code log').bases h.base ≡
       (now bases opened code log).bases h.base) × (slice_index words' (lock_at h.base) ≡ slice_index words (lock_at h.base)))
       → ((t : ℕ) → v.carry ≡ Some t → (now bases opened code log').timers t ≡ (now bases opened code log).timers t)
+      → (v.id.live ≡ true → v.id.name ≡ [] → (b : ℕ) → shifts_of b log' ≡ shifts_of b log)
       → PassHolds bases opened code log' words' v
-  fits_on log log' words words' v fits more rise holds carries = record {
+  fits_on log log' words words' v fits more rise holds carries shifts = record {
     seen = begins_trans fits.seen more;
     heard = begins_trans fits.heard more;
     held = λ h e. let t = fits.held h e in let u = holds h e in record {
@@ -110,10 +114,11 @@ module _ (bases : ℕ) (opened : List Timer) (code : Timer → ℕ) where
     full = fits.full;
     met = λ b h. omega (arith, fits.met b h, rise b h);
     takes = fits.takes;
+    first = λ live name b. fits.first live name b ∙ sym (shifts live name b);
     gone = fits.gone;
   }
 
-  module _ (log : List TimerEntry) (s : State (Option BaseContent) (BaseView BaseContent)) (home : RowHolds bases opened code log s) where
+  module _ (log : List SystemEntry) (s : State (Option BaseContent) (BaseView BaseContent)) (home : RowHolds bases opened code log s) where
     -- The seats are other than before, and have together as much.
     pub reviewed : (views : List (BaseView BaseContent)) → SameTotals s.views views
         → ((j : ℕ) (u : BaseView BaseContent) → get_elem? views j ≡ some u → PassHolds bases opened code log s.words u)
@@ -124,9 +129,11 @@ module _ (bases : ℕ) (opened : List Timer) (code : Timer → ℕ) where
       homes_len = home.homes_len;
       each_base = λ b h. cell_on _ _ _ _ _ _ _ _ (home.each_base b h) (same.holds b) (λ k. same.takes b k) (λ z. refl);
       each_timer = home.each_timer;
+      each_standing = home.each_standing;
       each_view = each;
       tree = tree;
       tally = λ t k h. same.places t k ∙ home.tally t k h;
+      shifts = λ b k h. same.places (base_place (length opened) b) k ∙ home.shifts b k h;
       claims = λ t g b h. same.claims t g b ∙ home.claims t g b h;
       carriers = λ t h. same.carries t ∙ home.carriers t h;
     }
@@ -195,12 +202,15 @@ module _ (bases : ℕ) (opened : List Timer) (code : Timer → ℕ) where
             (λ k. sum_same (takes_at c k) s.views id v v' at (takes_else c k n)) (λ z. refl)))
             (cases_eq c b);
         each_timer = λ t h. word_else (word_at bases t) (λ e. omega arith) ∙ home.each_timer t h;
+        each_standing = λ c h. word_else (word_at bases (base_place (length opened) c)) (λ e. omega arith) ∙ home.each_standing c h;
         each_view = views_on (λ u. PassHolds bases opened code log (set s.words (lock_at b) word) u) s.views id v' fits
             (λ j u n e. fits_on log log s.words (set s.words (lock_at b) word) u (home.each_view j u e) (begins_refl log) risen
             (λ h held. (refl, word_else (lock_at h.base) (λ q. unheld j u h n e held (omega arith))))
-            (λ t carry. refl));
+            (λ t carry. refl) (λ live name b. refl));
         tree = subst (λ ls. IsPassTree ls) (sym (map_kept base_pass_id s.views id v v' at work.id)) home.tree;
         tally = λ t k h. sum_same (places_at t k) s.views id v v' at (work.places t k) ∙ home.tally t k h;
+        shifts = λ c k h. sum_same (places_at (base_place (length opened) c) k) s.views id v v' at (work.places (base_place (length opened) c) k)
+            ∙ home.shifts c k h;
         claims = λ t g c h. sum_same (base_claims_at t g c) s.views id v v' at (work.claims t g c) ∙ home.claims t g c h;
         carriers = λ t h. sum_same (carries_at t) s.views id v v' at (work.carries t) ∙ home.carriers t h;
       }
@@ -210,21 +220,22 @@ module _ (bases : ℕ) (opened : List Timer) (code : Timer → ℕ) where
         (ok : IsSystemStep bases (length opened) (now bases opened code log) e)
         (holder : holds_at ((now bases opened code log).timers e.timer).base v ≡ 1)
         (carrier : ((now bases opened code log).timers e.timer).moving ≡ true → carries_at e.timer v ≡ 1)
-        (fits : PassHolds bases opened code (log ++ e ∷ []) (set s.words (word_at bases e.timer)
-        (code ((now bases opened code (log ++ e ∷ [])).timers e.timer))) v')
+        (fits : PassHolds bases opened code (log ++ entries.Timer e ∷ []) (set s.words (word_at bases e.timer)
+        (code ((now bases opened code (log ++ entries.Timer e ∷ [])).timers e.timer))) v')
         (locks : SameLocks v v') (same_id : base_pass_id v' ≡ base_pass_id v)
         (places : (t k : ℕ) → t < length opened → places_at t k v' + one_if
         (within k ((now bases opened code log).timers t).stamp) ≡ places_at t k v + one_if
-        (within k ((now bases opened code (log ++ e ∷ [])).timers t).stamp))
+        (within k ((now bases opened code (log ++ entries.Timer e ∷ [])).timers t).stamp))
+        (places_else : (b k : ℕ) → places_at (base_place (length opened) b) k v' ≡ places_at (base_place (length opened) b) k v)
         (claims : (t g b : ℕ) → t < length opened → base_claims_at t g b v' + one_if
-        (runs g b ((now bases opened code log).timers t)) ≡ base_claims_at t g b v + one_if (runs g b ((now bases opened code (log ++ e ∷ [])).timers t)))
+        (runs g b ((now bases opened code log).timers t)) ≡ base_claims_at t g b v + one_if (runs g b ((now bases opened code (log ++ entries.Timer e ∷ [])).timers t)))
         (carries : (t : ℕ) → t < length opened → carries_at t v' + one_if
-        ((now bases opened code log).timers t).moving ≡ carries_at t v + one_if ((now bases opened code (log ++ e ∷ [])).timers t).moving) where
+        ((now bases opened code log).timers t).moving ≡ carries_at t v + one_if ((now bases opened code (log ++ entries.Timer e ∷ [])).timers t).moving) where
       abbrev w : System
       w = now bases opened code log
 
       abbrev w' : System
-      w' = now bases opened code (log ++ e ∷ [])
+      w' = now bases opened code (log ++ entries.Timer e ∷ [])
 
       abbrev b : ℕ
       b = (w.timers e.timer).base
@@ -236,7 +247,13 @@ module _ (bases : ℕ) (opened : List Timer) (code : Timer → ℕ) where
       new_words = set s.words i (code (w'.timers e.timer))
 
       stepped : w' ≡ after_entry w e
-      stepped = after_entries-append (first_system opened) log (e ∷ [])
+      stepped = after_entries-append (first_system opened) log (entries.Timer e ∷ [])
+
+      standings : (c : ℕ) → (w'.bases c).standing ≡ (w.bases c).standing
+      standings c = ap (λ (x : System). (x.bases c).standing) stepped ∙ standing_same w e c
+
+      no_shift : (c : ℕ) → shifts_of c (log ++ entries.Timer e ∷ []) ≡ shifts_of c log
+      no_shift c = shifts_of-append c log (entries.Timer e ∷ []) ∙ append-nil (shifts_of c log)
 
       bases_else : (c : ℕ) → c ≢ b → w'.bases c ≡ w.bases c
       bases_else c n = ap (λ (x : System). x.bases c) stepped ∙ base_else w e c n
@@ -276,14 +293,14 @@ module _ (bases : ℕ) (opened : List Timer) (code : Timer → ℕ) where
           (λ still. omega (arith, total_at (carries_at e.timer) s.views j u at_u, one, home.carriers e.timer ok.within, ap one_if still))
           (cases_Bool (w.timers e.timer).moving)
 
-      pub entered : RowHolds bases opened code (log ++ e ∷ []) record {
+      pub entered : RowHolds bases opened code (log ++ entries.Timer e ∷ []) record {
         words = slice_set s.words i
             (code (w'.timers e.timer));
         homes = s.homes;
         views = slice_set s.views id v';
       }
       entered = record {
-        allowed = steps_push bases (length opened) (first_system opened) log e home.allowed ok;
+        allowed = steps_push bases (length opened) (first_system opened) log (entries.Timer e) home.allowed ok;
         words_len = length-set s.words i (code (w'.timers e.timer)) ∙ home.words_len;
         homes_len = home.homes_len;
         each_base = λ c h. rw (word_same (lock_at c) (λ q. omega arith))
@@ -295,17 +312,21 @@ module _ (bases : ℕ) (opened : List Timer) (code : Timer → ℕ) where
             (get_or-set_same s.words i (code (w'.timers e.timer)) 0 (omega (arith, home.words_len, ok.within))))
             (λ n. word_same (word_at bases t) (λ q. n (omega arith)) ∙ (home.each_timer t h ∙ ap code (sym (timers_else t n))))
             (cases_eq t e.timer);
-        each_view = views_on (λ u. PassHolds bases opened code (log ++ e ∷ []) new_words u) s.views id v' fits
+        each_standing = λ c h. word_same (word_at bases (base_place (length opened) c)) (λ q. omega (arith, ok.within))
+            ∙ (home.each_standing c h ∙ ap standing_number (sym (standings c)));
+        each_view = views_on (λ u. PassHolds bases opened code (log ++ entries.Timer e ∷ []) new_words u) s.views id v' fits
             (λ j u n at_u. let old = home.each_view j u at_u in
-            fits_on log (log ++ e ∷ []) s.words new_words u old (begins_more log (e ∷ [])) (λ c h. omega (arith, word_same (lock_at c) (λ q. omega arith)))
+            fits_on log (log ++ entries.Timer e ∷ []) s.words new_words u old (begins_more log (entries.Timer e ∷ [])) (λ c h. omega (arith, word_same (lock_at c) (λ q. omega arith)))
             (λ h held. let inside = (old.held h held).within in (
               bases_else h.base (other_base j u h n at_u held inside),
               word_same
                   (lock_at h.base) (λ q. omega arith),
             ))
-            (λ t carry. timers_else t (other_timer j u t n at_u carry)));
+            (λ t carry. timers_else t (other_timer j u t n at_u carry)) (λ live name b. no_shift b));
         tree = subst (λ ls. IsPassTree ls) (sym (map_kept base_pass_id s.views id v v' at same_id)) home.tree;
         tally = λ t k h. omega (arith, total_set (places_at t k) s.views id v v' at, places t k h, home.tally t k h);
+        shifts = λ c k h. sum_same (places_at (base_place (length opened) c) k) s.views id v v' at (places_else c k)
+            ∙ (home.shifts c k h ∙ ap (λ (x : Standing). one_if (within k x.stamp)) (sym (standings c)));
         claims = λ t g c h. omega (arith, total_set (base_claims_at t g c) s.views id v v' at, claims t g c h, home.claims t g c h);
         carriers = λ t h. omega (arith, total_set (carries_at t) s.views id v v' at, carries t h, home.carriers t h);
       }

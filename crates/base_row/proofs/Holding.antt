@@ -5,6 +5,7 @@ use Rattle.std.proofs.lemmas.List.{get_or-set_same, length-set}
 use Rattle.pass_names.specs.Passes.{Begins}
 use Rattle.atomic_table.specs.Table.{rest}
 use Rattle.seq_timer.specs.Events.{Event}
+use Rattle.seq_timer.specs.declared.standing.BaseEvent.{BaseEvent}
 use Rattle.base_row.specs.declared.view.Opening.{Opening}
 use Rattle.seq_timer.specs.Steps.{Timer, Needs, after, reply_to}
 use Rattle.seq_timer.specs.Tables.{no_timer, timer_at}
@@ -12,10 +13,10 @@ use Rattle.seq_timer.specs.Bases.{IsQueuedAs}
 use Rattle.seq_timer.specs.Contents.{IsContentOf}
 use Rattle.base_row.specs.declared.view.HeldContent.{HeldContent}
 use Rattle.base_row.specs.declared.view.BaseView.{BaseView}
-use Rattle.seq_timer.specs.Systems.{BaseContent, System, IsFresh, IsOn, changed, entries_of}
+use Rattle.seq_timer.specs.Systems.{BaseContent, System, IsFresh, IsOn, changed, entries_of, shifted}
 use Rattle.base_row.specs.Rules.{now, number_of}
-use Rattle.base_row.specs.Plays.{SeatState, KnowsBases, KnowsOwn, IsResting, EntersAs, carried_slots, FreedBase, Steady, having_freed}
-use Rattle.base_row.specs.Calls.{Appended, AreFresh, LetsGo, MayAppend, stepped, timer_seen}
+use Rattle.base_row.specs.Plays.{SeatState, KnowsBases, KnowsOwn, IsResting, EnteredShift, EntersAs, carried_slots, FreedBase, Steady, having_freed}
+use Rattle.base_row.specs.Calls.{Appended, AreFresh, LetsGo, MayAppend, Shifted, stepped, timer_seen}
 use Rattle.seq_timer.proofs.Systems.{shows}
 use Rattle.seq_timer.proofs.Agreement.{agrees}
 use Rattle.seq_timer.proofs.Contents.{IsQueuedAs-from}
@@ -117,7 +118,7 @@ rested o h t event me new about resting held told =
             ∙ (resting.carried ∙ (ap carried_slots held ∙ sym (ap carried_slots now_held)));
         knows = subst (λ (q : Opening). KnowsBases q.bases q.timers number_of new.0) (sym opening) told.knows;
       };
-      adds = record { before = told.before; seen = told.seen; own = told.own; rest = ap (λ (m : SeatState). m.0) told.rest };
+      adds = record { before = told.before; seen = told.seen; own = told.own; shifts = told.shifts; rest = ap (λ (m : SeatState). m.0) told.rest };
       about = opening;
       held = now_held;
     }
@@ -153,4 +154,29 @@ let_go o h me mid new about resting held inside is told =
         steady = subst (λ (m : SeatState). Steady m.0 new.0) is told.steady;
       };
       about = opening;
+    }
+
+-- what a seat is like after an entry of a base
+pub record RestedShift (o : Opening) (h : HeldContent BaseContent) (event : BaseEvent) (me new : SeatState) : Type 0 where
+  pub resting : IsResting new
+  pub shifts : Shifted o h event me.0 new.0
+  pub about : new.0.opening ≡ o
+  pub held : new.0.held ≡ Some (record { base = h.base; word = h.word; content = shifted event h.content })
+
+pub rested_shift : (o : Opening) (h : HeldContent BaseContent) (event : BaseEvent) (me new : SeatState)
+    → me.0.opening ≡ o → IsResting me → me.0.held ≡ Some h → EnteredShift o.bases o.timers number_of h event me new → RestedShift o h event me new
+rested_shift o h event me new about resting held told =
+    let opening : new.0.opening ≡ o = ap (λ (m : SeatState). m.0.opening) told.rest ∙ about in
+    let now_held = ap (λ (m : SeatState). m.0.held) told.rest in
+    record {
+      resting = record {
+        live = ap (λ (m : SeatState). m.0.id.live) told.rest ∙ resting.live;
+        heard = ap (λ (m : SeatState). m.0.heard) told.rest;
+        carried = ap (λ (m : SeatState). m.1) told.rest
+            ∙ (resting.carried ∙ (ap carried_slots held ∙ sym (ap carried_slots now_held)));
+        knows = subst (λ (q : Opening). KnowsBases q.bases q.timers number_of new.0) (sym opening) told.knows;
+      };
+      shifts = record { before = told.before; seen = told.seen; shifts = told.shifts; rest = ap (λ (m : SeatState). m.0) told.rest };
+      about = opening;
+      held = now_held;
     }

@@ -11,10 +11,10 @@ use Rattle.pass_names.specs.Passes.{within, is_place}
 use Rattle.pass_names.proofs.Counts.{met, total_at}
 use Rattle.pass_names.proofs.Last.{total_last}
 use Rattle.seq_timer.specs.Steps.{Timer}
-use Rattle.seq_timer.specs.declared.system.TimerEntry.{TimerEntry}
+use Rattle.seq_timer.specs.declared.system.SystemEntry.{SystemEntry}
 use Rattle.base_row.specs.declared.view.BaseView.{BaseView}
 use Rattle.seq_timer.specs.Systems.{BaseContent, first_system, AreSystemSteps}
-use Rattle.base_row.specs.Rules.{base_pass_id, places_at, base_claims_at, takes_at, carries_at, carried_in, runs, now, PassHolds, RowHolds}
+use Rattle.base_row.specs.Rules.{base_place, base_pass_id, places_at, base_claims_at, takes_at, carries_at, carried_in, runs, now, PassHolds, RowHolds}
 use Rattle.base_row.specs.Plays.{KnowsBases}
 use Rattle.base_row.proofs.Frames.{carries_one}
 
@@ -25,7 +25,7 @@ carried_one : (t : ℕ) (carry : Option ℕ) → carried_in t carry ≡ 1 → ca
 carried_one t None e = absurd (omega (arith, e))
 carried_one t (Some c) e = ap (λ n. Some n) (eqb-true c t (met (c == t) (omega (arith, e))))
 
-module _ (bases : ℕ) (opened : List Timer) (code : Timer → ℕ) (log : List TimerEntry) (s : State (Option BaseContent) (BaseView BaseContent))
+module _ (bases : ℕ) (opened : List Timer) (code : Timer → ℕ) (log : List SystemEntry) (s : State (Option BaseContent) (BaseView BaseContent))
     (home : RowHolds bases opened code log s)
     (id : ℕ) (v : BaseView BaseContent) (at : get_elem? s.views id ≡ some v) (live : v.id.live ≡ true) (whole : v.seen ≡ log) where
   fits : PassHolds bases opened code log s.words v
@@ -45,6 +45,9 @@ module _ (bases : ℕ) (opened : List Timer) (code : Timer → ℕ) (log : List 
     all_entries = λ last t k h. as_seen (λ (x : Timer). places_at t k v ≡ one_if (within k x.stamp)) t
         (sym (total_last base_pass_id s.views home.tree id v at live last (places_at t k)
         (λ j u at_u off. ap (count (is_place t k)) ((home.each_view j u at_u).gone off).0)) ∙ home.tally t k h);
+    all_shifts = λ last b k h. subst (λ l. places_at (base_place (length opened) b) k v ≡ one_if (within k ((now bases opened code l).bases b).standing.stamp))
+        (sym whole) (sym (total_last base_pass_id s.views home.tree id v at live last (places_at (base_place (length opened) b) k)
+        (λ j u at_u off. ap (count (is_place (base_place (length opened) b) k)) ((home.each_view j u at_u).gone off).0)) ∙ home.shifts b k h);
     all_carried = λ last t h moving.
         let here = subst (λ l. ((now bases opened code l).timers t).moving ≡ true) whole moving in
         let all = total_last base_pass_id s.views home.tree id v at live last (carries_at t)

@@ -3,6 +3,7 @@ pub mod Frames
 pub mod Knowing
 pub mod Looking
 pub mod Entering
+pub mod Shifting
 pub mod Splitting
 pub mod Events
 pub mod Holding

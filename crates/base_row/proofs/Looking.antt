@@ -14,14 +14,14 @@ use Rattle.pass_names.specs.Passes.{within}
 use Rattle.pass_names.proofs.Counts.{met, set_there, total_set, total_at}
 use Rattle.pass_names.proofs.Passes.{begins_refl, begins_nil, count_place, within_more}
 use Rattle.seq_timer.specs.Steps.{Timer}
-use Rattle.seq_timer.specs.declared.system.TimerEntry.{TimerEntry}
+use Rattle.seq_timer.specs.declared.system.SystemEntry.{SystemEntry}
 use Rattle.base_row.specs.declared.view.HeldContent.{HeldContent}
 use Rattle.base_row.specs.declared.view.BaseView.{BaseView}
 use Rattle.seq_timer.specs.Systems.{BaseContent}
 use Rattle.base_row.specs.Rules.{held_in, holds_at, takes_at, LockState, now, HeldHolds, PassHolds, RowHolds, HasOneHistory}
 use Rattle.base_row.specs.Plays.{having_met, having_taken, having_freed, KnowsBases, LoadedWord, Met, TookBase, FoundTaken, FreedBase}
 use Rattle.base_row.proofs.Frames.{holds_one, turned, locked}
-use Rattle.base_row.proofs.Stable.{stable_own, carry_own}
+use Rattle.base_row.proofs.Stable.{stable_own, steady_own}
 use Rattle.base_row.proofs.Knowing.{knows_of}
 
 -- lock words that are as new as before, and no newer than they are
@@ -52,7 +52,7 @@ no_lock h e = cc
 
 module _ (bases : ℕ) (opened : List Timer) (code : Timer → ℕ) where
   -- what a seat knows stays true once it has seen the whole history and newer lock words, and holds nothing new
-  fits_seen : (log : List TimerEntry) (words met : List ℕ) (v : BaseView BaseContent) → PassHolds bases opened code log words v
+  fits_seen : (log : List SystemEntry) (words met : List ℕ) (v : BaseView BaseContent) → PassHolds bases opened code log words v
       → Newer bases words v.met met → ((h : HeldContent BaseContent) → v.held ≡ Some h → slice_index met h.base ≡ slice_index v.met h.base)
       → PassHolds bases opened code log words (having_met log met v)
   fits_seen log words met v fits more same = record {
@@ -71,6 +71,7 @@ module _ (bases : ℕ) (opened : List Timer) (code : Timer → ℕ) where
     full = λ live. more.size ∙ fits.full live;
     met = more.below;
     takes = λ b k some_one. omega (arith, fits.takes b k some_one, more.newer b);
+    first = λ alive name b. refl;
     gone = fits.gone;
   }
 
@@ -80,7 +81,7 @@ module _ (bases : ℕ) (opened : List Timer) (code : Timer → ℕ) where
         (w : BaseView BaseContent) × (a : Act (Option BaseContent)) × Valid s.homes carried a
         × HasOneHistory bases opened code (stepped s i n id carried w a) × ((carried_after carried a ≡ carried) × then w)
 
-    looks_with : (log : List TimerEntry) (s : State (Option BaseContent) (BaseView BaseContent)) (home : RowHolds bases opened code log s)
+    looks_with : (log : List SystemEntry) (s : State (Option BaseContent) (BaseView BaseContent)) (home : RowHolds bases opened code log s)
         → get_elem? s.views id ≡ some v → (i : ℕ) (met : List ℕ) → Newer bases s.words v.met met
         → ((h : HeldContent BaseContent) → v.held ≡ Some h → slice_index met h.base ≡ slice_index v.met h.base)
         → RowHolds bases opened code log (stepped s i (slice_index s.words i) id carried (having_met log met v) keeps)
@@ -109,13 +110,14 @@ module _ (bases : ℕ) (opened : List Timer) (code : Timer → ℕ) where
             rest = refl;
             seen = fits.seen;
             heard = fits.heard;
-            steady = λ t e. carry_own bases opened code log s home v fits t e;
+            steady = steady_own bases opened code log s home v fits live refl;
             knows = l.1;
             timer = λ t e h. ap (λ i. slice_index s.words i) e ∙ home.each_timer t h;
+            standing = λ b e h. ap (λ i. slice_index s.words i) e ∙ home.each_standing b h;
           },
         )
 
-    meets_at : (log : List TimerEntry) (s : State (Option BaseContent) (BaseView BaseContent)) (home : RowHolds bases opened code log s)
+    meets_at : (log : List SystemEntry) (s : State (Option BaseContent) (BaseView BaseContent)) (home : RowHolds bases opened code log s)
         → get_elem? s.views id ≡ some v → (b : ℕ) → b < bases → v.held ≡ None
         → (w : BaseView BaseContent) × (a : Act (Option BaseContent)) × Valid s.homes carried a
         × HasOneHistory bases opened code (stepped s (lock_at b) (slice_index s.words (lock_at b)) id carried w a)
@@ -138,7 +140,7 @@ module _ (bases : ℕ) (opened : List Timer) (code : Timer → ℕ) where
             is = get_or-set_same v.met b found 0 (omega (arith, fits.full live));
             others = λ k later. let none : holds_at b v ≡ 0 = ap (held_in b) idle in ⊎_elim
                 (λ own. absurd (omega (arith, fits.takes b k own))) (λ no_one. omega arith) (cases_lt 0 (takes_at b k v));
-            steady = λ t e. carry_own bases opened code log s home v fits t e;
+            steady = steady_own bases opened code log s home v fits live refl;
             knows = l.1;
           },
         )
@@ -158,7 +160,7 @@ module _ (bases : ℕ) (opened : List Timer) (code : Timer → ℕ) where
         × MatchBool hit (TookBase bases opened code b (m + 1) (m + m + 1) (v, []) (w, carried_after [] a))
         (FoundTaken bases opened code b (m + m) (v, []) (slice_index s.words (lock_at b)) (w, carried_after [] a))
 
-    told : (log : List TimerEntry) (s : State (Option BaseContent) (BaseView BaseContent))
+    told : (log : List SystemEntry) (s : State (Option BaseContent) (BaseView BaseContent))
         → RowHolds bases opened code log s → get_elem? s.views id ≡ some v → (hit : Bool) → eqb (slice_index s.words (lock_at b)) (m + m) ≡ hit → Told hit s
     told log s home at false miss =
         let fits = home.each_view id v at in
@@ -216,6 +218,7 @@ module _ (bases : ℕ) (opened : List Timer) (code : Timer → ℕ) where
           full = λ alive. more.size ∙ fits.full alive;
           met = more.below;
           takes = λ c k some_one. new_takes c k (omega (arith, one_more c k)) (fits.takes c k) in_met;
+          first = λ alive name c. refl;
           gone = λ off. absurd (true≢false (sym live ∙ off));
         } in
         let sum : total (holds_at b) (set s.views id v') ≡ 1 = omega (arith, total_set (holds_at b) s.views id v v' at, ap one_if (eq-eqb b b refl)) in
@@ -257,7 +260,7 @@ module _ (bases : ℕ) (opened : List Timer) (code : Timer → ℕ) where
             is = get_or-set_same v.met b (m + m + 1) 0 in_met;
             seen = fits.seen;
             heard = fits.heard;
-            steady = λ t e. carry_own bases opened code log s home v fits t e;
+            steady = steady_own bases opened code log s home v fits live refl;
             knows = knows_of bases opened code log record {
               words = slice_set s.words (lock_at b)
                   (m + m + 1);
@@ -302,7 +305,7 @@ module _ (bases : ℕ) (opened : List Timer) (code : Timer → ℕ) where
     abbrev freed_word : ℕ
     freed_word = slice_index v.met h.base + 1
 
-    frees_at : (log : List TimerEntry) (s : State (Option BaseContent) (BaseView BaseContent)) → RowHolds bases opened code log s
+    frees_at : (log : List SystemEntry) (s : State (Option BaseContent) (BaseView BaseContent)) → RowHolds bases opened code log s
         → get_elem? s.views id ≡ some v
         → RowHolds bases opened code log record {
           words = slice_set s.words (lock_at h.base) freed_word;
@@ -344,6 +347,7 @@ module _ (bases : ℕ) (opened : List Timer) (code : Timer → ℕ) where
               (λ o. omega (arith, fits.takes b k o, get_or-set_same v.met b freed_word 0 in_met)) some_one)
               (λ n. omega (arith, fits.takes c k some_one, else_held c n, get_or-set_other v.met b c freed_word 0 n))
               (cases_eq c b);
+          first = λ alive name c. refl;
           gone = λ off. absurd (true≢false (sym live ∙ off));
         } in
         let sum : total (holds_at b) (set s.views id v') ≡ 0 = omega (arith, total_set (holds_at b) s.views id v v' at) in
@@ -373,7 +377,7 @@ module _ (bases : ℕ) (opened : List Timer) (code : Timer → ℕ) where
           record {
             rest = refl;
             seen = (home.each_view id v at).seen;
-            steady = λ t e. carry_own bases opened code log s home v (home.each_view id v at) t e;
+            steady = steady_own bases opened code log s home v (home.each_view id v at) live refl;
             own = λ t inside on. stable_own bases opened code log s home v (home.each_view id v at) h held t inside (inl on);
             content = sym ((home.each_view id v at).held h held).whole;
             knows = knows_of bases opened code log record {

@@ -1,5 +1,5 @@
 -- Passes are split off and taken in, and told of each other, and the rule stays.
-use Rattle.std.proofs.Common.{◌≡◌, ℕ, zero, suc, true, List, [], ◌∷◌, ◌++◌, length, map, set, refl, ap, sym, ◌∙◌, subst, ⊎_elim, arith}
+use Rattle.std.proofs.Common.{◌≡◌, ℕ, ◌+◌, zero, suc, true, length-append, List, [], ◌∷◌, ◌++◌, length, map, set, refl, ap, sym, ◌∙◌, subst, ⊎_elim, arith}
 use Rattle.std.specs.Prelude.{slice_index, max, Some, None}
 use Rattle.std.proofs.lemmas.Bool.{cases_lt, true≢false}
 use Rattle.std.proofs.lemmas.List.{map-set}
@@ -16,7 +16,7 @@ use Rattle.pass_names.proofs.Names.{splits_tree, gone_tree, joins_tree}
 use Rattle.pass_names.proofs.Passes.{begins_nil}
 use Rattle.seq_timer.specs.Steps.{Timer}
 use Rattle.base_row.specs.declared.view.Claimed.{Claimed}
-use Rattle.seq_timer.specs.declared.system.TimerEntry.{TimerEntry}
+use Rattle.seq_timer.specs.declared.system.SystemEntry.{SystemEntry}
 use Rattle.base_row.specs.declared.view.HeldContent.{HeldContent}
 use Rattle.base_row.specs.declared.view.Opening.{Opening}
 use Rattle.base_row.specs.declared.view.BaseView.{BaseView}
@@ -45,9 +45,9 @@ greater_len (x ∷ xs) (y ∷ ys) = omega (arith, greater_len xs ys)
 
 module _ (bases : ℕ) (opened : List Timer) (code : Timer → ℕ) where
   -- a view that has nothing of its own fits, with what was seen and met
-  fits_reader : (log : List TimerEntry) (words : List ℕ) (pass : PassId) (opening : Opening) (v : BaseView BaseContent)
+  fits_reader : (log : List SystemEntry) (words : List ℕ) (pass : PassId) (opening : Opening) (v : BaseView BaseContent)
       → PassHolds bases opened code log words v → (pass.live ≡ true → length v.met ≡ bases)
-      → PassHolds bases opened code log words record {
+      → (pass.live ≡ true → pass.name ≡ [] → ⊥) → PassHolds bases opened code log words record {
         id = pass;
         opening = opening;
         seen = v.seen;
@@ -59,7 +59,7 @@ module _ (bases : ℕ) (opened : List Timer) (code : Timer → ℕ) where
         takes = [];
         met = v.met;
       }
-  fits_reader log words pass opening v fits full = record {
+  fits_reader log words pass opening v fits full named = record {
     seen = fits.seen;
     heard = begins_nil log;
     held = λ h e. absurd (no_lock h e);
@@ -68,10 +68,11 @@ module _ (bases : ℕ) (opened : List Timer) (code : Timer → ℕ) where
     full = full;
     met = fits.met;
     takes = λ b k some_one. absurd (omega arith);
+    first = λ live name b. absurd (named live name);
     gone = λ off. (refl, (refl, (refl, refl)));
   }
 
-  fits_split : (log : List TimerEntry) (words : List ℕ) (v : BaseView BaseContent) → PassHolds bases opened code log words v
+  fits_split : (log : List SystemEntry) (words : List ℕ) (v : BaseView BaseContent) → PassHolds bases opened code log words v
       → PassHolds bases opened code log words (split_base_view v)
   fits_split log words v fits = record {
     seen = fits.seen;
@@ -82,15 +83,20 @@ module _ (bases : ℕ) (opened : List Timer) (code : Timer → ℕ) where
     full = fits.full;
     met = fits.met;
     takes = fits.takes;
+    first = fits.first;
     gone = fits.gone;
   }
+
+  child_named : (l : List ℕ) (k : ℕ) → l ++ k ∷ [] ≡ [] → ⊥
+  child_named l k e = omega (arith, ap length e, length-append l (k ∷ []))
 
   pub splits : (id : ℕ) (v : BaseView BaseContent) → v.id.live ≡ true → Splits (HasOneHistory bases opened code) id v (split_base_view v) (new_base_view v)
   splits id v live s (log, home) at =
       let fits = home.each_view id v at in (
         log,
         grown bases opened code log s home id v (split_base_view v) (new_base_view v) at (fits_split log s.words v fits)
-            (fits_reader log s.words (base_pass_id (new_base_view v)) v.opening v fits (λ t. fits.full live))
+            (fits_reader log s.words (base_pass_id (new_base_view v)) v.opening v fits (λ t. fits.full live)
+            (λ t name. child_named v.id.name (v.id.made + 1) name))
             (splits_tree (map base_pass_id s.views) home.tree id (base_pass_id v) (at_map base_pass_id s.views id v at) live)
             (record { places = λ t k. refl; claims = λ t g b. refl; holds = λ b. refl; takes = λ b k. refl; carries = λ t. refl }),
       )
@@ -100,14 +106,14 @@ module _ (bases : ℕ) (opened : List Timer) (code : Timer → ℕ) where
       let fits = home.each_view id v at in (
         log,
         grown bases opened code log s home id v v (base_note_of v) at fits
-            (fits_reader log s.words gone_pass_id no_opening v fits (λ t. absurd (true≢false (sym t))))
+            (fits_reader log s.words gone_pass_id no_opening v fits (λ t. absurd (true≢false (sym t))) (λ t name. absurd (true≢false (sym t))))
             (subst (λ ls. IsPassTree (ls ++ gone_pass_id ∷ []))
             (sym (set_again (map base_pass_id s.views) id (base_pass_id v) (at_map base_pass_id s.views id v at)))
             (gone_tree (map base_pass_id s.views) home.tree))
             (record { places = λ t k. refl; claims = λ t g b. refl; holds = λ b. refl; takes = λ b k. refl; carries = λ t. refl }),
       )
 
-  fits_gone : (log : List TimerEntry) (words : List ℕ) → PassHolds bases opened code log words gone_base_view
+  fits_gone : (log : List SystemEntry) (words : List ℕ) → PassHolds bases opened code log words gone_base_view
   fits_gone log words = record {
     seen = begins_nil log;
     heard = begins_nil log;
@@ -117,10 +123,11 @@ module _ (bases : ℕ) (opened : List Timer) (code : Timer → ℕ) where
     full = λ live. absurd (true≢false (sym live));
     met = λ b h. omega arith;
     takes = λ b k some_one. absurd (omega arith);
+    first = λ live name b. absurd (true≢false (sym live));
     gone = λ off. (refl, (refl, (refl, refl)));
   }
 
-  fits_joined : (log : List TimerEntry) (words : List ℕ) (v u : BaseView BaseContent) → v.id.live ≡ true → v.held ≡ None → u.held ≡ None
+  fits_joined : (log : List SystemEntry) (words : List ℕ) (v u : BaseView BaseContent) → v.id.live ≡ true → v.held ≡ None → u.held ≡ None
       → PassHolds bases opened code log words v → PassHolds bases opened code log words u
       → PassHolds bases opened code log words (joined_base_view v u)
   fits_joined log words v u live idle idle_u fits fits_u = record {
@@ -146,6 +153,7 @@ module _ (bases : ℕ) (opened : List Timer) (code : Timer → ℕ) where
           greater_at v.met u.met b,
         ))
         (cases_lt 0 (takes_at b k v));
+    first = fits.first;
     gone = λ off. absurd (true≢false (sym live ∙ off));
   }
 
@@ -203,6 +211,7 @@ module _ (bases : ℕ) (opened : List Timer) (code : Timer → ℕ) where
               full = λ alive. omega (arith, greater_len v.met u.met, fits.full alive, fits_u.wide);
               met = λ b h. omega (arith, greater_at v.met u.met b, fits.met b h, fits_u.met b h);
               takes = λ b k some_one. omega (arith, fits.takes b k some_one, greater_at v.met u.met b);
+              first = fits.first;
               gone = fits.gone;
             })
             (fits_gone log s.words)

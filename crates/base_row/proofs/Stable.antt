@@ -1,17 +1,19 @@
 -- What a pass has seen of the timers on the base that it holds, and of the one that it carries, is the whole of it.
-use Rattle.std.proofs.Common.{◌≡◌, ℕ, ◌<◌, ◌⊎◌, ⊎_elim, List, length, sym, ◌∙◌}
+use Rattle.std.proofs.Common.{◌≡◌, ℕ, ◌<◌, ◌⊎◌, ⊎_elim, true, List, length, ap, sym, ◌∙◌}
 use Rattle.std.specs.Prelude.{Option, Some}
 use Rattle.atomic_table.specs.Table.{State}
 use Rattle.seq_timer.specs.Steps.{Timer}
-use Rattle.seq_timer.specs.declared.system.TimerEntry.{TimerEntry}
+use Rattle.seq_timer.specs.declared.system.SystemEntry.{SystemEntry}
 use Rattle.base_row.specs.declared.view.HeldContent.{HeldContent}
 use Rattle.base_row.specs.declared.view.BaseView.{BaseView}
-use Rattle.seq_timer.specs.Systems.{BaseContent, first_system, IsOn, entries_of}
+use Rattle.seq_timer.specs.Systems.{BaseContent, first_system, IsOn, entries_of, shifts_of}
+use Rattle.base_row.specs.Plays.{Steady}
+use Rattle.pass_names.specs.declared.PassId.{PassId}
 use Rattle.base_row.specs.Rules.{now, PassHolds, RowHolds}
 use Rattle.seq_timer.proofs.Systems.{shows, same_on}
 use Rattle.base_row.proofs.Begun.{steps_begins, same_own}
 
-module _ (bases : ℕ) (opened : List Timer) (code : Timer → ℕ) (log : List TimerEntry) (s : State (Option BaseContent) (BaseView BaseContent))
+module _ (bases : ℕ) (opened : List Timer) (code : Timer → ℕ) (log : List SystemEntry) (s : State (Option BaseContent) (BaseView BaseContent))
     (home : RowHolds bases opened code log s)
     (v : BaseView BaseContent) (fits : PassHolds bases opened code log s.words v) (h : HeldContent BaseContent) (held : v.held ≡ Some h) (t : ℕ)
     (within : t < length opened)
@@ -31,8 +33,25 @@ module _ (bases : ℕ) (opened : List Timer) (code : Timer → ℕ) (log : List 
   pub stable_own : entries_of t log ≡ entries_of t v.seen
   stable_own = same_own (first_system opened) t v.seen log fits.seen stable
 
-module _ (bases : ℕ) (opened : List Timer) (code : Timer → ℕ) (log : List TimerEntry) (s : State (Option BaseContent) (BaseView BaseContent))
+module _ (bases : ℕ) (opened : List Timer) (code : Timer → ℕ) (log : List SystemEntry) (s : State (Option BaseContent) (BaseView BaseContent))
     (home : RowHolds bases opened code log s)
     (v : BaseView BaseContent) (fits : PassHolds bases opened code log s.words v) (t : ℕ) (carry : v.carry ≡ Some t) where
   pub carry_own : entries_of t log ≡ entries_of t v.seen
   carry_own = same_own (first_system opened) t v.seen log fits.seen (sym (fits.carry t carry))
+
+-- where a pass has seen the whole history, it is steady
+module _ (bases : ℕ) (opened : List Timer) (code : Timer → ℕ) (log : List SystemEntry) (s : State (Option BaseContent) (BaseView BaseContent))
+    (home : RowHolds bases opened code log s)
+    (v : BaseView BaseContent) (fits : PassHolds bases opened code log s.words v) (live : v.id.live ≡ true) where
+  pub steady_own : {w : BaseView BaseContent} → w.seen ≡ log → Steady v w
+  steady_own {w} whole = record {
+    carried = λ t e. ap (entries_of t) whole ∙ carry_own bases opened code log s home v fits t e;
+    shifts = λ name b. ap (shifts_of b) whole ∙ sym (fits.first live name b);
+  }
+
+-- two looks that are steady, one after the other
+pub steady_trans : {v x w : BaseView BaseContent} → Steady v x → Steady x w → x.carry ≡ v.carry → x.id ≡ v.id → Steady v w
+steady_trans first second carry id = record {
+  carried = λ t e. second.carried t (carry ∙ e) ∙ first.carried t e;
+  shifts = λ name b. second.shifts (ap (λ (i : PassId). i.name) id ∙ name) b ∙ first.shifts name b;
+}

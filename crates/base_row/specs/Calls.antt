@@ -6,11 +6,14 @@ use Rattle.pass_names.specs.SharedHistory.{Known}
 use Rattle.seq_timer.specs.declared.context.Terms.{Terms}
 use Rattle.seq_timer.specs.declared.context.Declared.{Declared}
 use Rattle.seq_timer.specs.Events.{Event}
+use Rattle.seq_timer.specs.declared.event.EventBy.TheVariants as events
+use Rattle.seq_timer.specs.declared.system.SystemEntry.{SystemEntry}
 use Rattle.seq_timer.specs.declared.system.TimerEntry.{TimerEntry}
-use Rattle.seq_timer.specs.Steps.{Timer, greatest_limit, reply_to}
+use Rattle.seq_timer.specs.declared.standing.BaseEvent.{BaseEvent}
+use Rattle.seq_timer.specs.Steps.{Timer, HasRoom, reply_to}
 use Rattle.seq_timer.specs.Tables.{timer_at}
 use Rattle.seq_timer.specs.Histories as seq
-use Rattle.seq_timer.specs.Systems.{BaseContent, IsFresh, IsOn, changed, entries_of, openings}
+use Rattle.seq_timer.specs.Systems.{BaseContent, IsFresh, IsOn, changed, entries_of, openings, shifts_of}
 use Rattle.base_row.specs.declared.log.Noted.TheVariants as noteds
 use Rattle.base_row.specs.declared.log.Receipt.{Receipt}
 use Rattle.base_row.specs.declared.view.Claimed.{Claimed}
@@ -19,7 +22,7 @@ use Rattle.base_row.specs.declared.view.Opening.{Opening}
 use Rattle.base_row.specs.declared.view.BaseView.{BaseView}
 use Rattle.base_row.specs.Rules.{now, number_of}
 use Rattle.base_row.specs.Plays.{MayEnter, Missed, NoOlder, OwnNeeds, SameElsewhere, Steady, carry_after, claims_with_event}
-use Rattle.base_row.specs.Plays.{entry_of_event, greater, having_entered, having_freed, having_met, joined_base_view, seen_timer}
+use Rattle.base_row.specs.Plays.{entry_of_event, greater, having_entered, having_freed, having_met, having_shifted, joined_base_view, seen_timer}
 
 -- a row, and what it was made of
 pub record BaseRowOf : Type 0 where
@@ -42,7 +45,7 @@ opening_of bases declareds terms = record { bases = bases; timers = openings dec
 -- nothing has happened to any of the timers
 pub record AreFresh (timers : List Timer) : Type 0 where
   pub each : (t : ℕ) → IsFresh (timer_at timers t)
-  pub limit : (t : ℕ) → (timer_at timers t).terms.limit ≤ greatest_limit
+  pub room : (t : ℕ) → HasRoom (timer_at timers t).terms
 
 abbrev pub timer_seen : Opening → BaseView BaseContent → ℕ → Timer
 timer_seen o v t = seen_timer o.bases o.timers number_of v t
@@ -60,9 +63,10 @@ pub record MayAppend (o : Opening) (v : BaseView BaseContent) (h : HeldContent B
 
 -- a pass has made this entry
 pub record Appended (o : Opening) (h : HeldContent BaseContent) (t : ℕ) (event : Event) (v w : BaseView BaseContent) : Type 0 where
-  pub before : List TimerEntry
+  pub before : List SystemEntry
   pub seen : Begins v.seen before
   pub own : entries_of t before ≡ entries_of t v.seen
+  pub shifts : v.id.name ≡ [] → (b : ℕ) → shifts_of b before ≡ shifts_of b v.seen
   pub rest : w ≡ having_entered before (entry_in o v t event) (timer_seen o v t) h (claims_with_event t (timer_seen o v t) event v.claims)
       (carry_after t (timer_seen o v t) event v.carry) v
 
@@ -70,8 +74,24 @@ pub record Appended (o : Opening) (h : HeldContent BaseContent) (t : ℕ) (event
 abbrev pub stepped : Opening → BaseView BaseContent → HeldContent BaseContent → ℕ → Event → HeldContent BaseContent
 stepped o v h t event = record h { content = changed t (timer_seen o v t) event h.content }
 
+-- whether an event is a start
+abbrev pub IsStart : Event → Type 0
+IsStart (events.Start asked) = Unit {0}
+IsStart (events.Out base) = ⊥
+IsStart events.Cancel = ⊥
+IsStart (events.Claim base reading) = ⊥
+IsStart (events.Forward reading interval) = ⊥
+IsStart (events.Finish restart) = ⊥
+
+-- the first pass has made this entry of a base
+pub record Shifted (o : Opening) (h : HeldContent BaseContent) (event : BaseEvent) (v w : BaseView BaseContent) : Type 0 where
+  pub before : List SystemEntry
+  pub seen : Begins v.seen before
+  pub shifts : (b : ℕ) → shifts_of b before ≡ shifts_of b v.seen
+  pub rest : w ≡ having_shifted before (length o.timers) event h v
+
 -- what callers see of what a pass knows
-abbrev pub known_of : BaseView BaseContent → Known TimerEntry Claimed
+abbrev pub known_of : BaseView BaseContent → Known SystemEntry Claimed
 known_of v = record { id = v.id; seen = v.seen; mine = v.mine; claims = v.claims }
 
 -- the entry of an event in its timer's part of the history, with the reply that it gets after what the pass has seen

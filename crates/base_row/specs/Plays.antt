@@ -12,13 +12,18 @@ use Rattle.seq_timer.specs.declared.effect.RunEffect.{RunEffect}
 use Rattle.seq_timer.specs.declared.effect.RunEffect.TheVariants as functions
 use Rattle.seq_timer.specs.Effects.{effect}
 use Rattle.seq_timer.specs.Steps.{Timer, after, reply_to}
+use Rattle.seq_timer.specs.declared.system.SystemEntry.{SystemEntry}
+use Rattle.seq_timer.specs.declared.system.SystemEntry.TheVariants as entries
 use Rattle.seq_timer.specs.declared.system.TimerEntry.{TimerEntry}
+use Rattle.seq_timer.specs.declared.standing.BaseEvent.{BaseEvent}
+use Rattle.seq_timer.specs.Standings.{MayShift}
+use Rattle.seq_timer.specs.Tables.{timer_at}
 use Rattle.base_row.specs.declared.view.Claimed.{Claimed}
 use Rattle.base_row.specs.declared.view.HeldContent.{HeldContent}
 use Rattle.base_row.specs.declared.view.Opening.{Opening}
 use Rattle.base_row.specs.declared.view.BaseView.{BaseView}
-use Rattle.seq_timer.specs.Systems.{BaseContent, first_system, IsSystemStep, AreSystemSteps, changed, entries_of, IsOn}
-use Rattle.base_row.specs.Rules.{is_base_claim, carried_in, number_of, now, runs, places_at, base_claims_at, carries_at, takes_at}
+use Rattle.seq_timer.specs.Systems.{BaseContent, first_system, IsSystemStep, AreSystemSteps, IsClear, changed, entries_of, shifted, shifts_of, IsOn}
+use Rattle.base_row.specs.Rules.{base_place, is_base_claim, carried_in, number_of, standing_number, now, runs, places_at, base_claims_at, carries_at, takes_at}
 
 -- what a pass's seat has: what the pass knows, and the slots that it carries
 abbrev pub SeatState : Type 0
@@ -39,11 +44,11 @@ abbrev pub StepMeaning : Type 1
 StepMeaning = Step (Option BaseContent) → SeatState → ℕ → SeatState → Type 0
 
 -- a pass that has seen this, and knows these lock words
-abbrev pub having_met : List TimerEntry → List ℕ → BaseView BaseContent → BaseView BaseContent
+abbrev pub having_met : List SystemEntry → List ℕ → BaseView BaseContent → BaseView BaseContent
 having_met seen met v = record v { seen = seen; heard = []; met = met }
 
 -- a pass that has taken a base's lock
-abbrev pub having_taken : List TimerEntry → ℕ → BaseContent → ℕ → ℕ → BaseView BaseContent → BaseView BaseContent
+abbrev pub having_taken : List SystemEntry → ℕ → BaseContent → ℕ → ℕ → BaseView BaseContent → BaseView BaseContent
 having_taken seen b content number word v = record v {
   seen = seen;
   heard = [];
@@ -54,19 +59,28 @@ having_taken seen b content number word v = record v {
 }
 
 -- a pass that has let a base go
-abbrev pub having_freed : List TimerEntry → ℕ → ℕ → BaseView BaseContent → BaseView BaseContent
+abbrev pub having_freed : List SystemEntry → ℕ → ℕ → BaseView BaseContent → BaseView BaseContent
 having_freed seen b word v = record v { seen = seen; heard = []; held = None; met = set v.met b word }
 
 -- a pass that has added an entry of a timer, which was so
-abbrev pub having_entered : List TimerEntry → TimerEntry → Timer → HeldContent BaseContent → List Claimed → Option ℕ
+abbrev pub having_entered : List SystemEntry → TimerEntry → Timer → HeldContent BaseContent → List Claimed → Option ℕ
     → BaseView BaseContent → BaseView BaseContent
 having_entered before e t h claims carry v = record v {
-  seen = before ++ e ∷ [];
+  seen = before ++ entries.Timer e ∷ [];
   heard = [];
   mine = v.mine ++ (e.timer, t.stamp + 1) ∷ [];
   claims = claims;
   held = Some (record { base = h.base; word = h.word; content = changed e.timer t e.event h.content });
   carry = carry;
+}
+
+-- a pass that has added an entry of a base that it holds; there are so many timers
+abbrev pub having_shifted : List SystemEntry → ℕ → BaseEvent → HeldContent BaseContent → BaseView BaseContent → BaseView BaseContent
+having_shifted before timers event h v = record v {
+  seen = before ++ entries.Base (record { base = h.base; event = event }) ∷ [];
+  heard = [];
+  mine = v.mine ++ (base_place timers h.base, h.content.standing.stamp + 1) ∷ [];
+  held = Some (record { base = h.base; word = h.word; content = shifted event h.content });
 }
 
 -- the greater of each two
@@ -155,9 +169,10 @@ joined_base_view v u = record (told_base_view v u) {
   takes = v.takes ++ u.takes;
 }
 
--- of the timer that a pass carries nothing more was seen
-abbrev pub Steady : BaseView BaseContent → BaseView BaseContent → Type 0
-Steady v w = (t : ℕ) → v.carry ≡ Some t → entries_of t w.seen ≡ entries_of t v.seen
+-- of the timer that a pass carries nothing more was seen, and by the first pass nothing more of any base
+pub record Steady (v w : BaseView BaseContent) : Type 0 where
+  pub carried : (t : ℕ) → v.carry ≡ Some t → entries_of t w.seen ≡ entries_of t v.seen
+  pub shifts : v.id.name ≡ [] → (b : ℕ) → shifts_of b w.seen ≡ shifts_of b v.seen
 
 -- the lock words of all bases but this one are known as before
 abbrev pub SameElsewhere : ℕ → BaseView BaseContent → BaseView BaseContent → Type 0
@@ -181,6 +196,8 @@ module _ (bases : ℕ) (opened : List Timer) (code : Timer → ℕ) where
     pub claims : (t g b : ℕ) → t < length opened → 0 < base_claims_at t g b v → runs g b ((now bases opened code v.seen).timers t) ≡ true
     -- the last pass has made each entry, each once, and each take; no timer is on the move but one that it carries
     pub all_entries : IsLast v.id → (t k : ℕ) → t < length opened → places_at t k v ≡ one_if (within k ((now bases opened code v.seen).timers t).stamp)
+    pub all_shifts : IsLast v.id → (b k : ℕ) → b < bases
+        → places_at (base_place (length opened) b) k v ≡ one_if (within k ((now bases opened code v.seen).bases b).standing.stamp)
     pub all_carried : IsLast v.id → (t : ℕ) → t < length opened → ((now bases opened code v.seen).timers t).moving ≡ true → v.carry ≡ Some t
     pub all_takes : IsLast v.id → (b k : ℕ) → b < bases → 0 < k → k + k ≤ slice_index v.met b + 1 → takes_at b k v ≡ 1
 
@@ -193,6 +210,8 @@ module _ (bases : ℕ) (opened : List Timer) (code : Timer → ℕ) where
     pub steady : Steady me.0 new.0
     pub knows : KnowsBases new.0
     pub timer : (t : ℕ) → st.word ≡ word_at bases t → t < length opened → found ≡ code ((now bases opened code new.0.seen).timers t)
+    pub standing : (b : ℕ) → st.word ≡ word_at bases (base_place (length opened) b) → b < bases
+        → found ≡ standing_number ((now bases opened code new.0.seen).bases b).standing
 
   -- a load of a base's lock word
   pub record Met (b : ℕ) (me : SeatState) (found : ℕ) (new : SeatState) : Type 0 where
@@ -253,12 +272,16 @@ carried_by (Some base) id was is carry = Some id
 abbrev pub carry_after : ℕ → Timer → Event → Option ℕ → Option ℕ
 carry_after id t event carry = carried_by (effect t event).sent id t (after t event) carry
 
--- what an effect needs of the pass that makes it: the claim, where it is made by who has that; and that no timer is carried yet, where one is sent
+-- the pass carries this timer where it is on the move, and else none
+abbrev pub CarriesAlone : BaseView BaseContent → ℕ → Timer → Type 0
+CarriesAlone v id t = v.carry ≡ (if t.moving then Some id else None)
+
+-- what an effect needs of the pass that makes it: the claim, where it is made by who has that; and that no other timer is carried, where one is sent
 abbrev pub OwnNeedsBy : Bool → Option ℕ → BaseView BaseContent → ℕ → Timer → Type 0
 OwnNeedsBy false None v id t = Unit {0}
-OwnNeedsBy false (Some base) v id t = v.carry ≡ None
+OwnNeedsBy false (Some base) v id t = CarriesAlone v id t
 OwnNeedsBy true None v id t = 0 < base_claims_at id (unwrap_or t.running 0) t.base v
-OwnNeedsBy true (Some base) v id t = (0 < base_claims_at id (unwrap_or t.running 0) t.base v) × (v.carry ≡ None)
+OwnNeedsBy true (Some base) v id t = (0 < base_claims_at id (unwrap_or t.running 0) t.base v) × CarriesAlone v id t
 
 -- what an event needs of the pass that makes it; that a pass carries the timer which it starts on the move stands in `MayEnter`
 abbrev pub OwnNeeds : BaseView BaseContent → ℕ → Timer → Event → Type 0
@@ -270,6 +293,14 @@ pub record GoAlong (t : Timer) (e : TimerEntry) (v : BaseView BaseContent) (clai
   pub apart : (k g b : ℕ) → k ≢ e.timer → count (is_base_claim k g b) claims ≡ base_claims_at k g b v
   pub carry_here : carried_in e.timer carry + one_if t.moving ≡ carries_at e.timer v + one_if (after t e.event).moving
   pub carry_else : (k : ℕ) → k ≢ e.timer → carried_in k carry ≡ carries_at k v
+
+-- the first pass may add an entry of a base that it holds
+pub record MayEnterShift (v : BaseView BaseContent) (h : HeldContent BaseContent) (event : BaseEvent) : Type 0 where
+  pub held : v.held ≡ Some h
+  pub first : v.id.name ≡ []
+  pub may : MayShift h.base h.content.standing event
+  pub clear : IsClear h.content event
+  pub reach : (t : ℕ) → t < length v.opening.timers → 0 < (timer_at v.opening.timers t).terms.reach
 
 module _ (bases : ℕ) (opened : List Timer) (code : Timer → ℕ) where
   abbrev pub seen_timer : BaseView BaseContent → ℕ → Timer
@@ -285,9 +316,10 @@ module _ (bases : ℕ) (opened : List Timer) (code : Timer → ℕ) where
   -- what the store of a timer's word tells
   pub record EnteredTimer (h : HeldContent BaseContent) (e : TimerEntry) (claims : List Claimed) (carry : Option ℕ)
       (me : SeatState) (new : SeatState) : Type 0 where
-    pub before : List TimerEntry
+    pub before : List SystemEntry
     pub seen : Begins me.0.seen before
     pub own : entries_of e.timer before ≡ entries_of e.timer me.0.seen
+    pub shifts : me.0.id.name ≡ [] → (b : ℕ) → shifts_of b before ≡ shifts_of b me.0.seen
     pub rest : new ≡ (having_entered before e (seen_timer me.0 e.timer) h claims carry me.0, me.1)
     pub knows : KnowsBases bases opened code new.0
 
@@ -300,6 +332,18 @@ module _ (bases : ℕ) (opened : List Timer) (code : Timer → ℕ) where
       → SeatState → Type 0
   EntersAs h t event me new = EnteredTimer h (entry_of_event me.0 t event) (claims_with_event t (seen_timer me.0 t) event me.0.claims)
       (carry_after t (seen_timer me.0 t) event me.0.carry) me new
+
+  -- what the store of a base's word tells
+  pub record EnteredShift (h : HeldContent BaseContent) (event : BaseEvent) (me : SeatState) (new : SeatState) : Type 0 where
+    pub before : List SystemEntry
+    pub seen : Begins me.0.seen before
+    pub shifts : (b : ℕ) → shifts_of b before ≡ shifts_of b me.0.seen
+    pub rest : new ≡ (having_shifted before (length opened) event h me.0, me.1)
+    pub knows : KnowsBases bases opened code new.0
+
+abbrev pub ShiftsBy : BaseEvent → Step (Option BaseContent) → SeatState → SeatState → Type 0
+ShiftsBy event st me new = (h : HeldContent BaseContent) → me.0.held ≡ Some h
+    → EnteredShift me.0.opening.bases me.0.opening.timers number_of h event me new
 
 abbrev pub EntersBy : Event → Step (Option BaseContent) → SeatState → SeatState → Type 0
 EntersBy event st me new = (h : HeldContent BaseContent) (t : ℕ) → me.0.held ≡ Some h → st.word ≡ word_at me.0.opening.bases t

@@ -1,6 +1,6 @@
 -- The rule of the table: one history of all timers, of which each pass has seen a beginning; words and slots are what it says.
 use Rattle.base_row.specs.Places.{lock_at, word_at}
-use Rattle.std.specs.Prelude.{◌≡◌, ℕ, ◌+◌, ◌<◌, ◌≤◌, Bool, true, false, ◌==◌, ◌&&◌, List, [], length, map, slice_index, Option, Some, None}
+use Rattle.std.specs.Prelude.{◌≡◌, ℕ, ◌+◌, ◌*◌, ◌<◌, ◌≤◌, Bool, true, false, ◌==◌, ◌&&◌, List, [], length, map, slice_index, Option, Some, None}
 use mathlib.Core.Option.{some, none}
 use lib.ListN.{get_elem?}
 use Rattle.atomic_table.specs.Table.{State}
@@ -11,11 +11,12 @@ use Rattle.pass_names.specs.Passes.{Begins, within, is_place}
 use Rattle.seq_timer.specs.Steps.{Timer}
 use Rattle.seq_timer.specs.Histories.{peek_of}
 use Rattle.timer_word.specs.Words.{packed}
-use Rattle.seq_timer.specs.declared.system.TimerEntry.{TimerEntry}
+use Rattle.seq_timer.specs.declared.system.SystemEntry.{SystemEntry}
+use Rattle.seq_timer.specs.declared.standing.Standing.{Standing}
 use Rattle.base_row.specs.declared.view.Claimed.{Claimed}
 use Rattle.base_row.specs.declared.view.HeldContent.{HeldContent}
 use Rattle.base_row.specs.declared.view.BaseView.{BaseView}
-use Rattle.seq_timer.specs.Systems.{BaseContent, System, first_system, system_after, AreSystemSteps}
+use Rattle.seq_timer.specs.Systems.{BaseContent, System, first_system, shifts_of, system_after, AreSystemSteps}
 
 abbrev pub base_pass_id : BaseView BaseContent → PassId
 base_pass_id v = v.id
@@ -47,6 +48,10 @@ carries_at t v = carried_in t v.carry
 abbrev pub takes_at : ℕ → ℕ → BaseView BaseContent → ℕ
 takes_at b k v = count (is_place b k) v.takes
 
+abbrev pub heir_number : Option ℕ → ℕ
+heir_number None = 0
+heir_number (Some heir) = heir * 65536 + 16777216
+
 -- the timer's function runs in this generation
 abbrev pub is_generation : ℕ → Option ℕ → Bool
 is_generation g None = false
@@ -67,16 +72,24 @@ pub record LockState (content : BaseContent) (home : mathlib.Core.Option.Option 
   pub out : 0 < held → home ≡ some none
   pub each : (k : ℕ) → takes k ≡ one_if (within k taken)
 
+-- the number in a base's word: bits 0 to 15 the stamp, and where it is off line bits 16 to 23 the heir, and bit 24
+unfoldable pub standing_number : Standing → ℕ
+standing_number s = s.stamp + heir_number s.heir
+
+-- the place of a base among timers and bases, which are numbered on behind the timers
+abbrev pub base_place : ℕ → ℕ → ℕ
+base_place timers b = timers + b
+
 -- the number in a timer's word
 unfoldable pub number_of : Timer → ℕ
 number_of t = packed (peek_of t)
 
 module _ (bases : ℕ) (opened : List Timer) (code : Timer → ℕ) where
-  abbrev pub now : List TimerEntry → System
+  abbrev pub now : List SystemEntry → System
   now log = system_after opened log
 
   -- what a pass holds is what the base has, by the whole history and by what the pass has seen
-  pub record HeldHolds (log : List TimerEntry) (words : List ℕ) (v : BaseView BaseContent) (h : HeldContent BaseContent) : Type 0 where
+  pub record HeldHolds (log : List SystemEntry) (words : List ℕ) (v : BaseView BaseContent) (h : HeldContent BaseContent) : Type 0 where
     pub within : h.base < bases
     pub seen : h.content ≡ (now v.seen).bases h.base
     pub whole : h.content ≡ (now log).bases h.base
@@ -84,7 +97,7 @@ module _ (bases : ℕ) (opened : List Timer) (code : Timer → ℕ) where
     pub number : h.word ≡ slice_index v.met h.base
 
   -- what a pass knows is true
-  pub record PassHolds (log : List TimerEntry) (words : List ℕ) (v : BaseView BaseContent) : Type 0 where
+  pub record PassHolds (log : List SystemEntry) (words : List ℕ) (v : BaseView BaseContent) : Type 0 where
     -- it has seen a beginning of the history
     pub seen : Begins v.seen log
     pub heard : Begins v.heard log
@@ -96,22 +109,29 @@ module _ (bases : ℕ) (opened : List Timer) (code : Timer → ℕ) where
     pub full : v.id.live ≡ true → length v.met ≡ bases
     pub met : (b : ℕ) → b < bases → slice_index v.met b ≤ slice_index words (lock_at b)
     pub takes : (b k : ℕ) → 0 < takes_at b k v → k + k ≤ slice_index v.met b + holds_at b v
+    -- the first pass has seen all that happened to bases
+    pub first : v.id.live ≡ true → v.id.name ≡ [] → (b : ℕ) → shifts_of b v.seen ≡ shifts_of b log
     -- of a pass that is gone nothing is left
     pub gone : v.id.live ≡ false → (v.mine ≡ []) × ((v.claims ≡ []) × ((v.takes ≡ []) × (v.carry ≡ None)))
 
   -- The rule: what the table holds and what each pass knows is what one history says.
-  pub record RowHolds (log : List TimerEntry) (s : State (Option BaseContent) (BaseView BaseContent)) : Type 0 where
+  pub record RowHolds (log : List SystemEntry) (s : State (Option BaseContent) (BaseView BaseContent)) : Type 0 where
     pub allowed : AreSystemSteps bases (length opened) (first_system opened) log
-    pub words_len : length s.words ≡ word_at bases (length opened)
+    pub words_len : length s.words ≡ word_at bases (length opened + bases)
     pub homes_len : length s.homes ≡ bases
     pub each_base : (b : ℕ) → b < bases → LockState ((now log).bases b) (get_elem? s.homes b) (slice_index s.words (lock_at b))
         (total (holds_at b) s.views) (λ k. total (takes_at b k) s.views)
     -- a timer's word is that of its state after the history
     pub each_timer : (t : ℕ) → t < length opened → slice_index s.words (word_at bases t) ≡ code ((now log).timers t)
+    -- and a base's that of its standing
+    pub each_standing : (b : ℕ) → b < bases
+        → slice_index s.words (word_at bases (base_place (length opened) b)) ≡ standing_number ((now log).bases b).standing
     pub each_view : (j : ℕ) (v : BaseView BaseContent) → get_elem? s.views j ≡ some v → PassHolds log s.words v
     pub tree : IsPassTree (map base_pass_id s.views)
     -- each entry is one pass's own, once
     pub tally : (t k : ℕ) → t < length opened → total (places_at t k) s.views ≡ one_if (within k ((now log).timers t).stamp)
+    pub shifts : (b k : ℕ) → b < bases
+        → total (places_at (base_place (length opened) b) k) s.views ≡ one_if (within k ((now log).bases b).standing.stamp)
     -- a function runs where one pass has the claim, once
     pub claims : (t g b : ℕ) → t < length opened → total (base_claims_at t g b) s.views ≡ one_if (runs g b ((now log).timers t))
     -- a timer is on the move where one pass carries it
@@ -119,4 +139,4 @@ module _ (bases : ℕ) (opened : List Timer) (code : Timer → ℕ) where
 
   -- there is one history of all timers that says it all
   abbrev pub HasOneHistory : State (Option BaseContent) (BaseView BaseContent) → Type 0
-  HasOneHistory s = (log : List TimerEntry) × RowHolds log s
+  HasOneHistory s = (log : List SystemEntry) × RowHolds log s

@@ -6,7 +6,7 @@ ghost use Rattle.seq_timer.specs.Systems.{BaseContent, IsOn};
 ghost use Rattle.seq_timer.specs.Tables.{timer_at};
 ghost use Rattle.base_row.specs.declared.view.HeldContent.{HeldContent};
 ghost use Rattle.base_row.specs.Plays.{carry_after};
-ghost use Rattle.base_row.specs.Calls.{IsBasePassOf, MayAppend, Appended, own_receipt, stepped, timer_seen};
+ghost use Rattle.base_row.specs.Calls.{IsBasePassOf, IsStart, MayAppend, Appended, own_receipt, stepped, timer_seen};
 
 use crate::held::{HeldBase, Pass};
 use crate::log::{ReceiptSink, Unlogged};
@@ -98,7 +98,60 @@ impl BaseRow {
         *held.state(timer)
     }
 
-    /// Starts a timer that the pass carries, on the held base, to which it was sent. `state` is its state as `out` gave it.
+    /// Sends a timer on that the pass carries, from the held base, to which it was sent, to another (`switch_hrtimer_base`). `state` is its
+    /// state as `out` or `out_again` gave it.
+    pub fn out_again(
+        &self,
+        pass: &mut Pass,
+        held: &mut HeldBase,
+        timer: u32,
+        state: TimerState,
+        to: u32,
+    ) -> TimerState
+        requires row { IsBasePassOf self.now pass.old }
+        requires may { MayAppend self.now.about pass.old.knows held.old timer (events.Out to) }
+        requires state { state ≡ timer_seen self.now.about pass.old.knows timer }
+        ensures row { IsBasePassOf self.now pass.new }
+        ensures held { pass.new.knows.held ≡ Some held.new }
+        ensures adds { Appended self.now.about held.old timer (events.Out to) pass.old.knows pass.new.knows }
+        ensures state { result ≡ timer_seen self.now.about pass.new.knows timer }
+        ensures after { result ≡ after (timer_seen self.now.about pass.old.knows timer) (events.Out to) }
+    {
+        self.out_again_logged(pass, &mut Unlogged, held, timer, &state, to)
+    }
+
+    /// The same, with a receipt into a sink.
+    pub fn out_again_logged<S: ReceiptSink>(
+        &self,
+        pass: &mut Pass,
+        sink: &mut S,
+        held: &mut HeldBase,
+        timer: u32,
+        state: &TimerState,
+        to: u32,
+    ) -> TimerState
+        requires row { IsBasePassOf self.now pass.old }
+        requires may { MayAppend self.now.about pass.old.knows held.old timer (events.Out to) }
+        requires state { state.now ≡ timer_seen self.now.about pass.old.knows timer }
+        requires room { 0 < S.room sink.old }
+        ensures row { IsBasePassOf self.now pass.new }
+        ensures held { pass.new.knows.held ≡ Some held.new }
+        ensures adds { Appended self.now.about held.old timer (events.Out to) pass.old.knows pass.new.knows }
+        ensures state { result ≡ timer_seen self.now.about pass.new.knows timer }
+        ensures after { result ≡ after (timer_seen self.now.about pass.old.knows timer) (events.Out to) }
+        ensures logged { sink.new ≡ S.pushed sink.old (own_receipt self.now.about pass.old.knows timer (events.Out to)) }
+        ensures room { S.room sink.old ≤ S.room sink.new + 1 }
+    {
+        pass.known();
+        self.fresh();
+        state.bounded();
+        let event = Event::Out { base: to };
+        let reply = self.step_in(pass, held, timer, state, &event);
+        self.note_entry(pass, sink, held, timer, &event, reply);
+        *held.state(timer)
+    }
+
+    /// Starts a timer that the pass carries, on the held base, to which it was sent. `state` is its state as `out` or `out_again` gave it.
     pub fn arrive(
         &self,
         pass: &mut Pass,
@@ -111,6 +164,7 @@ impl BaseRow {
         requires may { MayAppend self.now.about pass.old.knows held.old timer event }
         requires carried { pass.old.knows.carry ≡ Some timer }
         requires state { state ≡ timer_seen self.now.about pass.old.knows timer }
+        requires start { IsStart event }
         ensures row { IsBasePassOf self.now pass.new }
         ensures reply { result ≡ reply_to (timer_seen self.now.about pass.old.knows timer) event }
         ensures held { pass.new.knows.held ≡ Some held.new }
@@ -134,6 +188,7 @@ impl BaseRow {
         requires may { MayAppend self.now.about pass.old.knows held.old timer event.now }
         requires carried { pass.old.knows.carry ≡ Some timer }
         requires state { state.now ≡ timer_seen self.now.about pass.old.knows timer }
+        requires start { IsStart event.now }
         requires room { 0 < S.room sink.old }
         ensures row { IsBasePassOf self.now pass.new }
         ensures reply { result ≡ reply_to (timer_seen self.now.about pass.old.knows timer) event.now }

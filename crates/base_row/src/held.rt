@@ -1,16 +1,17 @@
 //! What a caller holds: a pass, and a base whose lock it has.
 ghost use Rattle.std.specs.Prelude.{◌≡◌, ◌<◌, length};
 ghost use Rattle.seq_timer.specs.Bases.{IsQueuedAs};
-ghost use Rattle.seq_timer.specs.Contents.{running_in};
+ghost use Rattle.seq_timer.specs.Contents.{front_of, running_in};
+ghost use Rattle.seq_timer.specs.Standings.{standing_after};
 ghost use Rattle.seq_timer.specs.Steps.{Needs, reply_to};
-ghost use Rattle.seq_timer.specs.Systems.{changed, next_on};
+ghost use Rattle.seq_timer.specs.Systems.{changed, next_on, shifted};
 ghost use Rattle.seq_timer.specs.Tables.{timer_at};
 ghost use Rattle.base_row.specs.Plays.{IsResting, KnowsOwn, carried_slots};
 
 use crate::slot::BaseSlot;
 use crate::steps::BaseSeat;
 use ktime::Reading;
-use seq_timer::{Context, Event, Reply, TimerState};
+use seq_timer::{BaseEvent, Context, Event, Reply, Standing, TimerState};
 use std::marker::Model;
 
 /// The right to call a row, with what its holder knows. It has no bytes and can't be dropped.
@@ -88,6 +89,20 @@ impl HeldBase {
         self.slot.running(context)
     }
 
+    /// The first timer of the first queue that isn't empty, with its expiry.
+    pub fn front(&self) -> Option<(u64, u32)>
+        ensures { result ≡ front_of self.now.content.content }
+    {
+        self.slot.front()
+    }
+
+    /// Whether the base is on line.
+    pub fn standing(&self) -> Standing
+        ensures { result ≡ self.now.content.standing }
+    {
+        self.slot.standing()
+    }
+
     /// A timer as it was when it was last on the base.
     pub fn state(&self, timer: u32) -> &TimerState
         requires { timer < length self.now.content.states }
@@ -105,6 +120,14 @@ impl HeldBase {
         ensures reply { result ≡ reply_to (timer_at self.old.content.states timer) event.now }
     {
         self.slot.apply(timer, event)
+    }
+
+    /// Takes the base off line, or on line again.
+    pub(crate) fn shift(&mut self, now: Standing, event: &BaseEvent)
+        requires { now ≡ standing_after self.old.content.standing event.now }
+        ensures { self.new ≡ record self.old { content = shifted event.now self.old.content } }
+    {
+        self.slot.shift(now, event);
     }
 
     /// Makes one entry of a timer that comes to the base in this state.

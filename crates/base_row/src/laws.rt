@@ -6,7 +6,7 @@ ghost use Rattle.atomic_table.specs.Table.{State};
 ghost use Rattle.pass_names.specs.SharedHistory.{ExtendsBy, LooksOn, MeetWith, TakesIn};
 ghost use Rattle.seq_timer.specs.Events.{Event};
 ghost use Rattle.seq_timer.specs.Steps.{Timer};
-ghost use Rattle.seq_timer.specs.declared.system.TimerEntry as entry;
+ghost use Rattle.seq_timer.specs.declared.system.SystemEntry as entry;
 ghost use Rattle.seq_timer.specs.Systems.{BaseContent, IsOn, entries_of};
 ghost use Rattle.base_row.specs.declared.view.HeldContent as locked;
 ghost use Rattle.base_row.specs.declared.view.Opening as opening;
@@ -39,7 +39,7 @@ pub fn passes_tell_what_they_saw()
 
 /// What a pass that holds a base has seen of the timers on it, and of the one that it carries, is all that has happened to them.
 pub fn a_holder_has_seen_all_of_its_timers()
-    ensures { (bases : ℕ) (opened : List Timer) (log : List entry.TimerEntry) (s : State (Option BaseContent) (view.BaseView BaseContent))
+    ensures { (bases : ℕ) (opened : List Timer) (log : List entry.SystemEntry) (s : State (Option BaseContent) (view.BaseView BaseContent))
         → RowHolds bases opened number_of log s → (j : ℕ) (v : view.BaseView BaseContent) → get_elem? s.views j ≡ some v
         → (h : locked.HeldContent BaseContent) → v.held ≡ Some h → (t : ℕ) → t < length opened
         → (IsOn h.base ((now bases opened number_of v.seen).timers t) ⊎ (v.carry ≡ Some t)) → entries_of t log ≡ entries_of t v.seen }

@@ -11,6 +11,7 @@ mod plays;
 mod row;
 mod slot;
 mod slots;
+mod standings;
 mod steps;
 mod view;
 

@@ -146,7 +146,7 @@ pub struct Unlogged;
 impl ReceiptSink for Unlogged {
     ghost pushed = { λ s receipt. s };
 
-    ghost room = { λ s. 2 };
+    ghost room = { λ s. 8589934592 };
 
     fn note(&mut self, timer: u32, number: u64, event: Event, reply: Reply) {
         let _ = (timer, number, event, reply);

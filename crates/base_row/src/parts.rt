@@ -1,16 +1,21 @@
 //! What a row's table is made of.
 ghost use Rattle.base_row.specs.Places.{lock_at, word_at};
-ghost use Rattle.std.specs.Prelude.{◌≡◌, ◌<◌, ◌≤◌, ◌^◌, Some, IfOk, length, replicate};
-ghost use Rattle.base_row.specs.Rules.{number_of};
+ghost use Rattle.std.specs.Prelude.{◌≡◌, ◌<◌, ◌≤◌, ◌^◌, Some, IfOk, IfSome, length, replicate};
+ghost use Rattle.base_row.specs.Rules.{number_of, standing_number};
+ghost use Rattle.seq_timer.specs.declared.standing.Standing as standings;
 ghost use Rattle.seq_timer.specs.Systems.{no_base};
-ghost use Rattle.seq_timer.specs.Systems.{openings};
-ghost use Rattle.seq_timer.specs.Steps.{greatest_limit};
 
 use crate::cell::BaseCell;
 use crate::slot::BaseSlot;
-use seq_timer::TimerState;
+use seq_timer::{Standing, TimerState};
 use std::alloc::{AllocError, Global};
 use timer_word::{pack, word_of};
+
+/// The place of the heir in a base's word.
+const HEIR: u64 = 65536;
+
+/// A base's number from which it is off line.
+const OFF_LINE: u64 = 16777216;
 
 /// The number in a timer's word.
 #[tactic(auto, unfolding(crate::specs::Rules::number_of))]
@@ -35,6 +40,30 @@ pub fn timer_index(bases: usize, timer: usize) -> usize
     ensures { result ≡ word_at bases timer }
 {
     16 * bases + 16 + 16 * timer
+}
+
+/// The number in a base's word.
+#[tactic(auto, unfolding(crate::specs::Rules::standing_number))]
+pub fn pack_standing(standing: &Standing) -> u64
+    requires few { standing.now.stamp < 65536 }
+    ensures { result ≡ standing_number standing.now }
+{
+    match standing.heir {
+        Some(heir) => standing.stamp + (u64::from(heir) * HEIR + OFF_LINE),
+        None => standing.stamp,
+    }
+}
+
+/// What the number in a base's word says.
+#[tactic(auto, unfolding(crate::specs::Rules::standing_number))]
+pub fn unpack_standing(number: u64) -> Standing
+    ensures { (s : standings.Standing) → s.stamp < 65536 → IfSome s.heir (λ h. h < 256) → standing_number s ≡ number → result ≡ s }
+{
+    let heir = (number / HEIR % 256) as u32;
+    Standing {
+        stamp: number % HEIR,
+        heir: if number < OFF_LINE { None } else { Some(heir) },
+    }
 }
 
 /// So many words, each 0.

@@ -46,6 +46,30 @@ impl<K: EventPick> Play<BaseCell, SlotView> for Enter<K> {
     ghost then = { λ st m stored w. EntersBy K.event st m w };
 }
 
+/// Which event an entry of a base has. Each such entry picks it.
+pub trait BaseEventPick {
+    ghost use Rattle.seq_timer.specs.declared.standing.BaseEvent.{BaseEvent};
+
+    ghost event: { BaseEvent };
+}
+
+impl BaseEventPick for Brand {
+    ghost use Rattle.seq_timer.specs.declared.standing.BaseEvent.TheVariants.{Online};
+
+    ghost event = { Online };
+}
+
+/// The store of a base's word.
+pub struct Shift<K: BaseEventPick> {
+    of: PhantomData<K>,
+}
+
+impl<K: BaseEventPick> Play<BaseCell, SlotView> for Shift<K> {
+    ghost use Rattle.base_row.specs.Plays.{ShiftsBy};
+
+    ghost then = { λ st m stored w. ShiftsBy K.event st m w };
+}
+
 /// A load of word 0 or of a timer's word.
 pub struct Look;
 

@@ -5,7 +5,7 @@ ghost use Rattle.pass_names.specs.Names.{AnswersFor, IsLast};
 ghost use Rattle.base_row.specs.Rules.{number_of};
 ghost use Rattle.seq_timer.specs.declared.event.EventBy.TheVariants as events;
 ghost use Rattle.seq_timer.specs.Histories.{peek_of};
-ghost use Rattle.seq_timer.specs.Steps.{after, greatest_limit, reply_to};
+ghost use Rattle.seq_timer.specs.Steps.{HasRoom, after, reply_to};
 ghost use Rattle.seq_timer.specs.Tables.{IsNextDue, IsStopped, in_context, runs_on};
 ghost use Rattle.seq_timer.specs.Contents.{running_in};
 ghost use Rattle.seq_timer.specs.Halves.{running_on};
@@ -36,7 +36,8 @@ use timer_word::unpack;
 #[derive(Drop)]
 pub struct BaseRow {
     pub(crate) table: Table<BaseCell, SlotView, About, BaseRule, Global>,
-    bases: usize,
+    pub(crate) bases: usize,
+    pub(crate) timers: usize,
 }
 
 impl Model for BaseRow {
@@ -48,8 +49,11 @@ impl Model for BaseRow {
 
     ghost view = { λ r. record { id = r.table.shared.table_id; about = record { bases = r.table.shared.key.0; timers = r.table.shared.key.1.value.items } } };
 
-    ghost invariant = { λ r. (r.table.shared.table_id.words ≡ word_at r.table.shared.key.0 (length r.table.shared.key.1.value.items))
-        × (r.table.shared.table_id.slots ≡ r.table.shared.key.0) × (r.bases ≡ r.table.shared.key.0) × (AreFresh r.table.shared.key.1.value.items)
+    ghost invariant = { λ r. (r.table.shared.table_id.words
+        ≡ word_at r.table.shared.key.0 (length r.table.shared.key.1.value.items + r.table.shared.key.0))
+        × (r.table.shared.table_id.slots ≡ r.table.shared.key.0) × (r.bases ≡ r.table.shared.key.0)
+        × (r.timers ≡ length r.table.shared.key.1.value.items)
+        × (length r.table.shared.key.1.value.items ≤ 65536) × (AreFresh r.table.shared.key.1.value.items)
         × (0 < r.table.shared.key.0) × (r.table.shared.key.0 ≤ 256) };
 }
 
@@ -63,7 +67,8 @@ impl BaseRow {
         terms: Terms,
     ) -> Result<(BaseRow, Pass), AllocError>
         requires few { (0 < bases) × (bases ≤ 256) × (length timers.now ≤ 65536) }
-        requires limit { (0 < terms.limit) × (terms.limit ≤ greatest_limit) }
+        requires limit { 0 < terms.limit }
+        requires room { HasRoom terms }
         ensures row { IfOk result (λ r. IsBasePassOf r.0 r.1) }
         ensures about { IfOk result (λ r. r.0.about ≡ opening_of bases timers.now terms) }
         ensures first { IfOk result (λ r. r.1.knows ≡ first_base_view (opening_of bases timers.now terms)) }
@@ -84,13 +89,15 @@ impl BaseRow {
         ensures first { IfOk result (λ r. r.1.knows ≡ first_base_view (record { bases = bases; timers = timers.items })) }
     {
         let about = (u64::from(bases), Snapshot::of(&timers));
-        let words = zeros(alloc, timer_index(bases as usize, timers.len()))?;
+        let count = timers.len();
+        let words = zeros(alloc, timer_index(bases as usize, count + bases as usize))?;
         let slots = empty_slots(alloc, bases, timers.as_slice())?;
         match Table::new(alloc, words.as_slice(), slots, &about) {
             Ok((table, seat)) => Ok((
                 BaseRow {
                     table,
                     bases: bases as usize,
+                    timers: count,
                 },
                 Pass { seat },
             )),

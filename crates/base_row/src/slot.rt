@@ -1,13 +1,14 @@
 //! What a base's slot has.
 ghost use Rattle.std.specs.Prelude.{◌≡◌, ◌<◌, ◌^◌, length, IfOk};
 ghost use Rattle.seq_timer.specs.Steps.{Needs, reply_to};
+ghost use Rattle.seq_timer.specs.Standings.{standing_after};
 ghost use Rattle.seq_timer.specs.Tables.{timer_at};
-ghost use Rattle.seq_timer.specs.Contents.{running_in};
+ghost use Rattle.seq_timer.specs.Contents.{front_of, running_in};
 ghost use Rattle.seq_timer.specs.Bases.{IsQueuedAs};
-ghost use Rattle.seq_timer.specs.Systems.{changed, next_on, no_base};
+ghost use Rattle.seq_timer.specs.Systems.{changed, next_on, no_base, shifted};
 
 use ktime::Reading;
-use seq_timer::{Base, Context, Event, Reply, TimerState};
+use seq_timer::{Base, BaseEvent, Context, Event, Reply, Standing, TimerState};
 use std::alloc::{AllocError, Global};
 use std::marker::Model;
 use timer_tree::TimerTree;
@@ -17,6 +18,7 @@ use timer_tree::TimerTree;
 struct Parts {
     base: Base<TimerTree>,
     states: Vec<TimerState>,
+    standing: Standing,
     apart: [u64; 16],
 }
 
@@ -32,7 +34,7 @@ impl Model for BaseSlot {
 
     ghost Value = { BaseContent };
 
-    ghost view = { λ s. record { content = s.parts.value.base.content; states = s.parts.value.states.items } };
+    ghost view = { λ s. record { content = s.parts.value.base.content; states = s.parts.value.states.items; standing = s.parts.value.standing } };
 
     ghost invariant = { λ s. s.parts.value.base.room ≡ length s.parts.value.states.items };
 }
@@ -49,6 +51,10 @@ impl BaseSlot {
         let parts = Parts {
             base,
             states,
+            standing: Standing {
+                stamp: 0,
+                heir: None,
+            },
             apart: [0; 16],
         };
         let parts = Box::new(alloc, parts)?;
@@ -76,6 +82,28 @@ impl BaseSlot {
     {
         let parts = &*self.parts;
         parts.base.first(context, &parts.states, reading)
+    }
+
+    /// The first timer of the first queue that isn't empty.
+    pub fn front(&self) -> Option<(u64, u32)>
+        ensures { result ≡ front_of self.now.content }
+    {
+        self.parts.base.front()
+    }
+
+    /// Whether the base is on line.
+    pub fn standing(&self) -> Standing
+        ensures { result ≡ self.now.standing }
+    {
+        self.parts.standing
+    }
+
+    /// Takes the base off line, or on line again.
+    pub fn shift(&mut self, now: Standing, event: &BaseEvent)
+        requires { now ≡ standing_after self.old.standing event.now }
+        ensures { self.new ≡ shifted event.now self.old }
+    {
+        self.parts.standing = now;
     }
 
     /// Makes one entry of a timer that is on this base.

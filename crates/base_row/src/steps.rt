@@ -1,22 +1,25 @@
 //! Single steps on the table, each for a seat whose view the caller knows.
 ghost use Rattle.base_row.specs.Places.{lock_at, word_at};
-ghost use Rattle.std.specs.Prelude.{◌≡◌, ℕ, ◌+◌, ◌-◌, ◌^◌, ◌%◌, ◌<◌, true, Some, None, [], ◌∷◌, slice_index, MatchBool};
+ghost use Rattle.std.specs.Prelude.{◌≡◌, ℕ, ◌+◌, ◌-◌, ◌^◌, ◌%◌, ◌<◌, true, Some, None, [], ◌∷◌, slice_index, length, MatchBool};
 ghost use mathlib.Core.Option.{none};
 ghost use Rattle.atomic_table.specs.Table.{step};
 ghost use Rattle.pass_names.specs.Names.{AnswersFor};
 ghost use Rattle.seq_timer.specs.Steps.{after};
-ghost use Rattle.base_row.specs.Rules.{number_of};
+ghost use Rattle.base_row.specs.Rules.{base_place, number_of, standing_number};
+ghost use Rattle.seq_timer.specs.Standings.{standing_after};
 ghost use Rattle.seq_timer.specs.Systems.{BaseContent};
 ghost use Rattle.base_row.specs.declared.view.HeldContent.{HeldContent};
-ghost use Rattle.base_row.specs.Plays.{MayEnter, OwnNeeds, EntersAs, MayMeetLock, Met, TookBase, FoundTaken, LooksOwn, FreesOwn, KnowsBases, entry_of_event, seen_timer};
+ghost use Rattle.base_row.specs.Plays.{MayEnter, MayEnterShift, EnteredShift, OwnNeeds, EntersAs};
+ghost use Rattle.base_row.specs.Plays.{MayMeetLock, Met, TookBase, FoundTaken, LooksOwn, FreesOwn, KnowsBases, entry_of_event, seen_timer};
 ghost use Rattle.base_row.specs.Calls.{LearnsFrom, Absorbs};
 
 use crate::cell::BaseCell;
 use crate::plays::{
-    About, BaseRule, Child, Enter, EventPick, Free, Look, Meet, Note, SlotView, Take,
+    About, BaseEventPick, BaseRule, Child, Enter, EventPick, Free, Look, Meet, Note, Shift,
+    SlotView, Take,
 };
 use atomic_table::{Seat, Shared};
-use seq_timer::Event;
+use seq_timer::{BaseEvent, Event};
 
 pub type BaseCells = Shared<BaseCell, SlotView, About, BaseRule>;
 
@@ -45,6 +48,28 @@ pub fn enter<K: EventPick>(
         → EntersAs cells.now.key.0 cells.now.key.1.value.items number_of h timer event.now seat.old.me seat.new.me }
 {
     cells.store::<Enter<K>>(seat, word, stamp)
+}
+
+/// Stores a base's new word, which adds one entry.
+pub fn enter_shift<K: BaseEventPick>(
+    cells: &BaseCells,
+    seat: &mut BaseSeat,
+    word: usize,
+    stamp: u64,
+    event: &BaseEvent,
+)
+    requires same { seat.old.table_id ≡ cells.now.table_id }
+    requires about { seat.old.me.0.opening ≡ record { bases = cells.now.key.0; timers = cells.now.key.1.value.items } }
+    requires live { seat.old.me.0.id.live ≡ true }
+    requires asked { K.event ≡ event.now }
+    requires may { (h : HeldContent BaseContent) × MayEnterShift seat.old.me.0 h event.now
+        × (word ≡ word_at cells.now.key.0 (base_place (length cells.now.key.1.value.items) h.base)) × (word < cells.now.table_id.words)
+        × (stamp ≡ standing_number (standing_after h.content.standing event.now)) }
+    ensures same { seat.new.table_id ≡ seat.old.table_id }
+    ensures shifted { (h : HeldContent BaseContent) → seat.old.me.0.held ≡ Some h
+        → EnteredShift cells.now.key.0 cells.now.key.1.value.items number_of h event.now seat.old.me seat.new.me }
+{
+    cells.store::<Shift<K>>(seat, word, stamp)
 }
 
 /// Loads a timer's word, or word 0. The seat has then seen the whole history so far.

@@ -1,6 +1,6 @@
 //! What passes of a row know, as plain data.
 use pass_names::PassId;
-use seq_timer::{TimerEntry, TimerState};
+use seq_timer::{SystemEntry, TimerState};
 use std::collections::LinkedList;
 
 /// A claim that a pass has: a timer, the generation that runs, and the base. No value of it is made.
@@ -28,11 +28,11 @@ pub struct Opening {
 pub struct BaseView<B> {
     pub id: PassId,
     pub opening: Opening,
-    /// The beginning of the history of all timers that was seen.
-    pub seen: LinkedList<TimerEntry>,
+    /// The beginning of the history of all timers and bases that was seen.
+    pub seen: LinkedList<SystemEntry>,
     /// What a pass that was taken in had seen, until this pass looks again.
-    pub heard: LinkedList<TimerEntry>,
-    /// The places of the pass's own entries: a timer, and the entry's number among the timer's.
+    pub heard: LinkedList<SystemEntry>,
+    /// The places of the pass's own entries: a timer, and the entry's number among the timer's. Bases are numbered on behind the timers.
     pub mine: LinkedList<(u64, u64)>,
     pub claims: LinkedList<Claimed>,
     pub held: Option<HeldContent<B>>,

@@ -1,6 +1,7 @@
 //! A row whose timers stand where the threads need them.
 ghost use Rattle.std.specs.Prelude.{◌≡◌, ◌*◌, ◌^◌, ◌<◌, ◌≤◌, length, Some, None, true, []};
 ghost use Rattle.base_row.specs.Calls.{IsBasePassOf, timer_seen};
+ghost use Rattle.shared_timer_uses.specs.Rows.{HasNoReach};
 ghost use Rattle.base_row_bench.specs.Working.{IsReady};
 
 use crate::turns::{start, start_and_cancel, start_event};
@@ -13,6 +14,7 @@ use std::sync::Wait;
 fn send<R: Wait>(rt: &R, row: &BaseRow, pass: &mut Pass, timer: u32, to: u32, ns: u64)
     requires ready { IsReady row.now pass.old }
     requires within { (timer < length row.now.about.timers) × (0 < to) × (to < row.now.about.bases) }
+    requires near { HasNoReach row.now.about }
     ensures ready { IsReady row.now pass.new }
     ensures id { pass.new.knows.id ≡ pass.old.knows.id }
 {
@@ -39,11 +41,14 @@ fn bring<R: Wait>(rt: &R, row: &BaseRow, pass: &mut Pass, timer: u32, state: Tim
     requires state { state ≡ timer_seen row.now.about pass.old.knows timer }
     requires moving { state.moving ≡ true }
     requires unclaimed { pass.old.knows.claims ≡ [] }
+    requires near { HasNoReach row.now.about }
     ensures ready { IsReady row.now pass.new }
     ensures id { pass.new.knows.id ≡ pass.old.knows.id }
 {
     let to = state.base();
     let mut held = row.lock_base(rt, pass, to);
+    row.standing(pass, &held);
+    pass.known();
     row.arrive(pass, &mut held, timer, state, start_event(to, ns));
     row.unlock_base(pass, held);
 }
@@ -52,6 +57,7 @@ fn bring<R: Wait>(rt: &R, row: &BaseRow, pass: &mut Pass, timer: u32, state: Tim
 fn place<R: Wait>(rt: &R, row: &BaseRow, pass: &mut Pass, timer: u32, base: u32, ns: u64)
     requires ready { IsReady row.now pass.old }
     requires within { (timer < length row.now.about.timers) × (base < row.now.about.bases) }
+    requires near { HasNoReach row.now.about }
     ensures ready { IsReady row.now pass.new }
     ensures id { pass.new.knows.id ≡ pass.old.knows.id }
 {
@@ -70,6 +76,7 @@ pub fn fill<R: Wait>(rt: &R, row: &BaseRow, pass: &mut Pass, timers: u32, second
     requires ready { IsReady row.now pass.old }
     requires size { (row.now.about.bases ≡ 2) × (4 * timers ≡ length row.now.about.timers) }
     requires few { (timers < 2 ^ 16) × (second < 2) }
+    requires near { HasNoReach row.now.about }
     ensures ready { IsReady row.now pass.new }
     ensures id { pass.new.knows.id ≡ pass.old.knows.id }
 {

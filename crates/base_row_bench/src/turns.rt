@@ -32,6 +32,7 @@ pub fn start_event(base: u32, ns: u64) -> Event
 }
 
 /// Starts a timer of a held base, and answers how many entries that made.
+#[tactic(auto, using(shared_timer_uses::proofs::Near::may_start_here))]
 pub fn start(row: &BaseRow, pass: &mut Pass, held: &mut HeldBase, timer: u32, ns: u64) -> u64
     requires holds { HoldsOneBase row.now pass.old held.old }
     requires within { timer < length row.now.about.timers }
@@ -43,8 +44,14 @@ pub fn start(row: &BaseRow, pass: &mut Pass, held: &mut HeldBase, timer: u32, ns
     if state.base() != base || state.is_moving() || state.stamp() >= state.limit() {
         return 0;
     }
-    row.append(pass, held, timer, start_event(base, ns));
-    1
+    pass.known();
+    match row.standing(pass, held).heir {
+        Some(_) => 0,
+        None => {
+            row.append(pass, held, timer, start_event(base, ns));
+            1
+        }
+    }
 }
 
 /// Cancels a timer that is armed on a held base, and answers how many entries that made.

@@ -4,7 +4,9 @@
 mod cases;
 mod figures;
 mod random;
+mod times;
 
 pub use cases::{Task, Workers};
 pub use figures::{Figure, Least};
 pub use random::Random;
+pub use times::Times;

@@ -24,7 +24,7 @@ use Rattle.hr_timers.specs.Logged.{ClaimsLogged, FinishesLogged}
 use Rattle.base_row.specs.Logs.{LogOf, kept}
 use Rattle.seq_timer.specs.Steps.{restarted_by}
 use Rattle.seq_timer.specs.Histories as seq
-use Rattle.seq_timer.specs.declared.system.TimerEntry.{TimerEntry}
+use Rattle.seq_timer.specs.declared.system.SystemEntry.{SystemEntry}
 use Rattle.seq_timer.specs.Systems.{entries_of}
 use Rattle.base_row.specs.declared.log.Noted.TheVariants as noteds
 use Rattle.base_row.specs.declared.log.Receipt.{Receipt}
@@ -65,7 +65,7 @@ taken_off p (y ∷ ys) x none is = at (p y) refl (taken_off p ys x (omega (arith
 pub keeps_trans : (u v w : KnownOfTimers) → KeepsPass u v → KeepsPass v w → KeepsPass u w
 keeps_trans u v w a b = record { id = b.id ∙ a.id; claims = b.claims ∙ a.claims; seen = begins_trans a.seen b.seen; mine = begins_trans a.mine b.mine }
 
-mine_begins : (v w : KnownOfTimers) (t : ℕ) (x : List TimerEntry) (es : List seq.Entry) → MadeAt v w t x es → Begins v.mine w.mine
+mine_begins : (v w : KnownOfTimers) (t : ℕ) (x : List SystemEntry) (es : List seq.Entry) → MadeAt v w t x es → Begins v.mine w.mine
 mine_begins v w t x es made = record { rest = places t (length (entries_of t x)) es; whole = made.mine }
 
 -- a claim, its function and its finish leave the pass's name and claims
@@ -110,7 +110,7 @@ finish_noted o v w c restart f log log' l =
 -- ---- cancel
 
 -- looks, and then a call that made no entry
-pub looks_then : (k v w : KnownOfTimers) (t : ℕ) (x : List TimerEntry) → LooksOn k v → MadeAt v w t x [] → w.claims ≡ v.claims → LooksOn k w
+pub looks_then : (k v w : KnownOfTimers) (t : ℕ) (x : List SystemEntry) → LooksOn k v → MadeAt v w t x [] → w.claims ≡ v.claims → LooksOn k w
 looks_then k v w t x first made claims = record {
   seen = begins_trans first.seen (begins_trans made.from made.seen);
   mine = made.mine ∙ (append-nil v.mine ∙ first.mine);

@@ -10,7 +10,7 @@ use Rattle.seq_timer.specs.declared.answer.CancelAnswer.TheVariants as cancels
 use Rattle.seq_timer.specs.declared.answer.ForwardAnswer.{ForwardAnswer}
 use Rattle.seq_timer.specs.declared.answer.ForwardAnswer.TheVariants as forwards
 use Rattle.seq_timer.specs.declared.answer.Finished.{Finished}
-use Rattle.seq_timer.specs.Calls.{start_events}
+use Rattle.hr_timers.specs.Ways.{start_on}
 use Rattle.base_row.specs.declared.view.Opening.{Opening}
 use Rattle.hr_timers.specs.declared.answer.StartAnswer.{StartAnswer}
 use Rattle.hr_timers.specs.declared.answer.StartAnswer.TheVariants as starts
@@ -27,10 +27,10 @@ generation_told was now e = ap start_number e
 module _ (o : Opening) (v w : KnownOfTimers) (t : ℕ) where
   pub start_tells : (asked : Asked) (a : StartAnswer) → StartsTimer o v w t asked a
       → start_number a ≡ (timer_then o w.seen t).stamp
-  start_tells asked (starts.Started was_armed generation outs placement) s =
+  start_tells asked (starts.Started was_armed generation base outs placement) s =
       let u = timer_then o s.at t in
       generation_told _ _ s.fits.2
-      ∙ sym (ap (λ (x : Timer). x.stamp) (timer_after o v w t s.at _ s.made ∙ along u (start_events u asked)))
+      ∙ sym (ap (λ (x : Timer). x.stamp) (timer_after o v w t s.at _ s.made ∙ along u (start_on asked s.sent s.last)))
   start_tells asked (starts.Spent n) s = omega (arith, s.fits.2, stamp_made o v w t s.at [] s.made)
 
   pub cancel_tells : (a : CancelAnswer) → Cancels o v w t a → cancel_number a ≡ (timer_then o w.seen t).stamp

@@ -37,9 +37,12 @@ module _ (o : Opening) (v : BaseView BaseContent) (knows : KnowsBases o.bases o.
       (subst (λ (t : Timer). runs_on h.base t ≡ false) same (idle timer))
 
   fits_here : FitsBase o.bases (base_seen o v h.base) timer (timer_seen o v timer) (events.Claim h.base reading)
-  fits_here = subst (λ y. (running_in y (base_seen o v h.base).content ≡ None)
-      × (next_on y (base_seen o v h.base) reading ≡ Some ((timer_seen o v timer).expires, timer))) (sym own)
-      (subst (λ (b : BaseContent). running_in x b.content ≡ None) (knows.held h held).1.0 free, first)
+  fits_here = record {
+    needs = subst (λ y. (running_in y (base_seen o v h.base).content ≡ None)
+        × (next_on y (base_seen o v h.base) reading ≡ Some ((timer_seen o v timer).expires, timer))) (sym own)
+        (subst (λ (b : BaseContent). running_in x b.content ≡ None) (knows.held h held).1.0 free, first);
+    online = tt;
+  }
 
   pub may_claim : MayAppend o v h timer (events.Claim h.base reading)
   may_claim = record {

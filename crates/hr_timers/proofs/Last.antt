@@ -6,7 +6,7 @@ use Rattle.pass_names.specs.Counts.{one_if, count}
 use Rattle.pass_names.specs.Names.{IsLast}
 use Rattle.pass_names.specs.Passes.{is_place, within}
 use Rattle.pass_names.proofs.Passes.{begins_length, begins_trans, begins_whole}
-use Rattle.seq_timer.specs.declared.system.TimerEntry.{TimerEntry}
+use Rattle.seq_timer.specs.declared.system.SystemEntry.{SystemEntry}
 use Rattle.seq_timer.specs.Histories as seq
 use Rattle.seq_timer.specs.Systems.{entries_of, first_system}
 use Rattle.seq_timer.specs.Steps.{Timer}
@@ -22,7 +22,7 @@ no_more : (m n : ℕ) → one_if (within n m) ≡ one_if (within n n) → n ≤ 
 no_more m n e = grind (arith, nat_tests)
 
 module _ (o : Opening) (v w : KnownOfTimers) (before : KnowsTimers o v) (after : KnowsTimers o w) (last : IsLast v.id) (t : ℕ) (inside : t < length o.timers)
-    (x : List TimerEntry) (at : LooksAt v w x) where
+    (x : List SystemEntry) (at : LooksAt v w x) where
   same_entries : entries_of t v.seen ≡ entries_of t x
   same_entries = begins_whole (entries_of-begins t v.seen x at.from) (omega (
     arith,

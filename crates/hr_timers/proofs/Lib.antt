@@ -1,8 +1,13 @@
+pub mod Shifts
+pub mod Keeping
 pub mod Making
 pub mod Standing
 pub mod Logging
 pub mod Leaving
 pub mod True
+pub mod Ways
+pub mod Arriving
+pub mod Turning
 pub mod TriedNow
 pub mod OneClaim
 pub mod Last

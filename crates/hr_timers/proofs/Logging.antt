@@ -1,13 +1,11 @@
 -- Calls whose receipts went to a sink.
-use Rattle.std.proofs.Common.{◌≡◌, ℕ, ◌+◌, ◌<◌, ◌≤◌, List, [], ◌∷◌, ◌++◌, length, ap, sym, ◌∙◌, subst, true, false, inl, inr, arith}
-use Rattle.std.specs.Prelude.{Bool, Option, Some, None, unwrap_or, is_some, not, ◌&&◌, nat_eq, if◌then◌else◌}
+use Rattle.std.proofs.Common.{◌≡◌, ℕ, ◌+◌, ◌<◌, ◌≤◌, List, [], ◌∷◌, ◌++◌, length, refl, ap, sym, ◌∙◌, subst, true, false, inl, inr, arith}
+use Rattle.std.specs.Prelude.{Bool, Option, Some, None, unwrap_or, is_some, if◌then◌else◌}
 use Rattle.pass_names.specs.Counts.{count}
-use Rattle.seq_timer.specs.Calls.{moves_first, start_events}
-use Rattle.seq_timer.specs.Events.{Asked, Event}
+use Rattle.seq_timer.specs.Events.{Asked}
 use Rattle.seq_timer.specs.Histories as seq
-use Rattle.seq_timer.specs.Steps.{Timer, after, reply_to}
-use Rattle.seq_timer.specs.declared.system.TimerEntry.{TimerEntry}
-use Rattle.base_row.specs.declared.log.Noted.TheVariants as noteds
+use Rattle.seq_timer.specs.Steps.{Timer}
+use Rattle.seq_timer.specs.Tables.{timer_at}
 use Rattle.ktime.specs.Readings.{ClockReading}
 use Rattle.seq_timer.specs.declared.context.Context.{Context}
 use Rattle.seq_timer.specs.declared.answer.ForwardAnswer.{ForwardAnswer}
@@ -24,45 +22,74 @@ use Rattle.base_row.specs.Calls as rows
 use Rattle.base_row.specs.Plays as plays
 use Rattle.base_row.specs.Rules.{is_base_claim, number_of}
 use Rattle.hr_timers.specs.declared.answer.StartAnswer.{StartAnswer}
+use Rattle.hr_timers.specs.declared.answer.StartAnswer.TheVariants as starts
 use Rattle.hr_timers.specs.declared.answer.ClaimAnswer.TheVariants as claimings
 use Rattle.hr_timers.specs.declared.numbers.ClaimNumbers.{ClaimNumbers}
-use Rattle.hr_timers.specs.Known.{AddsBehind, KnownOfTimers, Looks, claimed_as, count_of, timer_then}
-use Rattle.hr_timers.specs.Calls.{entry_by}
+use Rattle.hr_timers.specs.Known.{AddsBehind, KnownOfTimers, Looks, MadeAt, claimed_as, count_of, timer_then}
+use Rattle.hr_timers.specs.Calls.{StartFits, entry_by, start_entries}
+use Rattle.hr_timers.specs.Ways.{IsWay, asking, most_to_start}
+use Rattle.hr_timers.proofs.Arriving.{arrive_least, arrive_some}
+use Rattle.hr_timers.proofs.Keeping.{terms_kept}
+use Rattle.hr_timers.proofs.Ways.{sent_from, sent_wider, way_wider}
+use Rattle.pass_names.proofs.Passes.{begins_refl, begins_trans}
 use Rattle.hr_timers.specs.Logged.{CancelsLogged, ClaimsLogged, ForwardsLogged, HasRoomToStart, IsLogged, StartsLogged}
 use Rattle.hr_timers.proofs.Making.{looks_refl, made_before, made_then}
 use Rattle.hr_timers.proofs.Standing.{claim_runs}
 
 -- ---- the room for a start
 
--- a timer whose function runs keeps its base
-pub keeps_base : (g b asked : ℕ) (r : Option ℕ) → r ≡ Some g → not (is_some r) && not (nat_eq b asked) ≡ false
-keeps_base g b asked r is = ap (λ x. not (is_some x) && not (nat_eq b asked)) is
-
-pub room_to_start : (o : Opening) (u v : BaseView BaseContent) (t room : ℕ) (asked : Asked) → rows.AreFresh o.timers
-    → plays.KnowsBases o.bases o.timers number_of v → t < length o.timers → Looks u v → HasRoomToStart (rows.known_of u) t room
-    → length (start_events (rows.timer_seen o v t) asked) ≤ room
-room_to_start o u v t room asked fresh knows within looks (inl two) = at (moves_first (rows.timer_seen o v t) asked.base)
+pub room_to_start : (o : Opening) (u v : BaseView BaseContent) (t room base low : ℕ) → rows.AreFresh o.timers
+    → plays.KnowsBases o.bases o.timers number_of v → t < length o.timers → Looks u v → low ≤ base → HasRoomToStart o (rows.known_of u) t base room
+    → (if is_some (rows.timer_seen o v t).running then 1 else most_to_start (rows.timer_seen o v t).terms low) ≤ room
+room_to_start o u v t room base low fresh knows within looks below (inl most) =
+    at (is_some (rows.timer_seen o v t).running)
   where
-    at : (m : Bool) → length (if m then events.Out asked.base ∷ events.Start asked ∷ [] else events.Start asked ∷ []) ≤ room
-    at true = two
-    at false = omega (arith, two)
-room_to_start o u v t room asked fresh knows within looks (inr one) =
+    terms : (rows.timer_seen o v t).terms ≡ (timer_at o.timers t).terms
+    terms = terms_kept o v t
+
+    at : (m : Bool) → (if m then 1 else most_to_start (rows.timer_seen o v t).terms low) ≤ room
+    at true = omega (arith, arrive_some (timer_at o.timers t).terms base, most)
+    at false = omega (
+      arith,
+      ap (λ k. most_to_start k low) terms,
+      arrive_least (timer_at o.timers t).terms low base below,
+      most,
+    )
+room_to_start o u v t room base low fresh knows within looks below (inr one) =
     let stands = subst (λ (l : List Claimed). 0 < count (is_base_claim t one.1.0 one.1.1) l) (sym looks.claims) one.1.2 in
-    let keeps = keeps_base one.1.0 (rows.timer_seen o v t).base asked.base (rows.timer_seen o v t).running
-    (claim_runs o v fresh knows t one.1.0 one.1.1 within stands) in
-    subst (λ (b : Bool). length (if b then events.Out asked.base ∷ events.Start asked ∷ [] else events.Start asked ∷ []) ≤ room) (sym keeps)
-    (omega (arith, one.0))
+    let runs = claim_runs o v fresh knows t one.1.0 one.1.1 within stands in
+    subst (λ (r : Option ℕ). (if is_some r then 1 else most_to_start (rows.timer_seen o v t).terms low) ≤ room) (sym runs) (omega (arith, one.0))
 
 module _ {A : Type 0} (put : A → Receipt → A) (o : Opening) where
   -- ---- looks before a call
 
-  pub starts_before : (u v : BaseView BaseContent) (w : KnownOfTimers) (t : ℕ) (asked : Asked) (a : StartAnswer) (s s' : A) → Looks u v
-      → StartsLogged put o (rows.known_of v) w t asked a s s' → StartsLogged put o (rows.known_of u) w t asked a s s'
-  starts_before u v w t asked a s s' looks c =
+  -- and the way from the base that is asked for to the one that is asked for then
+  pub starts_before : (u v : BaseView BaseContent) (w : KnownOfTimers) (t : ℕ) (asked : Asked) (base : ℕ) (path : List ℕ) (a : StartAnswer) (s s' : A)
+      → Looks u v → IsWay o u.seen v.seen asked.base path base
+      → StartsLogged put o (rows.known_of v) w t (asking asked base) a s s' → StartsLogged put o (rows.known_of u) w t asked a s s'
+  starts_before u v w t asked base path a s s' looks way c =
       let r = c.starts in record {
-        starts = record { at = r.at; made = made_before u v w t r.at _ looks r.made; fits = r.fits; claims = r.claims ∙ looks.claims };
-        logged = c.logged;
+        starts = record {
+          at = r.at;
+          sent = r.sent;
+          last = r.last;
+          on_way = sent_from o u.seen w.seen asked.base path base r.sent r.last
+              (way_wider o u.seen u.seen v.seen w.seen (begins_refl u.seen) (begins_trans r.made.from r.made.seen) asked.base path base way)
+              (sent_wider o u.seen v.seen w.seen w.seen looks.seen (begins_refl w.seen) base r.sent r.last r.on_way);
+          made = made_before u v w t r.at _ looks (subst (λ es. MadeAt (rows.known_of v) w t r.at es) (entries_same (timer_then o r.at t) r.sent r.last a) r.made);
+          fits = fits_same (timer_then o r.at t) r.sent r.last a r.fits;
+          claims = r.claims ∙ looks.claims;
+        };
+        logged = subst (λ es. IsLogged put o t r.at es s s') (entries_same (timer_then o r.at t) r.sent r.last a) c.logged;
       }
+    where
+      entries_same : (x : Timer) (sent : List ℕ) (last : ℕ) (b : StartAnswer) → start_entries x (asking asked base) sent last b ≡ start_entries x asked sent last b
+      entries_same x sent last (starts.Started was_armed generation to outs placement) = refl
+      entries_same x sent last (starts.Spent n) = refl
+
+      fits_same : (x : Timer) (sent : List ℕ) (last : ℕ) (b : StartAnswer) → StartFits x (asking asked base) sent last b → StartFits x asked sent last b
+      fits_same x sent last (starts.Started was_armed generation to outs placement) fits = fits
+      fits_same x sent last (starts.Spent n) fits = fits
 
   pub cancels_before : (u v : BaseView BaseContent) (w : KnownOfTimers) (t : ℕ) (a : CancelAnswer) (s s' : A) → Looks u v
       → CancelsLogged put o (rows.known_of v) w t a s s' → CancelsLogged put o (rows.known_of u) w t a s s'
@@ -130,11 +157,3 @@ module _ {A : Type 0} (put : A → Receipt → A) (o : Opening) where
         };
         logged = subst one is logged;
       }
-
-  -- an Out, and an entry behind it
-  pub logged_both : (t to : ℕ) (x y : List TimerEntry) (f : Event) (s s' s'' : A) → timer_then o y t ≡ after (timer_then o x t) (events.Out to)
-      → IsLogged put o t x (entry_by (timer_then o x t) (events.Out to) ∷ []) s s' → IsLogged put o t y (entry_by (timer_then o y t) f ∷ []) s' s''
-      → IsLogged put o t x (entry_by (timer_then o x t) (events.Out to) ∷ entry_by (after (timer_then o x t) (events.Out to)) f ∷ []) s s''
-  logged_both t to x y f s s' s'' is first second =
-      let behind : Timer → Receipt = λ u. record { timer = t; number = u.stamp + 1; event = f; reply = noteds.Entry (reply_to u f) } in
-      subst (λ (u : Timer). s'' ≡ put s' (behind u)) is second ∙ ap (λ z. put z (behind (after (timer_then o x t) (events.Out to)))) first

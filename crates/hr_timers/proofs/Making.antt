@@ -1,14 +1,14 @@
 -- Entries and looks of a call, at one moment of the history of all timers.
-use Rattle.std.proofs.Common.{◌≡◌, ℕ, ◌<◌, List, [], ◌∷◌, ◌++◌, length, refl, ap, sym, ◌∙◌, subst, true, false}
+use Rattle.std.proofs.Common.{◌≡◌, ℕ, ◌<◌, List, [], ◌∷◌, ◌++◌, length, length-append, append_assoc, arith, refl, ap, sym, ◌∙◌, subst, true, false}
 use Rattle.std.specs.Prelude.{Bool, Option, Some, None, if◌then◌else◌}
 use Rattle.std.proofs.lemmas.Bool.{true≢false}
 use Rattle.pass_names.specs.Passes.{places}
 use Rattle.pass_names.specs.SharedHistory.{LooksOn}
 use Rattle.pass_names.proofs.Passes.{begins_refl, begins_trans}
-use Rattle.pass_names.proofs.SharedHistory.{extends_looks}
+use Rattle.pass_names.proofs.SharedHistory.{extends_looks, places-append}
 use Rattle.seq_timer.specs.Events.{Event}
 use Rattle.seq_timer.specs.Effects.{effect}
-use Rattle.seq_timer.specs.declared.system.TimerEntry.{TimerEntry}
+use Rattle.seq_timer.specs.declared.system.SystemEntry.{SystemEntry}
 use Rattle.seq_timer.specs.Histories as seq
 use Rattle.seq_timer.specs.Steps.{Timer, after}
 use Rattle.seq_timer.specs.Systems.{BaseContent, IsOn, changed, entries_of}
@@ -54,6 +54,18 @@ looks_on v w l = record { seen = l.seen; mine = l.mine; id = l.id; claims = l.cl
 
 -- ---- entries
 
+-- entries, and entries behind them
+pub adds_both : (u v w : BaseView BaseContent) (t : ℕ) (xs ys : List seq.Entry) → AddsBehind u v t xs → AddsBehind v w t ys → AddsBehind u w t (xs ++ ys)
+adds_both u v w t xs ys a b = record {
+  seen = begins_trans a.seen b.seen;
+  own = b.own ∙ (ap (λ l. l ++ ys) a.own ∙ append_assoc (entries_of t u.seen) xs ys);
+  mine = b.mine ∙ (ap (λ l. l ++ places t (length (entries_of t v.seen)) ys) a.mine
+      ∙ (append_assoc u.mine (places t (length (entries_of t u.seen)) xs) (places t (length (entries_of t v.seen)) ys)
+      ∙ ap (λ l. u.mine ++ l) (ap (λ k. places t (length (entries_of t u.seen)) xs ++ places t k ys)
+      (omega (arith, ap length a.own, length-append (entries_of t u.seen) xs)) ∙ sym (places-append t (length (entries_of t u.seen)) xs ys))));
+  id = b.id ∙ a.id;
+}
+
 -- looks, and then entries behind what was seen of the timer
 pub made_then : (u v w : BaseView BaseContent) (t : ℕ) (es : List seq.Entry) → Looks u v → AddsBehind v w t es
     → MadeAt (rows.known_of u) (rows.known_of w) t v.seen es
@@ -66,7 +78,7 @@ made_then u v w t es first adds = record {
 }
 
 -- looks before a call
-pub made_before : (u v : BaseView BaseContent) (w : KnownOfTimers) (t : ℕ) (x : List TimerEntry) (es : List seq.Entry) → Looks u v
+pub made_before : (u v : BaseView BaseContent) (w : KnownOfTimers) (t : ℕ) (x : List SystemEntry) (es : List seq.Entry) → Looks u v
     → MadeAt (rows.known_of v) w t x es → MadeAt (rows.known_of u) w t x es
 made_before u v w t x es first made = record {
   from = begins_trans first.seen made.from;

@@ -2,7 +2,7 @@
 use Rattle.std.proofs.Common.{◌≡◌, ℕ, ◌+◌, ◌≤◌, List, [], ◌∷◌, ◌++◌, length, refl, ap, sym, ◌∙◌, arith, length-append}
 use Rattle.pass_names.specs.Passes.{Begins}
 use Rattle.seq_timer.specs.Events.{Event}
-use Rattle.seq_timer.specs.declared.system.TimerEntry.{TimerEntry}
+use Rattle.seq_timer.specs.declared.system.SystemEntry.{SystemEntry}
 use Rattle.seq_timer.specs.Histories as seq
 use Rattle.seq_timer.specs.Steps.{Timer, after}
 use Rattle.seq_timer.specs.Systems.{entries_of, first_system}
@@ -19,11 +19,11 @@ after_all-append : (t : Timer) (xs ys : List seq.Entry) → seq.after_all t (xs 
 after_all-append t [] ys = refl
 after_all-append t (x ∷ xs) ys = after_all-append (after t x.event) xs ys
 
-pub timer_own : (o : Opening) (x : List TimerEntry) (t : ℕ) → timer_then o x t ≡ seq.after_all (timer_at o.timers t) (entries_of t x)
+pub timer_own : (o : Opening) (x : List SystemEntry) (t : ℕ) → timer_then o x t ≡ seq.after_all (timer_at o.timers t) (entries_of t x)
 timer_own o x t = after_entries-entries_of (first_system o.timers) t x
 
 -- the timer is then as the call's entries have left it
-pub timer_after : (o : Opening) (v w : KnownOfTimers) (t : ℕ) (x : List TimerEntry) (es : List seq.Entry) → MadeAt v w t x es
+pub timer_after : (o : Opening) (v w : KnownOfTimers) (t : ℕ) (x : List SystemEntry) (es : List seq.Entry) → MadeAt v w t x es
     → timer_then o w.seen t ≡ seq.after_all (timer_then o x t) es
 timer_after o v w t x es made =
     timer_own o w.seen t ∙ (ap (seq.after_all (timer_at o.timers t)) made.own ∙ (after_all-append (timer_at o.timers t) (entries_of t x) es
@@ -34,20 +34,20 @@ along t [] = refl
 along t (e ∷ es) = along (after t e) es
 
 -- its stamp has grown by their number
-pub stamp_made : (o : Opening) (v w : KnownOfTimers) (t : ℕ) (x : List TimerEntry) (es : List seq.Entry) → MadeAt v w t x es
+pub stamp_made : (o : Opening) (v w : KnownOfTimers) (t : ℕ) (x : List SystemEntry) (es : List seq.Entry) → MadeAt v w t x es
     → (timer_then o w.seen t).stamp ≡ (timer_then o x t).stamp + length es
 stamp_made o v w t x es made = ap (λ (s : Timer). s.stamp) (timer_after o v w t x es made) ∙ stamp-after_all (timer_then o x t) es
 
 -- it is the number of the timer's entries, behind that which it began with
-pub stamp_then : (o : Opening) (x : List TimerEntry) (t : ℕ) → (timer_then o x t).stamp ≡ (timer_at o.timers t).stamp + length (entries_of t x)
+pub stamp_then : (o : Opening) (x : List SystemEntry) (t : ℕ) → (timer_then o x t).stamp ≡ (timer_at o.timers t).stamp + length (entries_of t x)
 stamp_then o x t = ap (λ (s : Timer). s.stamp) (timer_own o x t) ∙ stamp-after_all (timer_at o.timers t) (entries_of t x)
 
 -- so it never falls
-pub stamp_rises : (o : Opening) (x y : List TimerEntry) (t : ℕ) → Begins x y → (timer_then o x t).stamp ≤ (timer_then o y t).stamp
+pub stamp_rises : (o : Opening) (x y : List SystemEntry) (t : ℕ) → Begins x y → (timer_then o x t).stamp ≤ (timer_then o y t).stamp
 stamp_rises o x y t begins =
     let own = entries_of-begins t x y begins in
     omega (arith, stamp_then o x t, stamp_then o y t, ap length own.whole, length-append (entries_of t x) own.rest)
 
 -- a timer keeps the clock that it was declared on
-pub declared_kept : (o : Opening) (x : List TimerEntry) (t : ℕ) → (timer_then o x t).declared ≡ (timer_at o.timers t).declared
+pub declared_kept : (o : Opening) (x : List SystemEntry) (t : ℕ) → (timer_then o x t).declared ≡ (timer_at o.timers t).declared
 declared_kept o x t = ap (λ (s : Timer). s.declared) (timer_own o x t) ∙ declared-after_all (timer_at o.timers t) (entries_of t x)

@@ -2,7 +2,7 @@
 use Rattle.std.proofs.Common.{◌≡◌, ℕ, sym, ◌∙◌}
 use Rattle.std.specs.Prelude.{List}
 use Rattle.pass_names.proofs.Passes.{begins_trans}
-use Rattle.seq_timer.specs.declared.system.TimerEntry.{TimerEntry}
+use Rattle.seq_timer.specs.declared.system.SystemEntry.{SystemEntry}
 use Rattle.base_row.specs.declared.view.Opening.{Opening}
 use Rattle.base_row.specs.declared.view.BaseView.{BaseView}
 use Rattle.seq_timer.specs.Systems.{BaseContent}
@@ -15,7 +15,7 @@ use Rattle.hr_timers.proofs.Making.{looks_on, looks_trans, made_before}
 use Rattle.pass_names.proofs.SharedHistory as shared
 
 -- looks before a call that made no entry
-looks_at_before : (u v : BaseView BaseContent) (w : KnownOfTimers) (x : List TimerEntry) → Looks u v → LooksAt (rows.known_of v) w x
+looks_at_before : (u v : BaseView BaseContent) (w : KnownOfTimers) (x : List SystemEntry) → Looks u v → LooksAt (rows.known_of v) w x
     → LooksAt (rows.known_of u) w x
 looks_at_before u v w x first at = record {
   looks = shared.looks_trans (rows.known_of u) (rows.known_of v) w (looks_on u v first) at.looks;

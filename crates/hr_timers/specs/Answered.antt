@@ -8,7 +8,7 @@ use Rattle.hr_timers.specs.declared.answer.StartAnswer.{StartAnswer}
 use Rattle.hr_timers.specs.declared.answer.StartAnswer.TheVariants as starts
 
 abbrev pub start_number : StartAnswer → ℕ
-start_number (starts.Started was_armed generation outs placement) = generation
+start_number (starts.Started was_armed generation asked outs placement) = generation
 start_number (starts.Spent n) = n
 
 abbrev pub cancel_number : CancelAnswer → ℕ

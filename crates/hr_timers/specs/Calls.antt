@@ -1,6 +1,6 @@
 -- What each call answers, and which entries it makes, in the one history of all timers. A clause names the moment of the call, `at`, as the list of
 -- all entries so far; what the call answers is a function of the timer at that moment.
-use Rattle.std.specs.Prelude.{ℕ, ◌≡◌, ◌≢◌, ◌^◌, ◌+◌, ◌≤◌, ◌<◌, ◌⊎◌, Bool, true, false, List, [], ◌∷◌, ◌++◌, length, Some, None, is_some, if◌then◌else◌}
+use Rattle.std.specs.Prelude.{ℕ, ◌≡◌, ◌≢◌, ◌+◌, ◌≤◌, ◌<◌, ◌⊎◌, Bool, true, false, List, [], ◌∷◌, ◌++◌, length, Some, None, is_some}
 use Rattle.ktime.specs.Readings.{ClockReading}
 use Rattle.pass_names.specs.Counts.{without_first}
 use Rattle.pass_names.specs.Passes.{Begins}
@@ -20,8 +20,8 @@ use Rattle.seq_timer.specs.declared.answer.CancelAnswer.TheVariants as cancels
 use Rattle.seq_timer.specs.declared.answer.ForwardAnswer.{ForwardAnswer}
 use Rattle.seq_timer.specs.declared.answer.ForwardAnswer.TheVariants as forwards
 use Rattle.seq_timer.specs.declared.answer.Finished.{Finished}
-use Rattle.seq_timer.specs.Calls.{forwarded_as, moves_first, start_events, step_all, entries_along}
-use Rattle.seq_timer.specs.declared.system.TimerEntry.{TimerEntry}
+use Rattle.seq_timer.specs.Calls.{forwarded_as, step_all, entries_along}
+use Rattle.seq_timer.specs.declared.system.SystemEntry.{SystemEntry}
 use Rattle.base_row.specs.declared.view.Opening.{Opening}
 use Rattle.base_row.specs.Rules.{is_base_claim}
 use Rattle.seq_timer.specs.Systems.{next_on, system_after}
@@ -32,6 +32,7 @@ use Rattle.hr_timers.specs.declared.answer.NowAnswer.TheVariants as nows
 use Rattle.hr_timers.specs.declared.answer.StartAnswer.{StartAnswer}
 use Rattle.hr_timers.specs.declared.answer.StartAnswer.TheVariants as starts
 use Rattle.hr_timers.specs.declared.numbers.ClaimNumbers.{ClaimNumbers}
+use Rattle.hr_timers.specs.Ways.{IsSentBy, bits_of, start_on}
 use Rattle.hr_timers.specs.Known.{KnownOfTimers, PassOf, MadeAt, HasMissed, claimed_as, count_of, timer_then}
 
 -- the entry of an event, as it stands in its timer's history
@@ -41,32 +42,36 @@ entry_by t event = record { event = event; reply = reply_to t event }
 -- ---- peek
 
 pub record Peeks (o : Opening) (v w : KnownOfTimers) (t : ℕ) (p : Peek) : Type 0 where
-  pub at : List TimerEntry
+  pub at : List SystemEntry
   pub made : MadeAt v w t at []
   pub fits : p ≡ seq.peek_of (timer_then o at t)
   pub claims : w.claims ≡ v.claims
 
 -- ---- start
 
--- what a start answers, of the timer before and after it
-abbrev pub start_answer : Timer → Timer → ℕ → StartAnswer
-start_answer t now asked = starts.Started (is_some t.armed) now.stamp (if moves_first t asked then 2 ^ asked else 0) (placement_of now)
+-- what a start answers, of the timer before and after it, the bases that it was sent to, and the base that it asked for last
+abbrev pub start_answer : Timer → Timer → List ℕ → ℕ → StartAnswer
+start_answer t now sent last = starts.Started (is_some t.armed) now.stamp last (bits_of sent) (placement_of now)
 
-abbrev pub start_entries : Timer → Asked → StartAnswer → List seq.Entry
-start_entries t asked (starts.Started was_armed generation outs placement) = entries_along t (start_events t asked)
-start_entries t asked (starts.Spent n) = []
+abbrev pub start_entries : Timer → Asked → List ℕ → ℕ → StartAnswer → List seq.Entry
+start_entries t asked sent last (starts.Started was_armed generation base outs placement) = entries_along t (start_on asked sent last)
+start_entries t asked sent last (starts.Spent n) = []
 
 -- the answer for this timer
-abbrev pub StartFits : Timer → Asked → StartAnswer → Type 0
-StartFits t asked (starts.Started was_armed generation outs placement) =
+abbrev pub StartFits : Timer → Asked → List ℕ → ℕ → StartAnswer → Type 0
+StartFits t asked sent last (starts.Started was_armed generation base outs placement) =
     (t.moving ≡ false) × (t.stamp < t.terms.limit)
-    × (starts.Started was_armed generation outs placement ≡ start_answer t (step_all t (start_events t asked)) asked.base)
-StartFits t asked (starts.Spent n) = (t.moving ≡ false) × (t.terms.limit ≤ t.stamp) × (n ≡ t.stamp)
+    × (starts.Started was_armed generation base outs placement ≡ start_answer t (step_all t (start_on asked sent last)) sent last)
+StartFits t asked sent last (starts.Spent n) = (t.moving ≡ false) × (t.terms.limit ≤ t.stamp) × (n ≡ t.stamp)
 
 pub record StartsTimer (o : Opening) (v w : KnownOfTimers) (t : ℕ) (asked : Asked) (a : StartAnswer) : Type 0 where
-  pub at : List TimerEntry
-  pub made : MadeAt v w t at (start_entries (timer_then o at t) asked a)
-  pub fits : StartFits (timer_then o at t) asked a
+  pub at : List SystemEntry
+  -- the bases that the timer was sent to in turn, and the one that the start asked for last
+  pub sent : List ℕ
+  pub last : ℕ
+  pub on_way : IsSentBy o v.seen w.seen asked.base sent last
+  pub made : MadeAt v w t at (start_entries (timer_then o at t) asked sent last a)
+  pub fits : StartFits (timer_then o at t) asked sent last a
   pub claims : w.claims ≡ v.claims
 
 -- ---- try_to_cancel
@@ -83,7 +88,7 @@ CancelFits t (cancels.Cancelled g n) = (t.armed ≡ Some g) × (t.running ≡ No
 CancelFits t (cancels.Running g n) = (t.running ≡ Some g) × (n ≡ t.stamp)
 
 pub record Cancels (o : Opening) (v w : KnownOfTimers) (t : ℕ) (a : CancelAnswer) : Type 0 where
-  pub at : List TimerEntry
+  pub at : List SystemEntry
   pub made : MadeAt v w t at (cancel_entries a)
   pub fits : CancelFits (timer_then o at t) a
   pub claims : w.claims ≡ v.claims
@@ -91,30 +96,30 @@ pub record Cancels (o : Opening) (v w : KnownOfTimers) (t : ℕ) (a : CancelAnsw
 -- ---- cancel_now
 
 -- a call that made no entry, and a moment of it
-pub record LooksAt (v w : KnownOfTimers) (x : List TimerEntry) : Type 0 where
+pub record LooksAt (v w : KnownOfTimers) (x : List SystemEntry) : Type 0 where
   pub looks : LooksOn v w
   pub from : Begins v.seen x
   pub seen : Begins x w.seen
 
 -- at a moment of a call that made no entry the timer was on this base
 pub record WasOn (o : Opening) (v w : KnownOfTimers) (t b : ℕ) : Type 0 where
-  pub at : List TimerEntry
+  pub at : List SystemEntry
   pub looks : LooksAt v w at
   pub base : (timer_then o at t).base ≡ b
 
 -- at a moment of a call that made no entry the timer was on the move to this base
 pub record WasMoving (o : Opening) (v w : KnownOfTimers) (t b : ℕ) : Type 0 where
-  pub at : List TimerEntry
+  pub at : List SystemEntry
   pub looks : LooksAt v w at
   pub moving : (timer_then o at t).moving ≡ true
   pub base : (timer_then o at t).base ≡ b
 
 -- at a moment of a call that made no entry the timer was on the one base, and at a later one on the other
 pub record WasMoved (o : Opening) (v w : KnownOfTimers) (t from to : ℕ) : Type 0 where
-  pub at : List TimerEntry
+  pub at : List SystemEntry
   pub looks : LooksAt v w at
   pub base : (timer_then o at t).base ≡ from
-  pub later : List TimerEntry
+  pub later : List SystemEntry
   pub goes_on : Begins at later
   pub seen : Begins later w.seen
   pub base_later : (timer_then o later t).base ≡ to
@@ -143,7 +148,7 @@ HeldFits o p q t base (nows.Moved a b) = (a ≡ base) × (a ≢ b) × WasOn o p.
 
 -- a claim of the timer of a context whose turn it is on a base where no function of it runs: of equal expiries the one that was armed first
 pub record ClaimsNextDue (o : Opening) (v w : KnownOfTimers) (x : Context) (base : ℕ) (reading : ClockReading) (c : ClaimNumbers) : Type 0 where
-  pub at : List TimerEntry
+  pub at : List SystemEntry
   pub made : MadeAt v w c.timer at (entry_by (timer_then o at c.timer) (events.Claim base reading) ∷ [])
   pub context : (timer_then o at c.timer).declared.context ≡ x
   pub idle : (t : ℕ) → runs_on base (in_context x (timer_then o at) t) ≡ false
@@ -157,7 +162,7 @@ pub record ClaimsNextDue (o : Opening) (v w : KnownOfTimers) (x : Context) (base
   pub claims : w.claims ≡ v.claims ++ claimed_as c ∷ []
 
 -- no function of a context runs on the base, no timer of it is the first to expire there, and the base is stopped for each clock
-pub record HasNoneDue (o : Opening) (at : List TimerEntry) (x : Context) (base : ℕ) (reading : ClockReading) : Type 0 where
+pub record HasNoneDue (o : Opening) (at : List SystemEntry) (x : Context) (base : ℕ) (reading : ClockReading) : Type 0 where
   pub idle : (t : ℕ) → runs_on base (in_context x (timer_then o at) t) ≡ false
   pub first : next_on x ((system_after o.timers at).bases base) reading ≡ None
   pub none : (clock : ClockId) → IsStopped (in_context x (timer_then o at)) base reading clock
@@ -183,7 +188,7 @@ ForwardFits t reading interval (forwards.Spent n) = (t.terms.limit ≤ t.stamp) 
 ForwardFits t reading interval (forwards.Armed g n) = (t.stamp < t.terms.limit) × (t.armed ≡ Some g) × (n ≡ t.stamp)
 
 pub record Forwards (o : Opening) (v w : KnownOfTimers) (c : ClaimNumbers) (reading : ClockReading) (interval : ℕ) (a : ForwardAnswer) : Type 0 where
-  pub at : List TimerEntry
+  pub at : List SystemEntry
   pub made : MadeAt v w c.timer at (forward_entries (timer_then o at c.timer) reading interval a)
   pub runs : (timer_then o at c.timer).running ≡ Some c.generation
   pub base : (timer_then o at c.timer).base ≡ c.base
@@ -191,7 +196,7 @@ pub record Forwards (o : Opening) (v w : KnownOfTimers) (c : ClaimNumbers) (read
   pub claims : w.claims ≡ v.claims
 
 pub record Finishes (o : Opening) (v w : KnownOfTimers) (c : ClaimNumbers) (restart : Bool) (a : Finished) : Type 0 where
-  pub at : List TimerEntry
+  pub at : List SystemEntry
   pub made : MadeAt v w c.timer at (entry_by (timer_then o at c.timer) (events.Finish restart) ∷ [])
   pub runs : (timer_then o at c.timer).running ≡ Some c.generation
   pub base : (timer_then o at c.timer).base ≡ c.base

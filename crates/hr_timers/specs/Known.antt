@@ -1,20 +1,20 @@
 -- What the holder of a pass knows of timers, and how single calls change it.
 use Rattle.std.specs.Prelude.{ℕ, ◌≡◌, ◌+◌, ◌<◌, ◌≤◌, ◌^◌, ◌-◌, ◌⊎◌, List, ◌++◌, length, slice_index, Some, None, false}
 use Rattle.atomic_table.specs.Seated.{TableId}
-use Rattle.pass_names.specs.Counts.{count}
+use Rattle.pass_names.specs.Counts.{count, one_if}
 use Rattle.pass_names.specs.Names.{IsLast}
-use Rattle.pass_names.specs.Passes.{Begins, is_place, places}
+use Rattle.pass_names.specs.Passes.{Begins, is_place, places, within}
 use Rattle.pass_names.specs.SharedHistory as shared
-use Rattle.seq_timer.specs.declared.system.TimerEntry.{TimerEntry}
+use Rattle.seq_timer.specs.declared.system.SystemEntry.{SystemEntry}
 use Rattle.seq_timer.specs.Histories as seq
-use Rattle.seq_timer.specs.Steps.{Timer}
+use Rattle.seq_timer.specs.Steps.{Timer, most_entries}
 use Rattle.seq_timer.specs.Tables.{timer_at}
-use Rattle.seq_timer.specs.Systems.{BaseContent, AreSystemSteps, IsOn, entries_of, first_system, system_after}
+use Rattle.seq_timer.specs.Systems.{BaseContent, AreSystemSteps, IsOn, entries_of, first_system, shifts_of, system_after}
 use Rattle.base_row.specs.declared.view.Claimed.{Claimed}
 use Rattle.base_row.specs.declared.view.Opening.{Opening}
 use Rattle.base_row.specs.declared.view.BaseView.{BaseView}
 use Rattle.base_row.specs.declared.view.HeldContent.{HeldContent}
-use Rattle.base_row.specs.Rules.{is_base_claim}
+use Rattle.base_row.specs.Rules.{base_place, is_base_claim}
 use Rattle.base_row.specs.Calls as rows
 use Rattle.base_row.specs.Rests.{Rests}
 use Rattle.hr_timers.specs.declared.numbers.ClaimNumbers.{ClaimNumbers}
@@ -22,7 +22,7 @@ use Rattle.hr_timers.specs.declared.numbers.ClaimNumbers.{ClaimNumbers}
 -- what a pass knows of timers: its name, the beginning of the history of all timers that it has seen, the places of its own entries, and its
 -- claims that aren't finished
 abbrev pub KnownOfTimers : Type 0
-KnownOfTimers = shared.Known TimerEntry Claimed
+KnownOfTimers = shared.Known SystemEntry Claimed
 
 -- a pass: the table and the opening of its timers, what its holder knows, the takes of base locks that are its own, and of each base the newest
 -- lock word that it knows
@@ -38,12 +38,16 @@ abbrev pub pass_of : rows.BasePassOf → PassOf
 pass_of p = record { row = p.row; opening = p.knows.opening; known = rows.known_of p.knows; takes = p.knows.takes; met = p.knows.met }
 
 -- a timer after these entries of all timers
-abbrev pub timer_then : Opening → List TimerEntry → ℕ → Timer
+abbrev pub timer_then : Opening → List SystemEntry → ℕ → Timer
 timer_then o x t = (system_after o.timers x).timers t
 
 -- the limit on a timer's entries
 abbrev pub limit_of : Opening → ℕ → ℕ
 limit_of o t = (timer_at o.timers t).terms.limit
+
+-- each timer has a reach, so bases may go off line
+abbrev pub IsEvacuable : Opening → Type 0
+IsEvacuable o = (t : ℕ) → t < length o.timers → 0 < (timer_at o.timers t).terms.reach
 
 -- a claim as it stands among a pass's
 abbrev pub claimed_as : ClaimNumbers → Claimed
@@ -57,15 +61,21 @@ count_of c claims = count (is_base_claim c.timer c.generation c.base) claims
 abbrev pub HasEachPlace : Opening → KnownOfTimers → Type 0
 HasEachPlace o k = shared.HasAll entries_of (length o.timers) k
 
+-- and each place of each base
+abbrev pub HasEachShift : Opening → KnownOfTimers → Type 0
+HasEachShift o k = (b n : ℕ) → b < o.bases
+    → count (is_place (base_place (length o.timers) b) n) k.mine ≡ one_if (within n (length (shifts_of b k.seen)))
+
 -- what is known is true: a history of all timers was seen, which has few entries of a timer past its limit, and whose claims run; and the last
 -- pass has made each entry, and no timer is on the move
 pub record KnowsTimers (o : Opening) (k : KnownOfTimers) : Type 0 where
   pub history : AreSystemSteps o.bases (length o.timers) (first_system o.timers) k.seen
-  pub few : (t : ℕ) → (timer_then o k.seen t).stamp ≤ limit_of o t + 3
+  pub few : (t : ℕ) → (timer_then o k.seen t).stamp ≤ most_entries (timer_at o.timers t).terms
   pub small : (t : ℕ) → (timer_then o k.seen t).stamp < 2 ^ 48
   pub claims : (t g b : ℕ) → t < length o.timers → 0 < count (is_base_claim t g b) k.claims
       → ((timer_then o k.seen t).running ≡ Some g) × ((timer_then o k.seen t).base ≡ b)
   pub whole : IsLast k.id → HasEachPlace o k
+  pub shifts : IsLast k.id → HasEachShift o k
   pub still : IsLast k.id → (t : ℕ) → t < length o.timers → (timer_then o k.seen t).moving ≡ false
 
 -- a pass of these timers, and what it knows is true
@@ -81,7 +91,7 @@ pub record OwnsClaim (o : Opening) (k : KnownOfTimers) (c : ClaimNumbers) : Type
 
 -- At this moment of the call, x being all entries so far, the call made these entries of timer t. They stand last among the timer's that were
 -- seen, and their places last among the pass's own.
-pub record MadeAt (v w : KnownOfTimers) (t : ℕ) (x : List TimerEntry) (es : List seq.Entry) : Type 0 where
+pub record MadeAt (v w : KnownOfTimers) (t : ℕ) (x : List SystemEntry) (es : List seq.Entry) : Type 0 where
   pub from : Begins v.seen x
   pub seen : Begins x w.seen
   pub own : entries_of t w.seen ≡ entries_of t x ++ es

@@ -1,4 +1,6 @@
 pub mod Known
+pub mod Ways
+pub mod Moves
 pub mod Calls
 pub mod Logged
 pub mod Answered

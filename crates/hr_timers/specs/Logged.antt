@@ -10,7 +10,7 @@ use Rattle.seq_timer.specs.Histories as seq
 use Rattle.seq_timer.specs.declared.answer.CancelAnswer.{CancelAnswer}
 use Rattle.seq_timer.specs.declared.answer.ForwardAnswer.{ForwardAnswer}
 use Rattle.seq_timer.specs.declared.answer.Finished.{Finished}
-use Rattle.seq_timer.specs.declared.system.TimerEntry.{TimerEntry}
+use Rattle.seq_timer.specs.declared.system.SystemEntry.{SystemEntry}
 use Rattle.base_row.specs.declared.log.Receipt.{Receipt}
 use Rattle.base_row.specs.declared.view.Opening.{Opening}
 use Rattle.base_row.specs.Logs.{all_pushed, receipts_of}
@@ -20,16 +20,19 @@ use Rattle.hr_timers.specs.declared.answer.ClaimAnswer.TheVariants as claimings
 use Rattle.hr_timers.specs.declared.answer.StartAnswer.{StartAnswer}
 use Rattle.hr_timers.specs.declared.numbers.ClaimNumbers.{ClaimNumbers}
 use Rattle.hr_timers.specs.Known.{KnownOfTimers, timer_then}
+use Rattle.hr_timers.specs.Ways.{most_to_start}
+use Rattle.seq_timer.specs.Tables.{timer_at}
 use Rattle.hr_timers.specs.Calls.{Cancels, ClaimFits, Finishes, Forwards, StartsTimer}
 use Rattle.hr_timers.specs.Calls.{cancel_entries, entry_by, forward_entries, start_entries}
 
--- so much room is enough for the receipts of a start: of a timer of which the pass has a claim a start makes one entry
-abbrev pub HasRoomToStart : KnownOfTimers → ℕ → ℕ → Type 0
-HasRoomToStart k t room = (2 ≤ room) ⊎ ((0 < room) × ((g : ℕ) × (b : ℕ) × (0 < count (is_base_claim t g b) k.claims)))
+-- so much room is enough for the receipts of a start that asks for this base: of a timer of which the pass has a claim it makes one entry
+abbrev pub HasRoomToStart : Opening → KnownOfTimers → ℕ → ℕ → ℕ → Type 0
+HasRoomToStart o k t base room = (most_to_start (timer_at o.timers t).terms base ≤ room)
+    ⊎ ((0 < room) × ((g : ℕ) × (b : ℕ) × (0 < count (is_base_claim t g b) k.claims)))
 
 module _ {A : Type 0} (put : A → Receipt → A) (o : Opening) where
   -- the receipts of a timer's entries that were made at this moment went to the sink
-  abbrev pub IsLogged : ℕ → List TimerEntry → List seq.Entry → A → A → Type 0
+  abbrev pub IsLogged : ℕ → List SystemEntry → List seq.Entry → A → A → Type 0
   IsLogged t at es s s' = s' ≡ all_pushed put s (receipts_of t (timer_then o at t).stamp es)
 
   -- the receipt of a claim went to the sink, where one was made
@@ -44,7 +47,7 @@ module _ {A : Type 0} (put : A → Receipt → A) (o : Opening) where
     -- a start, and the receipts of its entries
     pub record StartsLogged (t : ℕ) (asked : Asked) (a : StartAnswer) (s s' : A) : Type 0 where
       pub starts : StartsTimer o v w t asked a
-      pub logged : IsLogged t starts.at (start_entries (timer_then o starts.at t) asked a) s s'
+      pub logged : IsLogged t starts.at (start_entries (timer_then o starts.at t) asked starts.sent starts.last a) s s'
 
     -- a cancel, and the receipt of its entry, where it made one
     pub record CancelsLogged (t : ℕ) (a : CancelAnswer) (s s' : A) : Type 0 where

@@ -10,7 +10,9 @@ ghost use Rattle.seq_timer.specs.declared.answer.ForwardAnswer.{ForwardAnswer};
 ghost use Rattle.base_row.specs.declared.view.Opening.{Opening};
 ghost use Rattle.hr_timers.specs.declared.answer.StartAnswer as answers;
 ghost use Rattle.hr_timers.specs.declared.numbers.ClaimNumbers as claimed;
-ghost use Rattle.hr_timers.specs.Known.{KnownOfTimers, KnowsTimers, limit_of, timer_then};
+ghost use Rattle.hr_timers.specs.Known.{KnownOfTimers, KnowsTimers, timer_then};
+ghost use Rattle.seq_timer.specs.Steps.{most_entries};
+ghost use Rattle.seq_timer.specs.Tables.{timer_at};
 ghost use Rattle.hr_timers.specs.Calls.{Cancels, ClaimsNextDue, Finishes, Forwards, Peeks, StartsTimer};
 ghost use Rattle.hr_timers.specs.Answered.{cancel_number, forward_number, start_number};
 
@@ -28,16 +30,19 @@ pub fn a_call_answers_the_stamp()
         → Finishes o v w c restart a → a.number ≡ (timer_then o w.seen c.timer).stamp }
 {}
 
-/// So what a call answers is at most three past the timer's limit, after each call that leaves its pass one of the timers'.
+/// So what a call answers is at most three past the timer's limit, and where the timer has a reach at most 67 past limit and reach, after
+/// each call that leaves its pass one of the timers'.
 pub fn no_answer_is_far_past_the_limit()
     ensures start { (o : Opening) (v w : KnownOfTimers) (t : ℕ) (asked : Asked) (a : answers.StartAnswer)
-        → KnowsTimers o w → StartsTimer o v w t asked a → start_number a ≤ limit_of o t + 3 }
-    ensures cancel { (o : Opening) (v w : KnownOfTimers) (t : ℕ) (a : CancelAnswer) → KnowsTimers o w → Cancels o v w t a → cancel_number a ≤ limit_of o t + 3 }
-    ensures peek { (o : Opening) (v w : KnownOfTimers) (t : ℕ) (p : Peek) → KnowsTimers o w → Peeks o v w t p → p.stamp ≤ limit_of o t + 3 }
+        → KnowsTimers o w → StartsTimer o v w t asked a → start_number a ≤ most_entries (timer_at o.timers t).terms }
+    ensures cancel { (o : Opening) (v w : KnownOfTimers) (t : ℕ) (a : CancelAnswer) → KnowsTimers o w → Cancels o v w t a
+        → cancel_number a ≤ most_entries (timer_at o.timers t).terms }
+    ensures peek { (o : Opening) (v w : KnownOfTimers) (t : ℕ) (p : Peek) → KnowsTimers o w → Peeks o v w t p
+        → p.stamp ≤ most_entries (timer_at o.timers t).terms }
     ensures claim { (o : Opening) (v w : KnownOfTimers) (c : claimed.ClaimNumbers) (x : Context) (base : ℕ) (reading : ClockReading)
-        → KnowsTimers o w → ClaimsNextDue o v w x base reading c → c.number ≤ limit_of o c.timer + 3 }
+        → KnowsTimers o w → ClaimsNextDue o v w x base reading c → c.number ≤ most_entries (timer_at o.timers c.timer).terms }
     ensures forward { (o : Opening) (v w : KnownOfTimers) (c : claimed.ClaimNumbers) (reading : ClockReading) (interval : ℕ) (a : ForwardAnswer)
-        → KnowsTimers o w → Forwards o v w c reading interval a → forward_number a ≤ limit_of o c.timer + 3 }
+        → KnowsTimers o w → Forwards o v w c reading interval a → forward_number a ≤ most_entries (timer_at o.timers c.timer).terms }
     ensures finish { (o : Opening) (v w : KnownOfTimers) (c : claimed.ClaimNumbers) (restart : Bool) (a : Finished)
-        → KnowsTimers o w → Finishes o v w c restart a → a.number ≤ limit_of o c.timer + 3 }
+        → KnowsTimers o w → Finishes o v w c restart a → a.number ≤ most_entries (timer_at o.timers c.timer).terms }
 {}

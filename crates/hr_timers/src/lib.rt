@@ -5,6 +5,8 @@ mod answer;
 mod asked;
 mod cancelling;
 mod claiming;
+mod evacuable;
+mod evacuating;
 mod laws;
 mod logged;
 mod moving;
@@ -17,7 +19,7 @@ mod tokens;
 mod trying_now;
 mod under_lock;
 
-pub use answer::{ClaimAnswer, NowAnswer, StartAnswer};
+pub use answer::{ClaimAnswer, NowAnswer, OfflineAnswer, OnlineAnswer, StartAnswer};
 pub use base_row::{Log, Noted, Receipt, ReceiptLog, ReceiptSink, Unlogged};
 pub use laws::{a_call_answers_the_stamp, no_answer_is_far_past_the_limit};
 pub use numbers::ClaimNumbers;

@@ -1,6 +1,8 @@
 //! The same calls with a sink for the receipts of the entries that they make.
 ghost use Rattle.std.specs.Prelude.{◌≤◌, ◌<◌, ◌+◌, length};
+ghost use Rattle.seq_timer.specs.Tables.{timer_at};
 ghost use Rattle.hr_timers.specs.Known.{IsPassOf, OwnsClaim};
+ghost use Rattle.hr_timers.specs.Ways.{most_to_start};
 ghost use Rattle.hr_timers.specs.Logged.{CancelsLogged, ClaimsLogged, FinishesLogged, ForwardsLogged, HasRoomToStart, StartsLogged};
 
 use crate::answer::{ClaimAnswer, StartAnswer};
@@ -25,10 +27,10 @@ impl Timers {
         requires pass { IsPassOf self.now pass.old }
         requires timer { timer < length self.now.about.timers }
         requires base { asked.now.base < self.now.about.bases }
-        requires room { HasRoomToStart pass.old.known timer (S.room sink.old) }
+        requires room { HasRoomToStart self.now.about pass.old.known timer asked.now.base (S.room sink.old) }
         ensures pass { IsPassOf self.now pass.new }
         ensures starts { StartsLogged S.pushed self.now.about pass.old.known pass.new.known timer asked.now result sink.old sink.new }
-        ensures room { S.room sink.old ≤ S.room sink.new + 2 }
+        ensures room { S.room sink.old ≤ S.room sink.new + most_to_start (timer_at self.now.about.timers timer).terms asked.now.base }
     {
         self.small();
         let row = self.base_row();

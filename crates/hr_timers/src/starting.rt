@@ -1,19 +1,22 @@
-//! Starting a timer: on the base where it is, or by a move to the base that is asked for.
-ghost use Rattle.std.specs.Prelude.{◌≡◌, ◌<◌, ◌≤◌, ◌+◌, [], ◌∷◌, false, length};
-ghost use Rattle.seq_timer.specs.Calls.{entries_along, moves_first, start_events, step_all};
+//! Starting a timer: on the base where it is, or by a move to the base that is asked for, and from a base that is off line to its heir.
+ghost use Rattle.std.specs.Prelude.{◌≡◌, ◌<◌, ◌≤◌, ◌+◌, None, [], ◌∷◌, false, is_some, length, if◌then◌else◌};
+ghost use Rattle.seq_timer.specs.Calls.{moves_first};
 ghost use Rattle.seq_timer.specs.declared.event.EventBy.TheVariants.{Start};
-ghost use Rattle.seq_timer.specs.Steps.{after, placement_of};
+ghost use Rattle.seq_timer.specs.Steps.{after};
+ghost use Rattle.seq_timer.specs.Tables.{timer_at};
 ghost use Rattle.base_row.specs.Calls.{known_of, timer_seen};
 ghost use Rattle.hr_timers.specs.Known.{AddsBehind, HoldsTimer, IsAtRest};
 ghost use Rattle.hr_timers.specs.Calls.{entry_by};
 ghost use Rattle.hr_timers.specs.Logged.{HasRoomToStart, IsLogged, StartsLogged};
+ghost use Rattle.hr_timers.specs.Moves.{StartsBy, arrival_of};
+ghost use Rattle.hr_timers.specs.Ways.{most_to_start};
 
 use crate::answer::StartAnswer;
-use crate::asked::{generation_of, moves_first, outs_of};
-use crate::moving::move_and_start;
+use crate::asked::moves_first;
+use crate::moving::{Arrival, chase, move_and_start};
 use crate::under_lock::{enter_once, leave, lock_timer, state_of};
 use base_row::{BaseRow, HeldBase, Pass, ReceiptSink};
-use seq_timer::{Asked, Event, Placement, Reply};
+use seq_timer::{Asked, Event, Reply};
 use std::sync::Wait;
 
 /// Starts a timer, once it isn't on the move.
@@ -28,15 +31,17 @@ pub fn start<R: Wait, S: ReceiptSink>(
     requires rest { IsAtRest row.now pass.old }
     requires timer { timer < length row.now.about.timers }
     requires base { (asked.now.base < row.now.about.bases) × (row.now.about.bases ≤ 64) }
-    requires room { HasRoomToStart (known_of pass.old.knows) timer (S.room sink.old) }
+    requires room { HasRoomToStart row.now.about (known_of pass.old.knows) timer asked.now.base (S.room sink.old) }
     ensures rest { IsAtRest row.now pass.new }
     ensures starts { StartsLogged S.pushed row.now.about (known_of pass.old.knows) (known_of pass.new.knows) timer asked.now result sink.old sink.new }
-    ensures room { S.room sink.old ≤ S.room sink.new + 2 }
+    ensures room { S.room sink.old ≤ S.room sink.new + most_to_start (timer_at row.now.about.timers timer).terms asked.now.base }
 {
+    let base = chase(row, pass, asked.base);
+    let to = Asked { base, ..*asked };
     let held = lock_timer(rt, row, pass, timer);
     row.fresh();
     pass.known();
-    start_held(rt, row, pass, sink, held, timer, asked)
+    start_held(rt, row, pass, sink, held, timer, &to)
 }
 
 /// Starts a timer of a held base, and lets the base go.
@@ -51,10 +56,11 @@ fn start_held<R: Wait, S: ReceiptSink>(
 ) -> StartAnswer
     requires holds { HoldsTimer row.now pass.old held timer }
     requires base { (asked.now.base < row.now.about.bases) × (row.now.about.bases ≤ 64) }
-    requires room { length (start_events (timer_seen row.now.about pass.old.knows timer) asked.now) ≤ S.room sink.old }
+    requires room { (if is_some (timer_seen row.now.about pass.old.knows timer).running then 1
+        else most_to_start (timer_seen row.now.about pass.old.knows timer).terms asked.now.base) ≤ S.room sink.old }
     ensures rest { IsAtRest row.now pass.new }
     ensures starts { StartsLogged S.pushed row.now.about (known_of pass.old.knows) (known_of pass.new.knows) timer asked.now result sink.old sink.new }
-    ensures room { S.room sink.old ≤ S.room sink.new + 2 }
+    ensures room { S.room sink.old ≤ S.room sink.new + most_to_start (timer_seen row.now.about pass.old.knows timer).terms asked.now.base }
 {
     let state = state_of(row, pass, &held, timer);
     let stamp = state.stamp();
@@ -63,18 +69,17 @@ fn start_held<R: Wait, S: ReceiptSink>(
         return StartAnswer::Spent { stamp };
     }
     let was_armed = state.armed().is_some();
-    let outs = outs_of(state, asked.base);
-    let generation = generation_of(state, asked);
-    let placement = enter_start(rt, row, pass, sink, held, timer, asked);
+    let arrival = enter_start(rt, row, pass, sink, held, timer, asked);
     StartAnswer::Started {
         was_armed,
-        generation,
-        outs,
-        placement,
+        generation: arrival.generation,
+        asked: arrival.asked,
+        outs: arrival.outs,
+        placement: arrival.placement,
     }
 }
 
-/// Makes the entries of a start that is below the limit, and lets the base go. It tells how the timer is kept then.
+/// Makes the entries of a start that is below the limit, and lets the base go.
 fn enter_start<R: Wait, S: ReceiptSink>(
     rt: &R,
     row: &BaseRow,
@@ -83,47 +88,68 @@ fn enter_start<R: Wait, S: ReceiptSink>(
     held: HeldBase,
     timer: u32,
     asked: &Asked,
-) -> Placement
+) -> Arrival
     requires holds { HoldsTimer row.now pass.old held timer }
-    requires base { asked.now.base < row.now.about.bases }
+    requires base { (asked.now.base < row.now.about.bases) × (row.now.about.bases ≤ 64) }
     requires limit { (timer_seen row.now.about pass.old.knows timer).stamp < (timer_seen row.now.about pass.old.knows timer).terms.limit }
-    requires room { length (start_events (timer_seen row.now.about pass.old.knows timer) asked.now) ≤ S.room sink.old }
+    requires room { (if is_some (timer_seen row.now.about pass.old.knows timer).running then 1
+        else most_to_start (timer_seen row.now.about pass.old.knows timer).terms asked.now.base) ≤ S.room sink.old }
     ensures rest { IsAtRest row.now pass.new }
     ensures claims { pass.new.knows.claims ≡ pass.old.knows.claims }
-    ensures adds { AddsBehind pass.old.knows pass.new.knows timer (entries_along (timer_seen row.now.about pass.old.knows timer) (start_events (timer_seen row.now.about pass.old.knows timer) asked.now)) }
-    ensures placement { result ≡ placement_of (step_all (timer_seen row.now.about pass.old.knows timer) (start_events (timer_seen row.now.about pass.old.knows timer) asked.now)) }
-    ensures logged { IsLogged S.pushed row.now.about timer pass.old.knows.seen (entries_along (timer_seen row.now.about pass.old.knows timer) (start_events (timer_seen row.now.about pass.old.knows timer) asked.now)) sink.old sink.new }
-    ensures room { S.room sink.old ≤ S.room sink.new + 2 }
+    ensures starts { StartsBy S.pushed row.now.about pass.old.knows pass.new.knows timer asked.now result sink.old sink.new }
+    ensures room { S.room sink.old ≤ S.room sink.new + most_to_start (timer_seen row.now.about pass.old.knows timer).terms asked.now.base }
 {
-    if moves_first(state_of(row, pass, &held, timer), asked.base) {
-        move_and_start(rt, row, pass, sink, held, timer, asked)
-    } else {
-        start_here(row, pass, sink, held, timer, asked)
+    let standing = row.standing(pass, &held);
+    match standing.heir {
+        Some(heir) if held.base() == asked.base => {
+            let next = Asked {
+                base: heir,
+                ..*asked
+            };
+            move_and_start(rt, row, pass, sink, held, timer, &next)
+        }
+        Some(_) => move_and_start(rt, row, pass, sink, held, timer, asked),
+        None if moves_first(state_of(row, pass, &held, timer), asked.base) => {
+            move_and_start(rt, row, pass, sink, held, timer, asked)
+        }
+        None => stay(row, pass, sink, held, timer, asked),
     }
 }
 
-/// Starts a timer on the held base where it is, and lets the base go.
-fn start_here<S: ReceiptSink>(
+/// Starts a timer where it is, on the held base, which is on line, and lets the base go.
+fn stay<S: ReceiptSink>(
     row: &BaseRow,
     pass: &mut Pass,
     sink: &mut S,
     held: HeldBase,
     timer: u32,
     asked: &Asked,
-) -> Placement
+) -> Arrival
     requires holds { HoldsTimer row.now pass.old held timer }
     requires limit { (timer_seen row.now.about pass.old.knows timer).stamp < (timer_seen row.now.about pass.old.knows timer).terms.limit }
     requires stays { moves_first (timer_seen row.now.about pass.old.knows timer) asked.now.base ≡ false }
+    requires online { held.content.standing.heir ≡ None }
     requires room { 0 < S.room sink.old }
     ensures rest { IsAtRest row.now pass.new }
     ensures claims { pass.new.knows.claims ≡ pass.old.knows.claims }
-    ensures adds { AddsBehind pass.old.knows pass.new.knows timer (entry_by (timer_seen row.now.about pass.old.knows timer) (Start asked.now) ∷ []) }
-    ensures placement { result ≡ placement_of (after (timer_seen row.now.about pass.old.knows timer) (Start asked.now)) }
-    ensures logged { IsLogged S.pushed row.now.about timer pass.old.knows.seen (entry_by (timer_seen row.now.about pass.old.knows timer) (Start asked.now) ∷ []) sink.old sink.new }
+    ensures adds { AddsBehind pass.old.knows pass.new.knows timer
+        (entry_by (timer_seen row.now.about pass.old.knows timer) (Start asked.now) ∷ []) }
+    ensures told { result ≡ arrival_of (after (timer_seen row.now.about pass.old.knows timer) (Start asked.now)) [] asked.now.base }
+    ensures logged { IsLogged S.pushed row.now.about timer pass.old.knows.seen
+        (entry_by (timer_seen row.now.about pass.old.knows timer) (Start asked.now) ∷ []) sink.old sink.new }
     ensures room { S.room sink.old ≤ S.room sink.new + 1 }
 {
+    pass.known();
+    let state = state_of(row, pass, &held, timer);
+    state.bounded();
+    let generation = state.stamp() + 1;
     match enter_once(row, pass, sink, held, timer, &Event::Start(*asked)) {
-        Reply::Start { placement, .. } => placement,
+        Reply::Start { placement, .. } => Arrival {
+            asked: asked.base,
+            outs: 0,
+            generation,
+            placement,
+        },
         _ => unreachable!(),
     }
 }

@@ -7,6 +7,7 @@ mod answers;
 mod callers;
 mod claims;
 mod limits;
+mod off_line;
 mod passes;
 mod slack;
 mod threads;

@@ -8,7 +8,7 @@ ghost use Rattle.seq_timer.specs.Calls.{asked_for};
 ghost use Rattle.base_row.specs.Calls.{opening_of};
 ghost use Rattle.base_row.specs.Plays.{greater};
 ghost use Rattle.pass_names.specs.SharedHistory.{MeetWith, TakesIn, child_known, first_known, splitter_known};
-ghost use Rattle.hr_timers.specs.Known.{IsPassOf, OwnsClaim, HasEachPlace};
+ghost use Rattle.hr_timers.specs.Known.{HasEachPlace, HasEachShift, IsPassOf, OwnsClaim};
 ghost use Rattle.hr_timers.specs.Calls.{Cancels, ClaimFits, Finishes, Forwards, NowFits, Peeks, StartsTimer};
 ghost use Rattle.hr_timers.specs.declared.answer.NowAnswer.TheVariants as nows;
 
@@ -27,7 +27,7 @@ use std::sync::Wait;
 /// Timers that many threads share, each thread with a pass of its own.
 #[derive(Drop)]
 pub struct Timers {
-    row: BaseRow,
+    pub(crate) row: BaseRow,
 }
 
 impl Model for Timers {
@@ -61,7 +61,7 @@ impl Timers {
         Timers::make_full(alloc, bases, &timers, max_events)
     }
 
-    /// The same, with timers of both contexts.
+    /// The same, with timers of both contexts. Their bases stay on line.
     pub fn make_full(
         alloc: Global,
         bases: u32,
@@ -128,6 +128,7 @@ impl Timers {
             reading,
             base,
         };
+        self.small();
         self.start_logged(rt, pass, &mut Unlogged, timer, &asked)
     }
 
@@ -291,12 +292,13 @@ impl Timers {
         self.check(main);
     }
 
-    /// Ends the timers with their last pass, which has no claims. It has each place of each timer.
+    /// Ends the timers with their last pass, which has no claims. It has each place of each timer, and of each base.
     pub fn close(self, pass: Pass)
         requires pass { IsPassOf self pass }
         requires last { IsLast pass.known.id }
         requires unclaimed { pass.known.claims ≡ [] }
         ensures whole { HasEachPlace self.about pass.known }
+        ensures shifts { HasEachShift self.about pass.known }
     {
         let Timers { row } = self;
         let Pass { inner } = pass;

@@ -13,6 +13,7 @@ ghost use Rattle.base_row.specs.Calls.{base_seen, IsBasePassOf, MayAppend, known
 ghost use Rattle.hr_timers.specs.Known.{AddsBehind, HoldsBase, HoldsTimer, IsAtRest, Looks};
 ghost use Rattle.hr_timers.specs.Calls.{SawMove, entry_by};
 ghost use Rattle.hr_timers.specs.Logged.{IsLogged};
+ghost use Rattle.hr_timers.specs.Moves.{KeepsBases};
 
 use base_row::{BaseRow, HeldBase, Pass, ReceiptSink};
 use pass_names::Retries;
@@ -131,6 +132,9 @@ pub fn leave_base(row: &BaseRow, pass: &mut Pass, held: HeldBase, base: u32)
     requires base { held.base ≡ base }
     ensures rest { IsAtRest row.now pass.new }
     ensures looks { Looks pass.old.knows pass.new.knows }
+    ensures keeps { KeepsBases (known_of pass.old.knows) (known_of pass.new.knows) }
+    ensures own { (t : ℕ) → t < length row.now.about.timers → IsOn base (timer_seen row.now.about pass.old.knows t)
+        → timer_seen row.now.about pass.new.knows t ≡ timer_seen row.now.about pass.old.knows t }
     ensures idle { (x : Context) → running_in x held.content.content ≡ None → (t : ℕ) → runs_on base (in_context x (timer_seen row.now.about pass.new.knows) t) ≡ false }
     ensures busy { (x : Context) (t g : ℕ) → running_in x held.content.content ≡ Some (t, g) → running_on base (in_context x (timer_seen row.now.about pass.new.knows) t) ≡ Some g }
     ensures content { base_seen row.now.about pass.new.knows base ≡ held.content }

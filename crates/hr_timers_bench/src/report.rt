@@ -39,7 +39,7 @@ fn fill<R: Wait>(rt: &R, timers: &Timers, pass: &mut Pass, second: u32) -> u64
     requires base { second < 2 }
     ensures ready { IsUnclaimed timers.now pass.new }
     ensures worked { MadeEntries result pass.old pass.new }
-    ensures most { result ≤ 1031 }
+    ensures most { result ≤ 1540 }
 {
     let mut random = Random::new();
     let mut made = 0;

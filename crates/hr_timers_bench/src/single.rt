@@ -1,14 +1,15 @@
 //! Single calls of a pass that has no claims. Each answers how many entries it made.
-ghost use Rattle.std.specs.Prelude.{◌≡◌, ◌<◌, ◌≤◌, length};
-ghost use Rattle.hr_timers_bench.specs.Working.{IsUnclaimed, MadeEntries, entries_told};
+ghost use Rattle.std.specs.Prelude.{◌≡◌, ◌+◌, ◌<◌, ◌≤◌, length};
+ghost use Rattle.hr_timers_bench.specs.Working.{IsUnclaimed, MadeEntries};
 
-use hr_timers::{ClaimAnswer, NowAnswer, Pass, StartAnswer, Timers};
+use hr_timers::{ClaimAnswer, NowAnswer, Pass, Timers};
 use ktime::{Mode, Reading};
-use seq_timer::CancelAnswer;
+use seq_timer::{Asked, CancelAnswer};
+use shared_timer_uses::Counted;
 use std::sync::Wait;
 
 /// The time of all calls.
-const NOW: u64 = 1000;
+pub const NOW: u64 = 1000;
 
 pub fn start<R: Wait>(
     rt: &R,
@@ -22,22 +23,18 @@ pub fn start<R: Wait>(
     requires within { (timer < length timers.now.about.timers) × (base < timers.now.about.bases) }
     ensures ready { IsUnclaimed timers.now pass.new }
     ensures worked { MadeEntries result pass.old pass.new }
-    ensures most { result ≤ 2 }
+    ensures most { result ≤ base + 2 }
 {
-    let answer = timers.start(rt, pass, timer, Mode::Abs, ns, base, Reading::at(NOW));
-    entries_told(&answer)
-}
-
-/// How many entries a start has made: an Out comes before the start of a timer that was moved.
-fn entries_told(answer: &StartAnswer) -> u64
-    ensures count { result ≡ entries_told answer.now }
-    ensures most { result ≤ 2 }
-{
-    match *answer {
-        StartAnswer::Started { outs: 0, .. } => 1,
-        StartAnswer::Started { .. } => 2,
-        StartAnswer::Spent { .. } => 0,
-    }
+    let asked = Asked {
+        mode: Mode::Abs,
+        ns,
+        slack: 0,
+        reading: Reading::at(NOW),
+        base,
+    };
+    let mut counted = Counted { made: 0 };
+    timers.start_logged(rt, pass, &mut counted, timer, &asked);
+    counted.made
 }
 
 pub fn cancel<R: Wait>(rt: &R, timers: &Timers, pass: &mut Pass, timer: u32) -> u64

@@ -47,9 +47,10 @@ fn turn<R: Wait>(
 ) -> u64
     requires ready { IsUnclaimed timers.now pass.old }
     requires within { (own.timer < length timers.now.about.timers) × (own.base < timers.now.about.bases) }
+    requires bases { timers.now.about.bases ≡ 2 }
     ensures ready { IsUnclaimed timers.now pass.new }
     ensures worked { MadeEntries result pass.old pass.new }
-    ensures most { result ≤ 4 }
+    ensures most { result ≤ 5 }
 {
     let Own { timer, base } = own;
     match op {
@@ -76,10 +77,11 @@ fn turn<R: Wait>(
 fn turns<R: Wait>(rt: &R, timers: &Timers, pass: &mut Pass, own: Own, op: Op, times: u64) -> u64
     requires ready { IsUnclaimed timers.now pass.old }
     requires within { (own.timer < length timers.now.about.timers) × (own.base < timers.now.about.bases) }
+    requires bases { timers.now.about.bases ≡ 2 }
     requires few { times < 2 ^ 32 }
     ensures ready { IsUnclaimed timers.now pass.new }
     ensures worked { MadeEntries result pass.old pass.new }
-    ensures most { result ≤ 4 * times }
+    ensures most { result ≤ 5 * times }
 {
     let mut random = Random::of(u64::from(own.timer));
     let mut made = 0;
@@ -103,7 +105,7 @@ pub fn turns_of_all<R: Threads + Wait + Sync>(
     requires size { (timers.now.about.bases ≡ 2) × (2 ≤ length timers.now.about.timers) }
     requires few { times < 2 ^ 32 }
     ensures both { AreTwoPasses timers.now first.new second.new }
-    ensures most { result ≤ 8 * times }
+    ensures most { result ≤ 10 * times }
 {
     let own = Own { timer: 0, base: 0 };
     let Some(base) = workers.second() else {

@@ -22,7 +22,7 @@ use Rattle.timer_core.specs.declared.answer.ClaimAnswer.{ClaimAnswer}
 use Rattle.timer_core.specs.declared.answer.ClaimAnswer.TheVariants as claims
 use Rattle.timer_core.specs.declared.answer.StartAnswer.{StartAnswer}
 use Rattle.timer_core.specs.declared.answer.StartAnswer.TheVariants as starts
-use Rattle.timer_core.specs.Kept.{Kept, HasRoom, IsSpent, after_events, content_at, opened, timer_in}
+use Rattle.timer_core.specs.Kept.{Kept, IsBelowLimit, IsSpent, after_events, content_at, opened, timer_in}
 use Rattle.hulayban_c.specs.Numbers.{clock_number, clock_by_number, context_by_number, mode_by_number, nothing, reading_by_times}
 use Rattle.hulayban_c.specs.declared.codes.TheConstants.{NO_TIMERS, DONE, SPENT, ARMED, RUNNING, BUSY, CLAIMED, CANCELLED, AGAIN, BAD_TIMER, BAD_BASE, BAD_MODE, BAD_TIME, BAD_CLOCK, BAD_CONTEXT, BAD_COUNT, BAD_LIMIT, IN_USE, NO_MEMORY, NOT_RUNNING}
 use Rattle.hulayban_c.specs.declared.crossing.Time.{Time}
@@ -186,7 +186,7 @@ pub record AnswersStart (old : Kept) (timer mode ns slack base : ℕ) (now : Tim
   pub bad : (code : ℤ) → start_asks old timer mode ns slack base now ≡ Err code → (told ≡ Err code) × (new ≡ old)
   pub spent : (asked : Asked) → start_asks old timer mode ns slack base now ≡ Ok asked → IsSpent (timer_in old timer)
       → (told ≡ Ok (start_tells timer (starts.Spent (timer_in old timer).stamp))) × (new ≡ old)
-  pub started : (asked : Asked) → start_asks old timer mode ns slack base now ≡ Ok asked → HasRoom (timer_in old timer)
+  pub started : (asked : Asked) → start_asks old timer mode ns slack base now ≡ Ok asked → IsBelowLimit (timer_in old timer)
       → (told ≡ Ok (start_tells timer (started_as (timer_in old timer) (timer_in new timer) base)))
       × (new ≡ after_events old timer (start_events (timer_in old timer) asked))
 
@@ -216,9 +216,9 @@ pub record AnswersForward (old : Kept) (timer : ℕ) (now : Time) (interval : �
   pub bad : (code : ℤ) → forward_asks old timer now ≡ Err code → (told ≡ Err code) × (new ≡ old)
   pub spent : (reading : ClockReading) → forward_asks old timer now ≡ Ok reading → IsSpent (timer_in old timer)
       → (told ≡ Ok (forward_tells timer (forwards.Spent (timer_in old timer).stamp))) × (new ≡ old)
-  pub armed : (reading : ClockReading) (g : ℕ) → forward_asks old timer now ≡ Ok reading → HasRoom (timer_in old timer) → (timer_in old timer).armed ≡ Some g
+  pub armed : (reading : ClockReading) (g : ℕ) → forward_asks old timer now ≡ Ok reading → IsBelowLimit (timer_in old timer) → (timer_in old timer).armed ≡ Some g
       → (told ≡ Ok (forward_tells timer (forwards.Armed g (timer_in old timer).stamp))) × (new ≡ old)
-  pub forwarded : (reading : ClockReading) → forward_asks old timer now ≡ Ok reading → HasRoom (timer_in old timer) → (timer_in old timer).armed ≡ None
+  pub forwarded : (reading : ClockReading) → forward_asks old timer now ≡ Ok reading → IsBelowLimit (timer_in old timer) → (timer_in old timer).armed ≡ None
       → (told ≡ Ok (forward_tells timer (forwarded_as (timer_in old timer) reading interval))) × (new ≡ after_events old timer (events.Forward reading interval ∷ []))
 
 -- a finish; any number but 0 asks for a restart

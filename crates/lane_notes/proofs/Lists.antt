@@ -3,27 +3,43 @@ use Rattle.std.proofs.Common.{◌≡◌, ℕ, ◌+◌, zero, suc, List, [], ◌�
 use Rattle.std.specs.List.{slice_get}
 use Rattle.std.proofs.lemmas.Option.{same_Some}
 use Rattle.record_text.specs.declared.record.Answer.{Answer}
+use Rattle.record_text.specs.declared.record.BaseLine.{BaseLine}
+use Rattle.record_text.specs.declared.record.ClockLine.{ClockLine}
 use Rattle.record_text.specs.declared.record.Entry.{Entry}
 use Rattle.record_text.specs.declared.record.Label.{Label}
 use Rattle.record_text.specs.declared.record.ObjectEntry.{ObjectEntry}
 use Rattle.record_text.specs.declared.record.ObjectLine.{ObjectLine}
+use Rattle.record_text.specs.declared.record.RunRecord.{RunRecord}
 use Rattle.record_text.specs.declared.record.TimerLine.{TimerLine}
 use Rattle.record_text.specs.declared.version.Version.{Version}
 use Rattle.lane_notes.specs.declared.notes.EntryNote.{EntryNote}
 use Rattle.lane_notes.specs.declared.notes.ObjectNote.{ObjectNote}
 use Rattle.lane_notes.specs.Notes.{NotesOf}
 use Rattle.lane_notes.specs.Sorted.{Place, is_of_list, is_of_number}
-use Rattle.lane_notes.specs.Records.{line_at_number, noted_lines, noted_object_lines, noted_timer_lines, numbered_from, record_from}
+use Rattle.lane_notes.specs.Records.{line_at_number, noted_base_lines, noted_lines, noted_object_lines, noted_timer_lines, numbered_from, record_from}
 use Rattle.lane_notes.proofs.Shelves.{add_later, add_none, length-each_below}
 
--- law: there is one list for each timer, and one for its object
-pub length-timers : (version : Version) (notes : NotesOf) (timers : ℕ) (answers : List (List Answer))
-    → length (record_from version notes timers answers).timers ≡ timers
-length-timers version notes timers answers = length-each_below (λ u. noted_timer_lines u notes.entries notes.looks) timers
+-- law: there is one list for each base and for each timer, and one for a timer's object
+pub length-bases : (version : Version) (notes : NotesOf) (bases timers : ℕ) (answers : List (List Answer))
+    → length (record_from version notes bases timers answers).bases ≡ bases
+length-bases version notes bases timers answers = length-each_below (λ b. noted_base_lines b notes.bases) bases
 
-pub length-objects : (version : Version) (notes : NotesOf) (timers : ℕ) (answers : List (List Answer))
-    → length (record_from version notes timers answers).objects ≡ timers
-length-objects version notes timers answers = length-each_below (λ j. noted_object_lines j notes.objects notes.skips) timers
+pub length-timers : (version : Version) (notes : NotesOf) (bases timers : ℕ) (answers : List (List Answer))
+    → length (record_from version notes bases timers answers).timers ≡ timers
+length-timers version notes bases timers answers = length-each_below (λ u. noted_timer_lines u notes.entries notes.looks) timers
+
+pub length-objects : (version : Version) (notes : NotesOf) (bases timers : ℕ) (answers : List (List Answer))
+    → length (record_from version notes bases timers answers).objects ≡ timers
+length-objects version notes bases timers answers = length-each_below (λ j. noted_object_lines j notes.objects notes.skips) timers
+
+-- a record is the same as another where its parts are
+pub same_record : (version : Version) {clock clocks : List ClockLine} {base bases : List (List BaseLine)} {timer timers : List (List TimerLine)}
+    {object objects : List (List ObjectLine)} {answer answers : List (List Answer)} → clock ≡ clocks → base ≡ bases → timer ≡ timers → object ≡ objects
+    → answer ≡ answers
+    → ◌≡◌ {A = RunRecord} (record { version = version; clock = clock; bases = base; timers = timer; objects = object; answers = answer })
+    (record { version = version; clock = clocks; bases = bases; timers = timers; objects = objects; answers = answers })
+same_record version clock bases timers objects answers =
+    λ i. record { version = version; clock = clock i; bases = bases i; timers = timers i; objects = objects i; answers = answers i }
 
 -- ---- lines by their number
 

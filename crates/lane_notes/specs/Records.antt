@@ -1,5 +1,6 @@
 -- The record that is made of notes in their order.
 use Rattle.std.specs.Prelude.{ℕ, zero, suc, ◌+◌, Bool, nat_eq, List, [], ◌∷◌, ◌++◌, map, filter, get_or, slice_set}
+use Rattle.record_text.specs.declared.record.BaseLine.{BaseLine}
 use Rattle.record_text.specs.declared.record.Look.{Look}
 use Rattle.record_text.specs.declared.record.Skip.{Skip}
 use Rattle.record_text.specs.declared.record.TimerLine.{TimerLine}
@@ -7,6 +8,7 @@ use Rattle.record_text.specs.declared.record.ObjectLine.{ObjectLine}
 use Rattle.record_text.specs.declared.record.Answer.{Answer}
 use Rattle.record_text.specs.declared.record.RunRecord.{RunRecord}
 use Rattle.record_text.specs.declared.version.Version.{Version}
+use Rattle.lane_notes.specs.declared.notes.BaseNote.{BaseNote}
 use Rattle.lane_notes.specs.declared.notes.EntryNote.{EntryNote}
 use Rattle.lane_notes.specs.declared.notes.LookNote.{LookNote}
 use Rattle.lane_notes.specs.declared.notes.ObjectNote.{ObjectNote}
@@ -14,7 +16,7 @@ use Rattle.lane_notes.specs.declared.notes.SkipNote.{SkipNote}
 use Rattle.lane_notes.specs.declared.filing.By.{By}
 use Rattle.lane_notes.specs.declared.filing.By.TheVariants as shelves
 use Rattle.lane_notes.specs.Notes.{NotesOf}
-use Rattle.lane_notes.specs.Sorted.{Place, is_of_list, is_of_number, place_of_entry, place_of_look, place_of_object, place_of_skip}
+use Rattle.lane_notes.specs.Sorted.{Place, is_of_list, is_of_number, place_of_base, place_of_entry, place_of_look, place_of_object, place_of_skip}
 
 -- the value at each number below this one, from 0
 abbrev pub each_below : {A : Type 0} → (ℕ → A) → ℕ → List A
@@ -56,6 +58,10 @@ module _ {N U L : Type 0} (under : U → Place) (line : N → List U → L) wher
   abbrev pub noted_lines : (N → Place) → ℕ → List N → List U → List L
   noted_lines place list notes unders = numbered_from (line_at_number (filter (is_of_list under list) unders)) 1 (filter (is_of_list place list) notes)
 
+-- the items of a list
+abbrev pub noted_items : {N I : Type 0} → (N → Place) → (N → I) → ℕ → List N → List I
+noted_items place item list notes = map item (filter (is_of_list place list) notes)
+
 -- an entry of a timer as a line, with these looks
 abbrev pub timer_line : EntryNote → List LookNote → TimerLine
 timer_line note looks = record { label = note.label; entry = note.entry; looks = map look_of looks }
@@ -72,11 +78,20 @@ noted_timer_lines timer entries looks = noted_lines place_of_look timer_line pla
 abbrev pub noted_object_lines : ℕ → List ObjectNote → List SkipNote → List ObjectLine
 noted_object_lines object entries skips = noted_lines place_of_skip object_line place_of_object object entries skips
 
--- the record of a version, of notes in their order, with so many timers and with each lane's answers
-abbrev pub record_from : Version → NotesOf → ℕ → List (List Answer) → RunRecord
-record_from version notes timers answers = record {
+-- an entry of a base as a line
+abbrev pub base_line : BaseNote → BaseLine
+base_line note = record { label = note.label; event = note.event }
+
+-- the lines of a base
+abbrev pub noted_base_lines : ℕ → List BaseNote → List BaseLine
+noted_base_lines base notes = noted_items place_of_base base_line base notes
+
+-- the record of a version, of notes in their order, with so many bases and timers and with each lane's answers
+abbrev pub record_from : Version → NotesOf → ℕ → ℕ → List (List Answer) → RunRecord
+record_from version notes bases timers answers = record {
   version = version;
   clock = map (λ note. note.line) notes.writes;
+  bases = each_below (λ b. noted_base_lines b notes.bases) bases;
   timers = each_below (λ t. noted_timer_lines t notes.entries notes.looks) timers;
   objects = each_below (λ i. noted_object_lines i notes.objects notes.skips) timers;
   answers = answers;

@@ -4,6 +4,7 @@ use Rattle.std.specs.List.{AllByRecursion}
 use Rattle.std.specs.List.Sorted.{IsPermutation}
 use Rattle.record_text.specs.declared.record.Label.{Label}
 use Rattle.run_history.specs.Order.{is_lower}
+use Rattle.lane_notes.specs.declared.notes.BaseNote.{BaseNote}
 use Rattle.lane_notes.specs.declared.notes.EntryNote.{EntryNote}
 use Rattle.lane_notes.specs.declared.notes.LookNote.{LookNote}
 use Rattle.lane_notes.specs.declared.notes.ObjectNote.{ObjectNote}
@@ -37,6 +38,9 @@ place_of_object n = record { list = n.object; number = n.number; label = n.label
 abbrev pub place_of_skip : SkipNote → Place
 place_of_skip n = record { list = n.object; number = n.number; label = n.label }
 
+abbrev pub place_of_base : BaseNote → Place
+place_of_base n = record { list = n.base; number = n.number; label = n.label }
+
 -- the clock has one list
 abbrev pub place_of_write : WriteNote → Place
 place_of_write n = record { list = 0; number = n.stamp; label = n.line.label }
@@ -66,4 +70,5 @@ pub record IsSortedFrom (notes sorted : NotesOf) : Type 0 where
   pub looks : IsSortedOf place_of_look notes.looks sorted.looks
   pub objects : IsSortedOf place_of_object notes.objects sorted.objects
   pub skips : IsSortedOf place_of_skip notes.skips sorted.skips
+  pub bases : IsSortedOf place_of_base notes.bases sorted.bases
   pub writes : IsSortedOf place_of_write notes.writes sorted.writes

@@ -2,7 +2,7 @@
 #![tactic(auto)]
 
 pub use entries::note_receipts;
-pub use notes::{EntryNote, LookNote, Notes, ObjectNote, SkipNote, WriteNote};
+pub use notes::{BaseNote, EntryNote, LookNote, Notes, ObjectNote, SkipNote, WriteNote};
 pub use objects::note_object_receipts;
 pub use record::record_of;
 

@@ -1,6 +1,6 @@
 //! The lines of each list of notes, with what was noted at each one's number under it.
 ghost use Rattle.std.specs.Prelude.{◌≡◌, List, map, IfOk};
-ghost use Rattle.lane_notes.specs.Records.{each_below, line_at_number, noted_lines, numbered_from};
+ghost use Rattle.lane_notes.specs.Records.{each_below, line_at_number, noted_items, noted_lines, numbered_from};
 
 use crate::filing::{By, filed};
 use crate::placed::Placed;
@@ -63,6 +63,23 @@ fn lines_of_list<N: Lined>(
         lines.push(line)?;
     }
     Ok(lines)
+}
+
+/// The items of each list, for so many lists.
+pub(crate) fn items_of_lists<N: Placed + Shown>(
+    alloc: Global,
+    notes: &[N],
+    count: usize,
+) -> Result<ItemList<ItemList<N::Item>>, AllocError>
+    ensures { IfOk result (λ lists. lists ≡ each_below (λ l. noted_items N.place N.item l notes.now) count) }
+{
+    let notes_of = filed(alloc, notes, count, By::List)?;
+    let mut lists = ItemList::new(alloc);
+    for list in 0..count {
+        let items = items_of(alloc, notes_of[list].as_slice())?;
+        lists.push(items)?;
+    }
+    Ok(lists)
 }
 
 /// The items that notes are shown as, in their order.

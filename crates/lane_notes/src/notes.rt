@@ -1,8 +1,9 @@
 //! The notes of a lane, each with the label of its call.
 ghost use Rattle.std.specs.Prelude.{◌≡◌, ◌++◌, [], OnOk};
-ghost use Rattle.lane_notes.specs.Notes.{both_noted, no_notes, with_write_note};
+ghost use Rattle.lane_notes.specs.Notes.{both_noted, no_notes, with_base_note, with_write_note};
 
 use record_text::{CallbackReply, ClockLine, Entry, Label, ObjectEntry};
+use seq_timer::BaseEvent;
 use std::alloc::{AllocError, Global};
 use std::marker::Model;
 
@@ -42,6 +43,15 @@ pub struct SkipNote {
     pub generation: u64,
 }
 
+/// An entry of a base, with its number among the base's, from 1.
+#[derive(Clone, Copy, Debug, PartialEq, Eq, Drop)]
+pub struct BaseNote {
+    pub label: Label,
+    pub base: u32,
+    pub number: u64,
+    pub event: BaseEvent,
+}
+
 /// A write that the clock took, with the clock's stamp after it.
 #[derive(Clone, Copy, Debug, PartialEq, Eq, Drop)]
 pub struct WriteNote {
@@ -56,6 +66,7 @@ pub struct Notes {
     pub looks: Vec<LookNote>,
     pub objects: Vec<ObjectNote>,
     pub skips: Vec<SkipNote>,
+    pub bases: Vec<BaseNote>,
     pub writes: Vec<WriteNote>,
 }
 
@@ -64,7 +75,7 @@ impl Model for Notes {
 
     ghost Value = { NotesOf };
 
-    ghost view = { λ n. notes_of n.entries.items n.looks.items n.objects.items n.skips.items n.writes.items };
+    ghost view = { λ n. notes_of n.entries.items n.looks.items n.objects.items n.skips.items n.bases.items n.writes.items };
 }
 
 impl Notes {
@@ -77,6 +88,7 @@ impl Notes {
             looks: Vec::new(alloc),
             objects: Vec::new(alloc),
             skips: Vec::new(alloc),
+            bases: Vec::new(alloc),
             writes: Vec::new(alloc),
         }
     }
@@ -89,7 +101,16 @@ impl Notes {
         join(&mut self.looks, other.looks)?;
         join(&mut self.objects, other.objects)?;
         join(&mut self.skips, other.skips)?;
+        join(&mut self.bases, other.bases)?;
         join(&mut self.writes, other.writes)
+    }
+
+    /// Adds an entry of a base.
+    pub fn note_base(&mut self, note: BaseNote) -> Result<(), AllocError>
+        ensures { OnOk result (self.new ≡ with_base_note self.old note) }
+    {
+        self.bases.push(note)?;
+        Ok(())
     }
 
     /// Adds a write of the clock.

@@ -1,9 +1,9 @@
 //! The order of notes: by the list that they belong to, the number there, and the label.
 ghost use Rattle.std.specs.Prelude.{◌≡◌};
 ghost use Rattle.std.specs.List.Sorted.{IsPermutation};
-ghost use Rattle.lane_notes.specs.Sorted.{Place, StandInOrder, place_parts, place_of_entry, place_of_look, place_of_object, place_of_skip, place_of_write};
+ghost use Rattle.lane_notes.specs.Sorted.{Place, StandInOrder, place_parts, place_of_base, place_of_entry, place_of_look, place_of_object, place_of_skip, place_of_write};
 
-use crate::notes::{EntryNote, LookNote, ObjectNote, SkipNote, WriteNote};
+use crate::notes::{BaseNote, EntryNote, LookNote, ObjectNote, SkipNote, WriteNote};
 use record_text::Label;
 
 /// A note that belongs to a list, at a number of it.
@@ -44,6 +44,14 @@ impl Placed for SkipNote {
 
     fn place(&self) -> (u32, u64, Label) {
         (self.object, self.number, self.label)
+    }
+}
+
+impl Placed for BaseNote {
+    ghost place = { place_of_base };
+
+    fn place(&self) -> (u32, u64, Label) {
+        (self.base, self.number, self.label)
     }
 }
 

@@ -1,5 +1,5 @@
 -- What a call on an object does to the object's timer, as parts of the call: its disarming, a start, the receipts of both, and the timer after them.
-use Rattle.std.proofs.Common.{Bool, false, ◌≡◌, ◌≤◌, ◌<◌, ℕ, ◌+◌, Some, List, [], ◌∷◌, ◌++◌, length, map, arith, refl, sym, ap, ◌∙◌, subst}
+use Rattle.std.proofs.Common.{Bool, false, ◌≡◌, ◌≤◌, ◌<◌, ℕ, ◌+◌, Some, List, [], ◌++◌, length, map, arith, refl, sym, ap, ◌∙◌, subst}
 use Rattle.std.specs.List.{AllByRecursion}
 use Rattle.std.proofs.lemmas.List.{append-nil}
 use Rattle.ktime.specs.Readings.{ClockReading}
@@ -8,11 +8,12 @@ use Rattle.seq_timer.specs.Histories as histories
 use Rattle.seq_timer.specs.Histories.{Holds}
 use Rattle.seq_timer.specs.Steps.{Timer}
 use Rattle.seq_timer.specs.declared.observation.Observation.TheVariants as observations
-use Rattle.seq_timer.specs.declared.system.TimerEntry.{TimerEntry}
-use Rattle.seq_timer.specs.Calls.{asked_for, start_events, entries_along, step_all}
+use Rattle.seq_timer.specs.declared.system.SystemEntry.{SystemEntry}
+use Rattle.seq_timer.specs.Calls.{asked_for, entries_along, step_all}
 use Rattle.base_row.specs.declared.log.Receipt.{Receipt}
 use Rattle.hr_timers.specs.Calls.{start_entries, StartsTimer}
 use Rattle.hr_timers.specs.Known.{KnownOfTimers, MadeAt, timer_then}
+use Rattle.hr_timers.specs.Ways.{start_on, WasOff}
 use Rattle.hr_timers.specs.declared.answer.StartAnswer.TheVariants as starts
 use Rattle.hr_timers.specs.declared.answer.StartAnswer.{StartAnswer}
 use Rattle.hr_timers.proofs.Moments.{along, timer_after}
@@ -22,7 +23,6 @@ use Rattle.timer_setting.specs.declared.arming.Wanted.{Wanted}
 use Rattle.base_row.specs.Logs.{receipts_of}
 use Rattle.timer_objects.specs.Arming.{arm_of, Starts}
 use Rattle.record_text.specs.declared.record.ClockLine.{ClockLine}
-use Rattle.record_text.specs.declared.record.Label.{Label}
 use Rattle.run_history.specs.Actions.{Action}
 use Rattle.run_history.specs.Told.{IsArmedLike}
 use Rattle.run_history.specs.Histories.{reading_at}
@@ -35,7 +35,10 @@ use Rattle.lane_notes.specs.Arms.{arm_noted}
 use Rattle.run_history.specs.Witnesses.{Witness, entries_in}
 use Rattle.run_history.specs.Receipts.{PlacedEntry}
 use Rattle.run_history.specs.Traces.{all_entered}
-use Rattle.run_history.specs.Truths.{IsTrueStart}
+use Rattle.run_history.specs.Promises.{GoesOn}
+use Rattle.run_history.specs.Runs.{witness_of, Ending, IsJoined}
+use Rattle.run_history.specs.Truths.{IsTrueStart, WasOffLine}
+use Rattle.run_history.proofs.Reached.{was_wider}
 use Rattle.run_history.proofs.Known.{numbered}
 use Rattle.lane_run.proofs.Kept.{begins_same, IsNextCall}
 use Rattle.lane_run.proofs.CallKept.{inside_of}
@@ -44,7 +47,9 @@ use Rattle.run_history.proofs.Stamped.{HaveReadings, entry_stamped}
 use Rattle.lane_run.proofs.Parts.{IsPart, part_at, part_none}
 use Rattle.lane_run.proofs.PartLists.{IsEntered}
 use Rattle.lane_run.proofs.Entering.{looks_made}
-use Rattle.lane_run.proofs.Starts.{start_reads, started_so}
+use Rattle.lane_run.proofs.SeenOff.{sent_seen, was_seen}
+use Rattle.lane_run.proofs.Starts.{arming_of, is_arming, limit_within, start_reads, started_so}
+use Rattle.pass_names.proofs.Passes.{begins_length}
 use Rattle.std.proofs.Common.{Option, None}
 use Rattle.seq_timer.specs.Histories.{IsIdle}
 use Rattle.seq_timer.specs.declared.answer.CancelAnswer.TheVariants as cancelled
@@ -87,13 +92,19 @@ IsArmedSo arms.NotAsked s = Unit
 IsArmedSo (arms.Armed generation) s = s.stamp ≡ generation
 IsArmedSo (arms.Unarmed stamp) s = (s.stamp ≡ stamp) × Holds s observations.Spent × (s.moving ≡ false)
 
+-- it was started so, or not at all, in every run that goes on from there
+abbrev pub ArmsIn : Script → KnownOfTimers → KnownOfTimers → ℕ → Mode → ℕ → ℕ → ClockReading → Arm → List Action → Type 0
+ArmsIn s begin w t mode ns base reading arm start =
+    (e : Ending) → IsJoined s e → GoesOn w.seen e
+    → Arms (WasOffLine (witness_of s e) (length begin.seen) (length w.seen)) s.limit t mode ns reading.stamp base (arm_noted arm) start
+
 -- what a call did to its object's timer, from where it had found it on: perhaps a cancel, and perhaps a start, with what became of it
-pub record TimerPart (x : WorldOf) (l : LaneOf) (t : ℕ) (begin w : KnownOfTimers) (mode : Mode) (ns base : ℕ) (reading : ClockReading) (arm : Arm)
+pub record TimerPart (s : Script) (x : WorldOf) (l : LaneOf) (t : ℕ) (begin w : KnownOfTimers) (mode : Mode) (ns base : ℕ) (reading : ClockReading) (arm : Arm)
     (cancel : Option (ℕ × ℕ)) (log : List Receipt) : Type 0 where
   pub seen : Begins l.pass.timers.known.seen begin.seen
   pub mine : begin.mine ≡ l.pass.timers.known.mine
   pub start : List Action
-  pub arms : Arms t mode ns reading.stamp base (arm_noted arm) start
+  pub arms : ArmsIn s begin w t mode ns base reading arm start
   pub part : TimersPart l reading begin w (cancels t cancel ++ start) log
   pub armed : IsArmedSo arm (timer_then x.timers.about w.seen t)
 
@@ -104,7 +115,7 @@ IsRearmSpan before now arm from to = (from ≡ before.stamp) × (to ≡ now.stam
 
 module _ {s : Script} {x : WorldOf} {l : LaneOf} {call : Call} (next : IsNextCall s x l call) (t : ℕ) (reading : ClockReading) {v w : KnownOfTimers} where
   -- the entries that the call made of its timer at a moment, with a receipt of each
-  part_of : {at : List TimerEntry} {es : List histories.Entry} {actions : List Action} → MadeAt v w t at es
+  part_of : {at : List SystemEntry} {es : List histories.Entry} {actions : List Action} → MadeAt v w t at es
       → ((clock : List ClockLine) → HasRead reading clock → HaveReadings clock es) → AllByRecursion IsEntered actions
       → numbered t (timer_then x.timers.about at t).stamp (map entry_stamped es) ≡ all_entered actions
       → TimersPart l reading v w actions (receipts_of t (timer_then x.timers.about at t).stamp es)
@@ -130,54 +141,68 @@ module _ {s : Script} {x : WorldOf} {l : LaneOf} {call : Call} (next : IsNextCal
     {cancel : Option (ℕ × ℕ)} {done log : List Receipt} (seen : Begins l.pass.timers.known.seen begin.seen)
     (mine : begin.mine ≡ l.pass.timers.known.mine) (before : TimersPart l reading begin v (cancels t cancel) done) {base : ℕ} where
   started : {mode : Mode} {ns : ℕ} {arm : Arm} (start : List Action) {more : List Receipt} → log ≡ done ++ more
-      → Arms t mode ns reading.stamp base (arm_noted arm) start → TimersPart l reading v w start more
-      → IsArmedSo arm (timer_then x.timers.about w.seen t) → TimerPart x l t begin w mode ns base reading arm cancel log
+      → ArmsIn s begin w t mode ns base reading arm start → TimersPart l reading v w start more
+      → IsArmedSo arm (timer_then x.timers.about w.seen t) → TimerPart s x l t begin w mode ns base reading arm cancel log
   started start adds arms part armed =
       let both = subst (TimersPart l reading begin w (cancels t cancel ++ start)) (sym adds) (before.0 ++ part.0, part_then before.1 part.1) in
       record { seen = seen; mine = mine; start = start; arms = arms; part = both; armed = armed }
 
   -- law: no start
-  pub start_none : (mode : Mode) (ns : ℕ) → w ≡ v → log ≡ done → TimerPart x l t begin w mode ns base reading arms.NotAsked cancel log
+  pub start_none : (mode : Mode) (ns : ℕ) → w ≡ v → log ≡ done → TimerPart s x l t begin w mode ns base reading arms.NotAsked cancel log
   start_none mode ns alone same =
-      started [] (same ∙ sym (append-nil done)) refl ([], part_none (begins_same (ap (λ k. k.seen) alone)) (ap (λ k. k.mine) alone)) tt
+      started [] (same ∙ sym (append-nil done)) (λ e joined goes. refl) ([], part_none (begins_same (ap (λ k. k.seen) alone)) (ap (λ k. k.mine) alone)) tt
 
   start_by : (mode : Mode) (ns : ℕ) (a : StartAnswer) (c : StartsTimer x.timers.about v w t (asked_for mode ns 0 base reading) a)
-      → log ≡ done ++ receipts_of t (timer_then x.timers.about c.at t).stamp (start_entries (timer_then x.timers.about c.at t) (asked_for mode ns 0 base reading) a)
-      → TimerPart x l t begin w mode ns base reading (arm_of a) cancel log
+      → log ≡ done ++ receipts_of t (timer_then x.timers.about c.at t).stamp (start_entries (timer_then x.timers.about c.at t) (asked_for mode ns 0 base reading) c.sent c.last a)
+      → TimerPart s x l t begin w mode ns base reading (arm_of a) cancel log
   start_by mode ns (starts.Spent n) c adds =
       let looks = looks_made c.made in
-      started [] adds refl ([], part_none looks.0 looks.1)
+      started [] adds (λ e joined goes. refl) ([], part_none looks.0 looks.1)
       (subst (IsArmedSo (arms.Unarmed n)) (sym (timer_after x.timers.about v w t c.at [] c.made)) (sym c.fits.2, c.fits.1, c.fits.0))
-  start_by mode ns (starts.Started was generation outs placed) c adds =
-      let u = timer_then x.timers.about c.at t in
-      let es = start_events u (asked_for mode ns 0 base reading) in
-      let as_told = started_so u t (without_slack mode ns base) reading (starts.Started was generation outs placed) c.fits.2 in
+  start_by mode ns (starts.Started was generation last outs placed) c adds =
+      let o = x.timers.about in
+      let u = timer_then o c.at t in
+      let request = without_slack mode ns base in
+      let asked = asked_for mode ns 0 base reading in
+      let events = start_on asked c.sent c.last in
+      let as_told = started_so t request reading u c.sent c.last (starts.Started was generation last outs placed) c.fits.2 in
+      let arming = arming_of u asked c.sent c.last in
       let told = as_told.told in
-      let number : generation ≡ as_told.arming.number = cc in
+      let number : generation ≡ arming.number = cc in
       let fits = c.fits.2 in
-      let stamp : (step_all u es).stamp ≡ generation = cc in
-      let actions = arming_actions t (without_slack mode ns base) reading.stamp as_told.arming in
-      started actions adds (as_told.arming, refl, number, as_told.just)
-      (part_of next t reading c.made (λ clock has. start_reads u (without_slack mode ns base) reading clock has) as_told.only as_told.entries)
-      (ap (λ (y : Timer). y.stamp) (timer_after x.timers.about v w t c.at (entries_along u es) c.made ∙ along u es) ∙ stamp)
+      let stamp : (step_all u events).stamp ≡ generation = cc in
+      let most = limit_within s o next.world.timers next.range.limit.0 c.at t in
+      let few : u.stamp < s.limit = omega (arith, c.fits.1, most) in
+      started (arming_actions t request reading.stamp arming) adds (λ e joined goes.
+      let Reached = WasOffLine (witness_of s e) (length begin.seen) (length w.seen) in
+      let off : (b heir : ℕ) → WasOff o v.seen w.seen b heir → Reached b heir =
+      λ b heir was. was_wider (witness_of s e) (begins_length before.1.timers.enters.seen) (omega arith) b heir
+      (was_seen s o next.world.timers e joined v.seen w.seen goes b heir was) in (
+        arming,
+        refl,
+        number,
+        is_arming Reached s.limit base u asked c.sent c.last few (sent_seen o v.seen w.seen Reached off base c.sent c.last c.on_way),
+      ))
+      (part_of next t reading c.made (λ clock has. start_reads t request reading u c.sent c.last clock has) as_told.only as_told.entries)
+      (ap (λ (y : Timer). y.stamp) (timer_after o v w t c.at (entries_along u events) c.made ∙ along u events) ∙ stamp)
 
   -- law: a start that was wanted
   pub start_part : {wanted : Wanted} {arm : Arm} → Starts x.timers.about v w t wanted base reading arm done log
-      → TimerPart x l t begin w wanted.mode wanted.ns base reading arm cancel log
+      → TimerPart s x l t begin w wanted.mode wanted.ns base reading arm cancel log
   start_part {wanted = wanted} c =
-      subst (λ b. TimerPart x l t begin w wanted.mode wanted.ns base reading b cancel log) (sym c.outcome)
+      subst (λ b. TimerPart s x l t begin w wanted.mode wanted.ns base reading b cancel log) (sym c.outcome)
       (start_by wanted.mode wanted.ns c.answer c.starts c.receipts)
 
   -- law: the start of a settime, where its value asks for one
   pub settime_start : (flags ns : ℕ) (arm : Arm) → ArmsFor x.timers.about v w t (settings.start_by flags ns) base reading arm done log
-      → TimerPart x l t begin w (mode_by flags) ns base reading arm cancel log
+      → TimerPart s x l t begin w (mode_by flags) ns base reading arm cancel log
   settime_start flags ns arm = by_value (nat_eq ns 0)
     where
       by_value : (b : Bool)
           → ArmsFor x.timers.about v w t (if b then None else Some (record { mode = mode_by flags; ns = ns })) base reading arm done log
-          → TimerPart x l t begin w (mode_by flags) ns base reading arm cancel log
+          → TimerPart s x l t begin w (mode_by flags) ns base reading arm cancel log
       by_value true none =
-          subst (λ y. TimerPart x l t begin w (mode_by flags) ns base reading y cancel log) (sym none.0) (start_none (mode_by flags) ns none.1 none.2)
+          subst (λ y. TimerPart s x l t begin w (mode_by flags) ns base reading y cancel log) (sym none.0) (start_none (mode_by flags) ns none.1 none.2)
       by_value false start = start_part start
 
 -- ---- in the run

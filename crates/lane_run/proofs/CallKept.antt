@@ -16,7 +16,6 @@ use Rattle.timer_objects.specs.Known.{seen_of}
 use Rattle.timer_objects.specs.declared.log.ObjectReceipt.{ObjectReceipt}
 use Rattle.record_text.specs.declared.record.Answer.{Answer}
 use Rattle.record_text.specs.declared.record.ClockLine.{ClockLine}
-use Rattle.record_text.specs.declared.record.Entry.{Entry}
 use Rattle.record_text.specs.declared.record.Label.{Label}
 use Rattle.run_history.specs.Actions.{made, wrote}
 use Rattle.run_history.specs.Told.{object_steps_on}
@@ -40,10 +39,10 @@ use Rattle.run_history.proofs.Kept.{IsKept}
 use Rattle.run_history.proofs.Known.{AreMade}
 use Rattle.run_history.proofs.Promise.{kept_from, reading_seen}
 use Rattle.lane_run.specs.Called.{LaneOf, LeavesClock, ReadsClock, with_done}
-use Rattle.lane_run.proofs.Kept.{entry_in_note, Follows, IsNextCall, log_of, seen_by, SeesOn, StandAt, EntryNotes, LookNotes, ObjectNotes, SkipNotes, WriteNotes, NoteKind, label_of, list_of, begins_same}
+use Rattle.lane_run.proofs.Kept.{base_note_place, entries_told, entry_in_note, note_place, places_noted, told_in, of_base, of_entry, BaseNotes, Follows, IsNextCall, log_of, seen_by, SeesOn, StandAt, EntryNotes, LookNotes, ObjectNotes, SkipNotes, WriteNotes, NoteKind, label_of, list_of, begins_same}
 use Rattle.lane_run.specs.Worlds.{WorldOf}
 use Rattle.lane_run.specs.declared.world.WorldPass.{WorldPass}
-use Rattle.lane_run.proofs.Entering.{EntersNotes, place_of}
+use Rattle.lane_run.proofs.Entering.{EntersNotes, place_of, place_told}
 use Rattle.pass_names.proofs.Passes.{begins_length}
 use Rattle.std.proofs.Common.{true, false, nat_eq, if◌then◌else◌}
 use Rattle.run_history.specs.Actions.{Action, numbers_of_object}
@@ -63,6 +62,7 @@ notes_of label log object_log = record {
   looks = look_notes label log;
   objects = object_notes label object_log;
   skips = skip_notes label object_log;
+  bases = [];
   writes = [];
 }
 
@@ -70,7 +70,8 @@ notes_of label log object_log = record {
 pub with_done-joins : (notes : NotesOf) (label : Label) (log : List Receipt) (object_log : List ObjectReceipt)
     → with_done notes label log object_log ≡ both_noted notes (notes_of label log object_log)
 with_done-joins notes label log object_log =
-    notes_same (with_done notes label log object_log) (both_noted notes (notes_of label log object_log)) refl refl refl refl (sym (append-nil notes.writes))
+    notes_same (with_done notes label log object_log) (both_noted notes (notes_of label log object_log)) refl refl refl refl (sym (append-nil notes.bases))
+    (sym (append-nil notes.writes))
 
 -- what is made of items that are there has what each that is made has
 present_all : {X Y Z : Type 0} (P : Z → Type 0) (make : X → Y → Z) (found : X → Option Y) (xs : List X) → ((x : X) (y : Y) → P (make x y))
@@ -99,6 +100,7 @@ notes_of-bear label log object_log SkipNotes =
     present_all (λ n. n.label ≡ label)
     (λ (r : ObjectReceipt) generation. record { label = label; object = r.object; number = r.number; generation = generation })
     (λ r. skip_generation r.call.call r.reply) object_log (λ r y. refl)
+notes_of-bear label log object_log BaseNotes = tt
 notes_of-bear label log object_log WriteNotes = tt
 
 -- ---- places
@@ -111,19 +113,11 @@ count_permuted : {A : Type 0} (p : A → Bool) (xs ys : List A) → IsPermutatio
 count_permuted p xs ys is =
     omega (arith, fold_total (λ x. one_if (p x)) 0 xs, fold_total (λ x. one_if (p x)) 0 ys, sum_by-IsPermutation (λ x. one_if (p x)) xs ys is)
 
--- the place of a receipt
-abbrev pub receipt_place : ℕ × (ℕ × Entry) → ℕ × ℕ
-receipt_place r = (r.0, r.1.0)
-
--- the place of a note
-abbrev pub note_place : EntryNote → ℕ × ℕ
-note_place e = (e.timer, e.number)
-
-receipt_places : (notes : List PlacedEntry) → map receipt_place (map receipt notes) ≡ map place_of notes
+receipt_places : (notes : List PlacedEntry) → map place_told (map receipt notes) ≡ map place_of notes
 receipt_places [] = refl
 receipt_places (x ∷ notes) = ap (λ ps. place_of x ∷ ps) (receipt_places notes)
 
-note_places : (es : List EntryNote) → map receipt_place (map entry_in_note es) ≡ map note_place es
+note_places : (es : List EntryNote) → map place_told (map entry_in_note es) ≡ map note_place es
 note_places [] = refl
 note_places (e ∷ es) = ap (λ ps. note_place e ∷ ps) (note_places es)
 
@@ -132,12 +126,30 @@ pub places_added : (mine new : List (ℕ × ℕ)) (notes : List PlacedEntry) (es
     → IsPermutation (map receipt notes) (map entry_in_note es) → (t n : ℕ)
     → count (is_place t n) new ≡ count (is_place t n) mine + count (is_place t n) (map note_place es)
 places_added mine new notes es is same t n =
-    let others : count (is_place t n) (map receipt_place (map entry_in_note es)) ≡ count (is_place t n) (map receipt_place (map receipt notes)) =
-    count_permuted (is_place t n) (map receipt_place (map receipt notes)) (map receipt_place (map entry_in_note es))
-    (IsPermutation-map receipt_place (map receipt notes) (map entry_in_note es) same) in
+    let others : count (is_place t n) (map place_told (map entry_in_note es)) ≡ count (is_place t n) (map place_told (map receipt notes)) =
+    count_permuted (is_place t n) (map place_told (map receipt notes)) (map place_told (map entry_in_note es))
+    (IsPermutation-map place_told (map receipt notes) (map entry_in_note es) same) in
     ap (count (is_place t n)) is ∙ total-append (λ q. one_if (is_place t n q)) mine (map place_of notes)
     ∙ ap (λ k. count (is_place t n) mine + k)
     (ap (count (is_place t n)) (sym (receipt_places notes)) ∙ sym others ∙ ap (count (is_place t n)) (note_places es))
+
+-- law: so they are those of a call that made no entry of a base
+pub places_of_timers : (many : ℕ) (mine new : List (ℕ × ℕ)) (notes : List PlacedEntry) (added : NotesOf) → new ≡ mine ++ map place_of notes
+    → IsPermutation (map receipt notes) (map entry_in_note added.entries) → added.bases ≡ [] → (i n : ℕ)
+    → count (is_place i n) new ≡ count (is_place i n) mine + places_noted many i n added
+places_of_timers many mine new notes added is same none i n = omega
+    (arith, places_added mine new notes added.entries is same i n, ap (λ bs. count (is_place i n) (map (base_note_place many) bs)) none)
+
+-- law: and its notes of entries are those of timers'
+pub told_timers : (notes : List PlacedEntry) (added : NotesOf) → added.bases ≡ [] → IsPermutation (map receipt notes) (map entry_in_note added.entries)
+    → IsPermutation (map receipt notes) (entries_told added)
+told_timers notes added none same =
+    subst (IsPermutation (map receipt notes)) (each added.entries ∙ ap (map told_in) (sym (append-nil (map of_entry added.entries))
+    ∙ ap (λ bs. map of_entry added.entries ++ map of_base bs) (sym none))) same
+  where
+    each : (es : List EntryNote) → map entry_in_note es ≡ map told_in (map of_entry es)
+    each [] = refl
+    each (e ∷ es) = ap (λ xs. entry_in_note e ∷ xs) (each es)
 
 -- where none were added
 pub no_places : {A : Type 0} (p : A → Bool) (mine new : List A) → new ≡ mine → count p new ≡ count p mine + 0

@@ -22,7 +22,7 @@ use Rattle.lane_run.proofs.ObjectLines.{object_histories, object_in_span, object
 use Rattle.timer_objects.specs.Known.{seen_of}
 use Rattle.seq_timer.specs.Systems.{AreSystemSteps, first_system, openings}
 use Rattle.base_row.specs.declared.view.Opening.{Opening}
-use Rattle.lane_notes.proofs.Lists.{length-objects, length-timers}
+use Rattle.lane_notes.proofs.Lists.{length-bases, length-objects, length-timers}
 use Rattle.std.proofs.Common.{◌≡◌, ℕ}
 use Rattle.clock_cell.specs.Views.{writes}
 use Rattle.run_history.specs.Promises.{HasLog}
@@ -33,7 +33,7 @@ use Rattle.run_history.specs.Objects.{object_labels}
 module _ {s : Script} {x : WorldOf} {q : WorldPass} {notes sorted : NotesOf} {logs : Label → CallLog} (last : AreLastOf s x q) (left : AreLeft s q notes logs)
     (is : IsSortedFrom notes sorted) (answers : List (List Answer)) (starts : RoundStarts) where
   abbrev e : Ending
-  e = ending_of (record_from s.version sorted (length s.timers) answers) q logs starts
+  e = ending_of (record_from s.version sorted s.bases (length s.timers) answers) q logs starts
 
   -- a run with this record goes on from what the last passes have seen, which is all
   follows : Follows q e
@@ -93,8 +93,9 @@ module _ {s : Script} {x : WorldOf} {q : WorldPass} {notes sorted : NotesOf} {lo
       spans = λ i. (object_histories last left is answers starts i).1;
       looks = looks_under last left is answers;
       skips = skips_under last left is answers;
-      timers = length-timers s.version sorted (length s.timers) answers;
-      objects = length-objects s.version sorted (length s.timers) answers;
+      bases = length-bases s.version sorted s.bases (length s.timers) answers;
+      timers = length-timers s.version sorted s.bases (length s.timers) answers;
+      objects = length-objects s.version sorted s.bases (length s.timers) answers;
       lanes = rounds.lanes;
       version = refl;
       calls = λ lane joined. rounds.calls e follows has joined lane;

@@ -6,7 +6,7 @@ use Rattle.seq_timer.specs.declared.context.Terms.{Terms}
 use Rattle.seq_timer.specs.declared.context.Declared.{Declared}
 use Rattle.pass_names.specs.Passes.{Begins, places}
 use Rattle.seq_timer.specs.Histories as seq
-use Rattle.seq_timer.specs.declared.system.TimerEntry.{TimerEntry}
+use Rattle.seq_timer.specs.declared.system.SystemEntry.{SystemEntry}
 use Rattle.seq_timer.specs.Steps.{Timer}
 use Rattle.seq_timer.specs.Systems.{entries_of, openings}
 use Rattle.seq_timer.specs.Tables.{timer_at}
@@ -17,7 +17,6 @@ use Rattle.hr_timers.specs.Known.{KnownOfTimers, MadeAt, timer_then}
 use Rattle.hr_timers.proofs.Moments.{timer_own}
 use Rattle.seq_timer.proofs.Limits.{stamp-after_all}
 use Rattle.record_text.specs.declared.record.ClockLine.{ClockLine}
-use Rattle.record_text.specs.declared.record.Entry.{Entry}
 use Rattle.record_text.specs.declared.record.Label.{Label}
 use Rattle.record_text.specs.declared.record.RunRecord.{RunRecord}
 use Rattle.run_history.proofs.Stamped.{all_stamped_shown, entry_stamped, HasReading, HaveReadings}
@@ -25,21 +24,27 @@ use Rattle.lane_notes.specs.Entries.{entry_notes, look_notes}
 use Rattle.run_history.specs.Receipts.{count, PlacedEntry, receipt, ShowsEntry}
 use Rattle.run_history.proofs.Known.{adds_made, AreEntries, AreMade, made-append, made_goes_on, made_wider, none_made, numbered, shows_made}
 use Rattle.script_text.proofs.Lists.{All-append}
+use Rattle.run_history.proofs.Owners.{timers_entry}
+use Rattle.run_history.specs.Witnesses.{OfBase, OfTimer, Shown, TimersList}
 use Rattle.lane_run.proofs.Kept.{entry_in_note}
 use Rattle.pass_names.proofs.Passes.{begins_trans, begins_length}
 
 -- ---- receipts between two moments of a pass
 
--- the place of a receipt among a pass's own
+-- the place of a timer's entry among a pass's own, by its receipt; here are none of bases
+abbrev pub place_told : ℕ × Shown → ℕ × ℕ
+place_told (number, OfTimer t entry) = (t, number)
+place_told (number, OfBase b event) = (b, number)
+
 abbrev pub place_of : PlacedEntry → ℕ × ℕ
-place_of x = (x.timer, x.number)
+place_of x = place_told (receipt x)
 
 -- Between two moments a pass made the entries of these receipts, and no others, and seen has gone on. A record shows them whose clock is so.
 pub record EntersNotes (IsSo : List ClockLine → Type 0) (v w : KnownOfTimers) (notes : List PlacedEntry) : Type 0 where
   pub seen : Begins v.seen w.seen
   pub made : AreMade w.seen (length v.seen) (length w.seen) notes
   pub mine : w.mine ≡ v.mine ++ map place_of notes
-  pub shows : (r : RunRecord) (order later : List TimerEntry) → order ≡ w.seen ++ later → IsSo r.clock → AllByRecursion (ShowsEntry r order) notes
+  pub shows : (r : RunRecord) (order later : List SystemEntry) → order ≡ w.seen ++ later → IsSo r.clock → AllByRecursion (ShowsEntry r order) notes
 
 -- law: receipts of two parts of a call are those of both
 pub enters-append : {IsSo : List ClockLine → Type 0} {u v w : KnownOfTimers} {xs ys : List PlacedEntry} → EntersNotes IsSo u v xs → EntersNotes IsSo v w ys
@@ -63,11 +68,11 @@ enters_none {v = v} {w = w} seen mine = record {
   shows = λ r order later is so. tt;
 }
 
-made_places : (t k : ℕ) (es : List seq.Entry) → places t k es ≡ map (λ r. (r.0, r.1.0)) (numbered t k (map entry_stamped es))
+made_places : (t k : ℕ) (es : List seq.Entry) → places t k es ≡ map place_told (numbered t k (map entry_stamped es))
 made_places t k [] = refl
 made_places t k (e ∷ es) = ap (λ ps. (t, k + 1) ∷ ps) (made_places t (k + 1) es)
 
-places_told : (notes : List PlacedEntry) → map (λ r. (r.0, r.1.0)) (map receipt notes) ≡ map place_of notes
+places_told : (notes : List PlacedEntry) → map place_told (map receipt notes) ≡ map place_of notes
 places_told [] = refl
 places_told (n ∷ notes) = ap (λ ps. place_of n ∷ ps) (places_told notes)
 
@@ -78,20 +83,20 @@ pub record EntersAt (IsSo : List ClockLine → Type 0) (v w : KnownOfTimers) (t 
   pub are : map receipt notes ≡ numbered t n (map entry_stamped es)
 
 -- a timer's stamp is the number of its entries
-pub stamp_counts : (o : Opening) (clocks : List Declared) (terms : Terms) (x : List TimerEntry) (t : ℕ) → o.timers ≡ openings clocks terms
-    → (timer_then o x t).stamp ≡ count t x
+pub stamp_counts : (o : Opening) (clocks : List Declared) (terms : Terms) (x : List SystemEntry) (t : ℕ) → o.timers ≡ openings clocks terms
+    → (timer_then o x t).stamp ≡ count (TimersList t) x
 stamp_counts o clocks terms x t is =
     let first : (timer_at o.timers t).stamp ≡ 0 = ap (λ ts. (timer_at ts t).stamp) is ∙ first_stamp clocks terms t in
     let its : (timer_then o x t).stamp ≡ (timer_at o.timers t).stamp + length (entries_of t x) =
     ap (λ (s : Timer). s.stamp) (timer_own o x t) ∙ stamp-after_all (timer_at o.timers t) (entries_of t x) in omega (arith, its, first)
 
 -- law: the entries that a call made of a timer at a moment are receipts that stand in what its pass has seen, behind what it had seen before
-pub enters_at : (IsSo : List ClockLine → Type 0) (o : Opening) (clocks : List Declared) (terms : Terms) {v w : KnownOfTimers} {t : ℕ} {x : List TimerEntry}
+pub enters_at : (IsSo : List ClockLine → Type 0) (o : Opening) (clocks : List Declared) (terms : Terms) {v w : KnownOfTimers} {t : ℕ} {x : List SystemEntry}
     {es : List seq.Entry} → o.timers ≡ openings clocks terms → MadeAt v w t x es → ((clock : List ClockLine) → IsSo clock → HaveReadings clock es)
     → EntersAt IsSo v w t (timer_then o x t).stamp es
 enters_at IsSo o clocks terms {v = v} {w = w} {t = t} {x = x} {es = es} is made reads =
     let more = made.seen.rest in
-    let stamp : count t x ≡ (timer_then o x t).stamp = sym (stamp_counts o clocks terms x t is) in
+    let stamp : count (TimersList t) x ≡ (timer_then o x t).stamp = sym (stamp_counts o clocks terms x t is) in
     let shown = map entry_stamped es in
     let adds = adds_made x more t es shown (ap (entries_of t) (sym made.seen.whole) ∙ made.own) (length-map es entry_stamped) in
     let there : AreMade w.seen (length x) (length w.seen) adds.0 =
@@ -102,30 +107,30 @@ enters_at IsSo o clocks terms {v = v} {w = w} {t = t} {x = x} {es = es} is made 
       enters = record {
         seen = begins_trans made.from made.seen;
         made = made_wider w.seen (length v.seen) (length x) (length w.seen) (length w.seen) adds.0 (begins_length made.from) (omega arith) there;
-        mine = made.mine ∙ ap (λ ps. v.mine ++ ps) (made_places t (count t x) es ∙ ap (map (λ r. (r.0, r.1.0))) (sym adds.2) ∙ places_told adds.0);
+        mine = made.mine ∙ ap (λ ps. v.mine ++ ps) (made_places t (count (TimersList t) x) es ∙ ap (map place_told) (sym adds.2) ∙ places_told adds.0);
         shows = λ r order later whole so. shows_made r order w.seen later t (timer_then o x t).stamp adds.0 es shown whole
-            (subst (λ xs. AreEntries xs adds.0 es) (sym made.seen.whole) adds.3) are (all_stamped_shown r.clock es (reads r.clock so));
+            (subst (λ xs. AreEntries xs adds.0 (map (timers_entry t) es)) (sym made.seen.whole) adds.3) are (all_stamped_shown r.clock es (reads r.clock so));
       };
       are = are;
     }
 
 -- a receipt by itself
-single : (notes : List PlacedEntry) (y : ℕ × (ℕ × Entry)) → map receipt notes ≡ y ∷ [] → (n : PlacedEntry) × (notes ≡ n ∷ []) × (receipt n ≡ y)
+single : (notes : List PlacedEntry) (y : ℕ × Shown) → map receipt notes ≡ y ∷ [] → (n : PlacedEntry) × (notes ≡ n ∷ []) × (receipt n ≡ y)
 single [] y is = absurd (cc)
 single (n ∷ []) y is = (n, refl, cc)
 single (n ∷ m ∷ notes) y is = absurd (cc)
 
 -- law: one entry of a timer is one receipt
-pub enters_once : (IsSo : List ClockLine → Type 0) (o : Opening) (clocks : List Declared) (terms : Terms) {v w : KnownOfTimers} {t : ℕ} {x : List TimerEntry}
+pub enters_once : (IsSo : List ClockLine → Type 0) (o : Opening) (clocks : List Declared) (terms : Terms) {v w : KnownOfTimers} {t : ℕ} {x : List SystemEntry}
     {e : seq.Entry} {number : ℕ} → o.timers ≡ openings clocks terms → MadeAt v w t x (e ∷ [])
     → ((clock : List ClockLine) → IsSo clock → HasReading clock e.event) → number ≡ (timer_then o x t).stamp + 1
-    → (n : PlacedEntry) × EntersNotes IsSo v w (n ∷ []) × (receipt n ≡ (t, (number, entry_stamped e)))
+    → (n : PlacedEntry) × EntersNotes IsSo v w (n ∷ []) × (receipt n ≡ (number, OfTimer t (entry_stamped e)))
 enters_once IsSo o clocks terms {t = t} {e = e} {number = number} is made reads counted =
     let at = enters_at IsSo o clocks terms is made (λ clock so. (reads clock so, tt)) in
-    let one = single at.notes (t, (number, entry_stamped e)) (rw counted at.are) in (one.0, rw one.1 at at.enters, one.2)
+    let one = single at.notes (number, OfTimer t (entry_stamped e)) (rw counted at.are) in (one.0, rw one.1 at at.enters, one.2)
 
 -- law: a call that made no entry of its timer saw more, and made none
-pub looks_made : {v w : KnownOfTimers} {t : ℕ} {at : List TimerEntry} → MadeAt v w t at [] → Begins v.seen w.seen × (w.mine ≡ v.mine)
+pub looks_made : {v w : KnownOfTimers} {t : ℕ} {at : List SystemEntry} → MadeAt v w t at [] → Begins v.seen w.seen × (w.mine ≡ v.mine)
 looks_made {v = v} made = (begins_trans made.from made.seen, made.mine ∙ append-nil v.mine)
 
 -- ---- receipts of a log
@@ -134,7 +139,7 @@ looks_made {v = v} made = (begins_trans made.from made.seen, made.mine ∙ appen
 pub receipts_of-noted : (label : Label) (t n : ℕ) (es : List seq.Entry)
     → map entry_in_note (entry_notes label (receipts_of t n es)) ≡ numbered t n (map entry_stamped es)
 receipts_of-noted label t n [] = refl
-receipts_of-noted label t n (e ∷ es) = ap (λ xs. (t, (n + 1, entry_stamped e)) ∷ xs) (receipts_of-noted label t (n + 1) es)
+receipts_of-noted label t n (e ∷ es) = ap (λ xs. (n + 1, OfTimer t (entry_stamped e)) ∷ xs) (receipts_of-noted label t (n + 1) es)
 
 -- law: they are no looks
 pub receipts_of-no_looks : (label : Label) (t n : ℕ) (es : List seq.Entry) → look_notes label (receipts_of t n es) ≡ []

@@ -1,7 +1,6 @@
 -- Expiry runs, as their lanes keep them.
 use Rattle.std.proofs.Common.{◌≡◌, ◌≤◌, ℕ, List, [], ◌∷◌, ◌++◌, length, map, arith, refl, sym, ap, ◌∙◌, subst}
 use Rattle.std.specs.Prelude.{flat_map}
-use Rattle.std.proofs.Math.Logic.{⊎_elim}
 use Rattle.std.proofs.lemmas.List.{append-nil}
 use Rattle.std.proofs.lemmas.Option.{slice_get_within}
 use Rattle.ktime.specs.Readings.{ClockReading}
@@ -11,7 +10,7 @@ use Rattle.seq_timer.specs.Systems.{System, next_on, system_after}
 use Rattle.seq_timer.specs.declared.context.Context.{Context}
 use Rattle.seq_timer.specs.Steps.{Timer}
 use Rattle.seq_timer.specs.Tables.{IsStopped, in_context, runs_on, seen_in}
-use Rattle.seq_timer.specs.declared.system.TimerEntry.{TimerEntry}
+use Rattle.seq_timer.specs.declared.system.SystemEntry.{SystemEntry}
 use Rattle.base_row.specs.declared.view.Opening.{Opening}
 use Rattle.hr_timers.specs.Known.{KnownOfTimers, timer_then}
 use Rattle.expire_pass.specs.declared.expiry.ExpireAnswer.{ExpireAnswer}
@@ -51,7 +50,7 @@ use Rattle.lane_run.proofs.Fired.{RunKept, turns_kept}
 -- ---- a run that looked on
 
 -- callbacks ran to a later number too
-have_later : (w : Witness) (c : Label) (order : List TimerEntry) (context : Context) (base at : ℕ) (before : List Action) (from : ℕ) (fs : List Fired) (notes : List PlacedEntry)
+have_later : (w : Witness) (c : Label) (order : List SystemEntry) (context : Context) (base at : ℕ) (before : List Action) (from : ℕ) (fs : List Fired) (notes : List PlacedEntry)
     (to to' : ℕ) → to ≤ to' → HaveRun w c order context base at before from fs notes to → HaveRun w c order context base at before from fs notes to'
 have_later w c order context base at before from [] notes to to' le run = (run.0, omega (arith, run.1, le))
 have_later w c order context base at before from (f ∷ fs) notes to to' le run = (

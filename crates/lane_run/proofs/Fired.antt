@@ -9,7 +9,7 @@ use Rattle.pass_names.specs.Passes.{GoesOn}
 use Rattle.seq_timer.specs.declared.context.Context.{Context}
 use Rattle.seq_timer.specs.declared.context.Declared.{Declared}
 use Rattle.seq_timer.specs.declared.context.Terms.{Terms}
-use Rattle.seq_timer.specs.declared.system.TimerEntry.{TimerEntry}
+use Rattle.seq_timer.specs.declared.system.SystemEntry.{SystemEntry}
 use Rattle.seq_timer.specs.Tables.{no_declared, timer_at}
 use Rattle.seq_timer.proofs.Contents.{declared-after_all}
 use Rattle.hr_timers.proofs.Moments.{timer_own}
@@ -36,13 +36,14 @@ use Rattle.script_text.specs.declared.script.Kind.{Kind}
 use Rattle.script_text.specs.declared.script.Script.{Script}
 use Rattle.lane_notes.specs.Entries.{entry_notes, look_notes, entry_note, look_note}
 use Rattle.run_history.specs.Calls.{fires}
-use Rattle.run_history.specs.Witnesses.{Fired}
+use Rattle.run_history.specs.Witnesses.{Fired, OfTimer, TimersList}
 use Rattle.run_history.specs.Receipts.{PlacedEntry, receipt}
 use Rattle.run_history.specs.Runs.{witness_of, Ending, IsJoined}
-use Rattle.run_history.specs.Truths.{IsObjectPoint}
+use Rattle.run_history.specs.Truths.{IsObjectPoint, WasOffLine}
 use Rattle.run_history.proofs.Actions.{made-append}
 use Rattle.run_history.proofs.Expires.{claim_of, finish_of, with_claim, HaveRun, run_push}
 use Rattle.run_history.proofs.Known.{made_goes_on}
+use Rattle.run_history.proofs.Reached.{body_wider, was_wider}
 use Rattle.lane_run.specs.Called.{claimed_in}
 use Rattle.lane_run.proofs.Kept.{FollowsObject, count_begins, goes_before, begins_same}
 use Rattle.lane_run.specs.Worlds.{callback_of, IsWorldOf, WorldOf}
@@ -124,7 +125,7 @@ module _ (s : Script) (x : WorldOf) (is : IsWorldOf s x) (some : 1 ≤ s.limit) 
   on = ap (λ (y : Opening). y.timers) is.timers
 
   -- a timer is declared as the script says, at all times
-  declared_seen : (at : List TimerEntry) (t : ℕ) → (timer_then o at t).declared ≡ declared_of s t
+  declared_seen : (at : List SystemEntry) (t : ℕ) → (timer_then o at t).declared ≡ declared_of s t
   declared_seen at t =
       ap (λ (u : Timer). u.declared) (timer_own o at t) ∙ declared-after_all (timer_at o.timers t) (entries_of t at)
       ∙ ap (λ (ts : List Timer). (timer_at ts t).declared) on ∙ declared-opened (declareds_of s) (terms_of s) t
@@ -135,12 +136,12 @@ module _ (s : Script) (x : WorldOf) (is : IsWorldOf s x) (some : 1 ≤ s.limit) 
       let event = events.Claim base reading in
       let u = timer_then o claims.at c.timer in
       let one = enters_once (HasRead reading) o (declareds_of s) (terms_of s) on claims.made (λ clock has. ap (events.Claim base) has) claims.number in
-      let le = count_begins c.timer claims.made.from in
+      let le = count_begins (TimersList c.timer) claims.made.from in
       let own = length-append (entries_of c.timer claims.at) (record { event = event; reply = reply_to u event } ∷ []) in
       record {
         note = one.0;
         enters = one.1;
-        is = one.2 ∙ ap (λ g. (c.timer, (c.number, record { event = events.Claim base reading.stamp; reply = replies.Claim (unwrap_or g 0) }))) claims.armed;
+        is = one.2 ∙ ap (λ g. (c.number, OfTimer c.timer (record { event = events.Claim base reading.stamp; reply = replies.Claim (unwrap_or g 0) }))) claims.armed;
         there = claims.there;
         some = omega (arith, claims.number);
         more = omega (arith, le, ap length claims.made.own, own);
@@ -167,11 +168,11 @@ module _ (s : Script) (x : WorldOf) (is : IsWorldOf s x) (some : 1 ≤ s.limit) 
           (subst (λ cb. RunsCallback o v w c reading h.log.receipts h'.log.receipts cb restart) its run.0)
       by_kind (kinds.Posix asked) same =
           let run = by_over (kinds.Posix asked) same in
-          rw run.1 (trigger_kept s h.objects.now limit some label c reading claim restart h h' run.2 run.3 (λ f its. rw same its)
+          rw run.1 (trigger_kept s h.objects.now limit some label c reading claim restart h h' run.2 run.3 (λ Reached f its. rw same its)
           (of_kind.Posix (posix_calls.Trigger c.generation reading)) (λ y allows. posix_noted y c.generation reading allows) (λ n. refl) (λ n. refl) run.0)
       by_kind (kinds.Fd asked) same =
           let run = by_over (kinds.Fd asked) same in
-          rw run.1 (trigger_kept s h.objects.now limit some label c reading claim restart h h' run.2 run.3 (λ f its. rw same its)
+          rw run.1 (trigger_kept s h.objects.now limit some label c reading claim restart h h' run.2 run.3 (λ Reached f its. rw same its)
           (of_kind.Fd (fd_calls.Trigger c.generation reading)) (λ y allows. fd_noted y c.generation reading allows) (λ n. refl) (λ n. refl) run.0)
 
   -- a callback ran, with its claim and its finish, in every run that goes on from there
@@ -179,7 +180,7 @@ module _ (s : Script) (x : WorldOf) (is : IsWorldOf s x) (some : 1 ≤ s.limit) 
       (b : BodyKept s label claim restart w h h') (number : ℕ) (restarted : Restarted)
       (own : (declared_of s c.timer).context ≡ context)
       (finish : (n : PlacedEntry) × EntersNotes (HasRead reading) w k' (n ∷ [])
-      × (receipt n ≡ (c.timer, (number, record { event = events.Finish (asks restart); reply = replies.Finish c.generation restarted })))) (e : Ending) → IsJoined s e → promises.GoesOn k'.seen e
+      × (receipt n ≡ (number, OfTimer c.timer (record { event = events.Finish (asks restart); reply = replies.Finish c.generation restarted })))) (e : Ending) → IsJoined s e → promises.GoesOn k'.seen e
       → ((i : ℕ) → FollowsObject e i (seen_of h'.objects_pass.now i)) → (before : List Action)
       → ((i : ℕ) → ((j : ℕ) → made j b.body ≡ []) → IsObjectPoint (witness_of s e) label
       (with_claim base reading.stamp (fired_of c b.body number (asks restart) restarted) before) i (length (seen_of h'.objects_pass.now i)))
@@ -204,7 +205,9 @@ module _ (s : Script) (x : WorldOf) (is : IsWorldOf s x) (some : 1 ≤ s.limit) 
           finish_made = made_goes_on e.order k'.seen goes.0 (length w.seen) (length k'.seen) (finish.0 ∷ []) goes.1 finish.1.made;
           finish_is = finish.2;
           own = own;
-          kind = b.kind number restarted;
+          kind = body_wider (WasOffLine (witness_of s e) (length v.seen) (length w.seen)) (WasOffLine (witness_of s e) (length k.seen) (length k'.seen))
+              (was_wider (witness_of s e) (begins_length claim.enters.seen) (begins_length finish.1.seen)) s.limit (kind_of s c.timer) reading.stamp
+              (fired_of c b.body number (asks restart) restarted) (b.kind e joined acted number restarted);
           holds = b.holds e joined acted (with_claim base reading.stamp (fired_of c b.body number (asks restart) restarted) before) points;
           span = b.span e follows number restarted;
         },
@@ -229,10 +232,10 @@ module _ (s : Script) (x : WorldOf) (is : IsWorldOf s x) (some : 1 ≤ s.limit) 
       let own : (declared_of s c.timer).context ≡ context =
       sym (ap (λ (d : Declared). d.context) (declared_seen turn.claims.at c.timer)) ∙ turn.claims.context in
       let one = enters_once (HasRead reading) o (declareds_of s) (terms_of s) {number = u.stamp + 1} on ran.finishes.made (λ clock has. refl) refl in
-      let finish : (n : PlacedEntry) × EntersNotes (HasRead reading) ran.done k' (n ∷ []) × (receipt n ≡ (c.timer, (u.stamp + 1, finish_of f))) = (
+      let finish : (n : PlacedEntry) × EntersNotes (HasRead reading) ran.done k' (n ∷ []) × (receipt n ≡ (u.stamp + 1, OfTimer c.timer (finish_of f))) = (
         one.0,
         one.1,
-        one.2 ∙ ap (λ g. (c.timer, (u.stamp + 1, record { event = events.Finish restart; reply = replies.Finish (unwrap_or g 0) restarted }))) ran.finishes.runs,
+        one.2 ∙ ap (λ g. (u.stamp + 1, OfTimer c.timer (record { event = events.Finish restart; reply = replies.Finish (unwrap_or g 0) restarted }))) ran.finishes.runs,
       ) in
       let first = claim_receipt reading c in
       let last = finish_receipt c ran.restart u in
@@ -244,7 +247,7 @@ module _ (s : Script) (x : WorldOf) (is : IsWorldOf s x) (some : 1 ≤ s.limit) 
       let claiming = Entered f.timer f.claim (claim_of base at f) ∷ [] in
       let finishing = Entered f.timer f.finish (finish_of f) ∷ [] in
       let notes = claim.note ∷ b.notes ++ finish.0 ∷ [] in
-      let are : map receipt (finish.0 ∷ []) ≡ (c.timer, (f.finish, finish_of f)) ∷ [] = ap (λ r. r ∷ []) finish.2 in
+      let are : map receipt (finish.0 ∷ []) ≡ (f.finish, OfTimer c.timer (finish_of f)) ∷ [] = ap (λ r. r ∷ []) finish.2 in
       let finishes : IsPart (HasRead reading) label ran.done p' k' p' finishing (finish.0 ∷ []) (last ∷ []) [] =
       part_entered finish.1 refl (tt, tt) are are refl in
       let turned : IsPermutation (entry_notes label ((first ∷ b.more) ++ last ∷ [])) (entry_notes label (first ∷ last ∷ b.more)) =

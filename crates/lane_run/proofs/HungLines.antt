@@ -1,5 +1,6 @@
 -- The record has under its lines the looks and refused expiries that calls noted, each under the line of its number.
 use Rattle.run_history.specs.Receipts as receipts
+use Rattle.run_history.specs.Witnesses.{TimersList}
 use Rattle.std.proofs.Common.{◌≡◌, ℕ, ◌+◌, ◌≤◌, List, filter, length, map, arith, refl, sym, ap, ◌∙◌, subst}
 use Rattle.std.specs.List.{AllByRecursion}
 use Rattle.std.specs.List.Sorted.{IsPermutation}
@@ -60,7 +61,7 @@ module _ {s : Script} {x : WorldOf} {q : WorldPass} {notes sorted : NotesOf} {lo
   look_noted n st = all_at (λ m. IsLabel s m.label × IsLookNote q m) notes.looks st.0 n (left.seen LookNotes) st.1
 
   -- law: a call's looks under the record's lines are what it was told
-  pub looks_own : (c : Label) (t : ℕ) → own_looks c 1 (lines_of_timer (record_from s.version sorted (length s.timers) answers) t) ≡ looked t (logs c).trace.actions
+  pub looks_own : (c : Label) (t : ℕ) → own_looks c 1 (lines_of_timer (record_from s.version sorted s.bases (length s.timers) answers) t) ≡ looked t (logs c).trace.actions
   looks_own c t =
       let shapes = map (shape place_of_look (λ n. n.reply)) (filter (is_of_list place_of_look t) sorted.looks) in
       ap (own_looks c 1) (timer_lines_are last left is answers t)
@@ -68,14 +69,14 @@ module _ {s : Script} {x : WorldOf} {q : WorldPass} {notes sorted : NotesOf} {lo
       (all_under_lines place_of_look (λ n. n.reply) timer_line (λ line. line.looks) (λ l. l.label) (λ l. l.reply) (λ k n us. map-map _ look_of us)
       place_of_entry t sorted.entries is.looks (λ n st of.
       let its = (look_noted n st).1 in
-      let seen = subst (λ u. n.number ≤ receipts.count u q.timers.known.seen) of its.seen in
+      let seen = subst (λ u. n.number ≤ receipts.count (TimersList u) q.timers.known.seen) of its.seen in
       (omega (arith, its.some), omega (arith, seen, as_many is.entries (entries_once last left t)))))
       (subst (IsPermutation (of_call c shapes)) (own_looks_noted c t) (hung_own place_of_look (λ n. n.reply) t c is.looks))
       (rise_in 1 (looked t (logs c).trace.actions) ((left.tell c).tells.looks_rise t))
 
   -- law: labels of looks under a line are those of calls, in order
   pub looks_under : (t : ℕ) → AllByRecursion (λ line. AreUnder s (map (λ look. look.label) line.looks))
-      (lines_of_timer (record_from s.version sorted (length s.timers) answers) t)
+      (lines_of_timer (record_from s.version sorted s.bases (length s.timers) answers) t)
   looks_under t = subst (AllByRecursion (λ line. AreUnder s (map (λ look. look.label) line.looks))) (sym (timer_lines_are last left is answers t))
       (each _ (lines t) (λ k line at. record {
         calls = calls_under s (λ look. look.label) (λ n. refl) is.looks (λ n st. (look_noted n st).0) line.looks
@@ -90,7 +91,7 @@ module _ {s : Script} {x : WorldOf} {q : WorldPass} {notes sorted : NotesOf} {lo
 
   -- law: a call's refused expiries under the record's lines are those that it noted, in some order
   pub skips_own : (c : Label) (i : ℕ)
-      → IsPermutation (own_skips c 1 (lines_of_object (record_from s.version sorted (length s.timers) answers) i)) (skipped i (logs c).trace.actions)
+      → IsPermutation (own_skips c 1 (lines_of_object (record_from s.version sorted s.bases (length s.timers) answers) i)) (skipped i (logs c).trace.actions)
   skips_own c i =
       let shapes = map (shape place_of_skip (λ n. n.generation)) (filter (is_of_list place_of_skip i) sorted.skips) in
       subst (λ ls. IsPermutation (own_skips c 1 ls) (skipped i (logs c).trace.actions)) (sym (object_lines_are last left is answers i))
@@ -106,7 +107,7 @@ module _ {s : Script} {x : WorldOf} {q : WorldPass} {notes sorted : NotesOf} {lo
 
   -- law: labels of refused expiries under a line are those of calls, and never fall
   pub skips_under : (i : ℕ) → AllByRecursion (λ line. AreSkipsUnder s (map (λ skip. skip.label) line.skips))
-      (lines_of_object (record_from s.version sorted (length s.timers) answers) i)
+      (lines_of_object (record_from s.version sorted s.bases (length s.timers) answers) i)
   skips_under i = subst (AllByRecursion (λ line. AreSkipsUnder s (map (λ skip. skip.label) line.skips))) (sym (object_lines_are last left is answers i))
       (each _ (noted_object_lines i sorted.objects sorted.skips) (λ k line at. record {
         calls = calls_under s (λ skip. skip.label) (λ n. refl) is.skips (λ n st. (skip_noted n st).0) line.skips

@@ -6,6 +6,7 @@ use Rattle.std.proofs.Common.{ℕ, ◌≡◌, ◌≤◌, ◌<◌, ◌+◌, nat_e
 use Rattle.clock_cell.specs.Views.{reading_after, writes}
 use Rattle.clock_model.specs.Clocks.{last_stamp}
 use Rattle.lane_notes.specs.Notes.{NotesOf, both_noted}
+use Rattle.lane_notes.specs.declared.notes.BaseNote.{BaseNote}
 use Rattle.lane_notes.specs.declared.notes.EntryNote.{EntryNote}
 use Rattle.lane_notes.specs.declared.notes.LookNote.{LookNote}
 use Rattle.lane_notes.specs.declared.notes.ObjectNote.{ObjectNote}
@@ -15,10 +16,9 @@ use Rattle.pass_names.specs.Counts.{count}
 use Rattle.pass_names.specs.Passes.{Begins, GoesOn, is_place, entries}
 use Rattle.record_text.specs.declared.record.Answer.{Answer}
 use Rattle.record_text.specs.declared.record.CallbackReply.{CallbackReply}
-use Rattle.record_text.specs.declared.record.Entry as entry
 use Rattle.record_text.specs.declared.record.Label.{Label}
 use Rattle.record_text.specs.declared.record.ObjectEntry.{ObjectEntry}
-use Rattle.run_history.specs.Witnesses.{Trace}
+use Rattle.run_history.specs.Witnesses.{OfBase, OfTimer, Owner, Shown, TimersList, Trace}
 use Rattle.run_history.specs.Fits.{Seen}
 use Rattle.run_history.specs.Promises as promises
 use Rattle.run_history.specs.Promises.{GoesOnClock, IsPromised}
@@ -43,8 +43,8 @@ use Rattle.run_history.proofs.Lists.{at_left}
 use Rattle.lane_run.specs.Rounds.{BeginsRound, HasSplit, LeftOf, TakesInPass}
 use Rattle.lane_run.specs.declared.lane.Lane.{Lane}
 use Rattle.pass_names.proofs.Passes.{begins_length, begins_trans}
-use Rattle.seq_timer.specs.declared.system.TimerEntry.{TimerEntry}
-use Rattle.base_row.proofs.Begun.{entries_of-begins}
+use Rattle.seq_timer.specs.declared.system.SystemEntry.{SystemEntry}
+use Rattle.run_history.proofs.Owners.{count-append}
 use Rattle.lane_run.specs.Runs.{AreObjectLines, ObjectMove, ShowsObjectCall}
 
 -- ---- what passes have seen
@@ -93,6 +93,7 @@ pub data NoteKind : Type 0 where
   LookNotes : NoteKind
   ObjectNotes : NoteKind
   SkipNotes : NoteKind
+  BaseNotes : NoteKind
   WriteNotes : NoteKind
 
 abbrev pub NoteOf : NoteKind → Type 0
@@ -100,6 +101,7 @@ NoteOf EntryNotes = EntryNote
 NoteOf LookNotes = LookNote
 NoteOf ObjectNotes = ObjectNote
 NoteOf SkipNotes = SkipNote
+NoteOf BaseNotes = BaseNote
 NoteOf WriteNotes = WriteNote
 
 abbrev pub list_of : (k : NoteKind) → NotesOf → List (NoteOf k)
@@ -107,6 +109,7 @@ list_of EntryNotes notes = notes.entries
 list_of LookNotes notes = notes.looks
 list_of ObjectNotes notes = notes.objects
 list_of SkipNotes notes = notes.skips
+list_of BaseNotes notes = notes.bases
 list_of WriteNotes notes = notes.writes
 
 abbrev pub label_of : (k : NoteKind) → NoteOf k → Label
@@ -114,6 +117,7 @@ label_of EntryNotes n = n.label
 label_of LookNotes n = n.label
 label_of ObjectNotes n = n.label
 label_of SkipNotes n = n.label
+label_of BaseNotes n = n.label
 label_of WriteNotes n = n.line.label
 
 -- the notes of one call among those of all
@@ -123,12 +127,35 @@ own_notes c notes = record {
   looks = filter (λ n. is_label c n.label) notes.looks;
   objects = filter (λ n. is_label c n.label) notes.objects;
   skips = filter (λ n. is_label c n.label) notes.skips;
+  bases = filter (λ n. is_label c n.label) notes.bases;
   writes = filter (λ n. is_label c n.line.label) notes.writes;
 }
 
--- what a note of an entry says but for its label
-abbrev pub entry_in_note : EntryNote → ℕ × (ℕ × entry.Entry)
-entry_in_note n = (n.timer, (n.number, n.entry))
+-- a note of an entry, of a timer's or of a base's
+pub record ToldNote : Type 0 where
+  pub label : Label
+  pub number : ℕ
+  pub shown : Shown
+
+abbrev pub of_entry : EntryNote → ToldNote
+of_entry n = record { label = n.label; number = n.number; shown = OfTimer n.timer n.entry }
+
+abbrev pub of_base : BaseNote → ToldNote
+of_base n = record { label = n.label; number = n.number; shown = OfBase n.base n.event }
+
+-- all of them
+abbrev pub told_notes : NotesOf → List ToldNote
+told_notes notes = map of_entry notes.entries ++ map of_base notes.bases
+
+-- what such a note says but for its label
+abbrev pub told_in : ToldNote → ℕ × Shown
+told_in n = (n.number, n.shown)
+
+abbrev pub entry_in_note : EntryNote → ℕ × Shown
+entry_in_note n = told_in (of_entry n)
+
+abbrev pub entries_told : NotesOf → List (ℕ × Shown)
+entries_told notes = map told_in (told_notes notes)
 
 -- the looks at a timer, the entries of an object and the expiries that it refused, each with its number
 abbrev pub looks_on : ℕ → List LookNote → List (ℕ × CallbackReply)
@@ -143,7 +170,7 @@ abbrev pub skips_on : ℕ → List SkipNote → List (ℕ × ℕ)
 skips_on i [] = []
 skips_on i (n ∷ ns) = also (nat_eq n.object i) (n.number, n.generation) (skips_on i ns)
 
--- The notes but for timers' entries are of the call's actions, in their order. Numbers rise along each list; a full history may refuse more than one
+-- The notes but for timers' and bases' entries are of the call's actions, in their order. Numbers rise along each list; a full history may refuse more than one
 -- expiry at the same number.
 pub record TellActions (added : NotesOf) (actions : List Action) : Type 0 where
   pub writes : map (λ n. (n.stamp, n.line.write)) added.writes ≡ wrote actions
@@ -156,19 +183,29 @@ pub record TellActions (added : NotesOf) (actions : List Action) : Type 0 where
 
 -- a call's notes are of what its lane kept of it
 pub record TellLog (log : CallLog) (own : NotesOf) : Type 0 where
-  pub receipts : IsPermutation (map receipt log.notes) (map entry_in_note own.entries)
+  pub receipts : IsPermutation (map receipt log.notes) (entries_told own)
   pub tells : TellActions own log.trace.actions
 
--- the places that a lane's passes have made are those of the notes
-pub record Tallies (q : WorldPass) (notes : NotesOf) : Type 0 where
-  pub timers : (t n : ℕ) → count (is_place t n) q.timers.known.mine ≡ count (is_place t n) (map (λ e. (e.timer, e.number)) notes.entries)
+-- the place of a note of an entry, of a timer's and of a base's; there are so many timers, and a base's places stand behind theirs
+abbrev pub note_place : EntryNote → ℕ × ℕ
+note_place e = (e.timer, e.number)
+
+abbrev pub base_note_place : ℕ → BaseNote → ℕ × ℕ
+base_note_place many n = (many + n.base, n.number)
+
+-- how often a place is that of a note of an entry
+abbrev pub places_noted : ℕ → ℕ → ℕ → NotesOf → ℕ
+places_noted many i n notes = count (is_place i n) (map note_place notes.entries) + count (is_place i n) (map (base_note_place many) notes.bases)
+
+-- the places that a lane's passes have made are those of the notes; there are so many timers
+pub record Tallies (many : ℕ) (q : WorldPass) (notes : NotesOf) : Type 0 where
+  pub timers : (i n : ℕ) → count (is_place i n) q.timers.known.mine ≡ places_noted many i n notes
   pub objects : (i n : ℕ) → count (is_place i n) q.objects.knows.pass.mine ≡ count (is_place i n) (map (λ e. (e.object, e.number)) notes.objects)
   pub clock : (n : ℕ) → count (is_place 0 n) q.clock.knows.pass.mine ≡ count (is_place 0 n) (map (λ e. (0, e.stamp)) notes.writes)
 
 -- the places that they have added to their own are
-pub record AddsPlaces (p q : WorldPass) (added : NotesOf) : Type 0 where
-  pub timers : (t n : ℕ) → count (is_place t n) q.timers.known.mine
-      ≡ count (is_place t n) p.timers.known.mine + count (is_place t n) (map (λ e. (e.timer, e.number)) added.entries)
+pub record AddsPlaces (many : ℕ) (p q : WorldPass) (added : NotesOf) : Type 0 where
+  pub timers : (i n : ℕ) → count (is_place i n) q.timers.known.mine ≡ count (is_place i n) p.timers.known.mine + places_noted many i n added
   pub objects : (i n : ℕ) → count (is_place i n) q.objects.knows.pass.mine
       ≡ count (is_place i n) p.objects.knows.pass.mine + count (is_place i n) (map (λ e. (e.object, e.number)) added.objects)
   pub clock : (n : ℕ) → count (is_place 0 n) q.clock.knows.pass.mine
@@ -177,7 +214,7 @@ pub record AddsPlaces (p q : WorldPass) (added : NotesOf) : Type 0 where
 -- a look stands behind an entry of its timer that was seen
 pub record IsLookNote (q : WorldPass) (n : LookNote) : Type 0 where
   pub some : 0 < n.number
-  pub seen : n.number ≤ receipts.count n.timer q.timers.known.seen
+  pub seen : n.number ≤ receipts.count (TimersList n.timer) q.timers.known.seen
 
 -- a refused expiry stands behind an entry of its object that was seen
 pub record IsSkipNote (q : WorldPass) (n : SkipNote) : Type 0 where
@@ -207,9 +244,10 @@ IsNoteSeen EntryNotes q log n = Unit
 IsNoteSeen LookNotes q log n = IsLookNote q n
 IsNoteSeen ObjectNotes q log n = IsObjectLeft q log n
 IsNoteSeen SkipNotes q log n = IsSkipNote q n
+IsNoteSeen BaseNotes q log n = Unit
 IsNoteSeen WriteNotes q log n = IsWriteLeft q log n
 
--- the receipts stand in what was seen of all timers, at rising places in their call's span, and every run shows them that goes on from there
+-- the receipts stand in what was seen of all timers and bases, at rising places in their call's span, and every run shows them that goes on from there
 pub record StandAt (q : WorldPass) (log : CallLog) : Type 0 where
   pub rise : Rises log.moves.0 (map (λ n. n.place) log.notes)
   pub below : AllByRecursion (λ n. n.place < log.moves.1) log.notes
@@ -240,7 +278,7 @@ pub record KeepsCall (s : Script) (l : LaneOf) (call : Call) (a : Answer) (m : L
   pub tells : TellLog (log_of l.pass m.pass notes trace) added
   -- no call writes more than once
   pub few : length added.writes ≤ 1
-  pub places : AddsPlaces l.pass m.pass added
+  pub places : AddsPlaces (length s.timers) l.pass m.pass added
   pub seen : (k : NoteKind) → AllByRecursion (IsNoteSeen k m.pass (log_of l.pass m.pass notes trace)) (list_of k added)
   pub stand : StandAt m.pass (log_of l.pass m.pass notes trace)
   -- the promise
@@ -258,9 +296,9 @@ pub record IsNoLess (before after : Seen) : Type 0 where
 pub goes_before : {A : Type 0} {xs ys all : List A} → Begins xs ys → (later : List A) × (all ≡ ys ++ later) → (later : List A) × (all ≡ xs ++ later)
 goes_before {xs = xs} begins on = (begins.rest ++ on.0, on.1 ∙ ap (λ zs. zs ++ on.0) begins.whole ∙ append_assoc xs begins.rest on.0)
 
--- a timer has no fewer entries where more was seen
-pub count_begins : (t : ℕ) {xs ys : List TimerEntry} → Begins xs ys → receipts.count t xs ≤ receipts.count t ys
-count_begins t {xs} {ys} begins = begins_length (entries_of-begins t xs ys begins)
+-- a list has no fewer entries where more was seen
+pub count_begins : (o : Owner) {xs ys : List SystemEntry} → Begins xs ys → receipts.count o xs ≤ receipts.count o ys
+count_begins o {xs} begins = omega (arith, ap (receipts.count o) begins.whole, count-append o xs begins.rest)
 
 -- an equal list begins with it
 pub begins_same : {A : Type 0} {xs ys : List A} → ys ≡ xs → Begins xs ys
@@ -287,6 +325,9 @@ more_equal timers objects clock = record {
   objects = λ i. begins_same (ap (λ seen. entries i seen) objects);
 }
 
+pub more_same : {p : WorldPass} → SeesMore p p
+more_same = more_equal refl refl refl
+
 -- twice more
 pub more_trans : {p q r : WorldPass} → SeesMore p q → SeesMore q r → SeesMore p r
 more_trans one two = record {
@@ -299,7 +340,7 @@ more_trans one two = record {
 pub more_called : {p q : WorldPass} → SeesOn p q → SeesMore p q
 more_called sees = record { timers = sees.timers; clock = sees.clock; objects = λ i. sees.objects.each i }
 
--- passes that others were split off
+-- passes that others were split off, as the first lane begins a round by them
 pub more_split : {p q : WorldPass} → HasSplit p q → SeesMore p q
 more_split split = more_equal split.timers split.objects split.clock
 
@@ -346,7 +387,7 @@ stand_later {log = log} more stand = record {
 -- law: what a note is of
 pub seen_later : (k : NoteKind) {p q : WorldPass} (log : CallLog) (n : NoteOf k) → SeesMore p q → IsNoteSeen k p log n → IsNoteSeen k q log n
 seen_later EntryNotes log n more is = tt
-seen_later LookNotes log n more is = record { some = is.some; seen = omega (arith, is.seen, count_begins n.timer more.timers) }
+seen_later LookNotes log n more is = record { some = is.some; seen = omega (arith, is.seen, count_begins (TimersList n.timer) more.timers) }
 seen_later ObjectNotes log n more is = record {
   before = is.before;
   number = is.number;
@@ -355,6 +396,7 @@ seen_later ObjectNotes log n more is = record {
   there = stands_on is.before (more.objects n.object) is.there;
   shows = λ e on. is.shows e (goes_before more.clock on);
 }
+seen_later BaseNotes log n more is = tt
 seen_later SkipNotes log n more is = record { some = is.some; seen = omega (arith, is.seen, begins_length (more.objects n.object)) }
 seen_later WriteNotes {p = p} {q = q} log n more is =
     let inside = slice_get_within (writes p.clock.knows) is.before n.line.write is.there in

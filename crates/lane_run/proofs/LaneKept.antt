@@ -25,6 +25,7 @@ pub fits_behind : (w : Witness) (c : Label) (call : Call) (a : Answer) (less bef
 fits_behind w c call a less before after no_less fits = record {
   traced = fits.traced;
   does = fits.does;
+  keeps = fits.keeps;
   reading = fits.reading;
   begins = fits.begins;
   ends = fits.ends;

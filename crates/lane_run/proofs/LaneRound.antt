@@ -2,7 +2,7 @@
 use Rattle.std.proofs.Common.{◌≡◌, ◌≤◌, ℕ, ◌+◌, suc, get_or, List, [], ◌∷◌, ◌++◌, length, length-append, arith, refl, sym, ap, ◌∙◌, subst, ⊎_elim, inl, inr, Some, zero, map, ◌⊎◌}
 use Rattle.std.specs.List.{AllByRecursion, slice_get}
 use Rattle.std.proofs.lemmas.List.{append_assoc, append-nil, length-map, map-append}
-use Rattle.lane_notes.specs.Notes.{NotesOf}
+use Rattle.lane_notes.specs.Notes.{NotesOf, both_noted, no_notes}
 use Rattle.record_text.specs.declared.record.Answer.{Answer}
 use Rattle.record_text.specs.declared.record.Label.{Label}
 use Rattle.run_history.specs.Fits.{Seen}
@@ -14,17 +14,17 @@ use Rattle.script_text.specs.declared.script.Call.{Call}
 use Rattle.script_text.specs.declared.script.Round.{Round}
 use Rattle.script_text.specs.declared.script.Script.{Script}
 use Rattle.lane_run.specs.Called.{lane_of, LaneOf, Called}
-use Rattle.lane_run.proofs.Kept.{Follows, KeepsCall, log_of, seen_by, StandAt, Tallies, follows_less, more_begun, more_called, more_trans, no_less, SeesMore, stand_later}
-use Rattle.lane_run.specs.Rounds.{as_index, BeginsRound, IsLaneOf, lane_calls, LeftOf, MakesLane, next_of, CalledAll}
-use Rattle.lane_run.specs.Worlds.{IsWhole, IsWorldOf, WorldOf}
+use Rattle.lane_run.proofs.Kept.{Follows, KeepsCall, log_of, seen_by, StandAt, Tallies, follows_less, more_begun, more_called, more_split, more_trans, no_less, SeesMore, stand_later}
+use Rattle.lane_run.specs.Rounds.{as_index, BeginsFirst, BeginsRound, IsLaneOf, lane_calls, LeftOf, MakesLane, next_of, CalledAll}
+use Rattle.lane_run.specs.Worlds.{ArePassesOf, IsWhole, IsWorldOf, WorldOf}
 use Rattle.lane_run.specs.declared.lane.Lane.{Lane}
 use Rattle.lane_run.specs.declared.world.WorldPass.{WorldPass}
 use Rattle.lane_run.proofs.CallingLanes.{calls_bound, in_round}
 use Rattle.lane_run.proofs.Chains.{lies_later, lies_pushed, ListOf, lies_new, LiesIn}
 use Rattle.lane_run.proofs.LaneKept.{KeepsEach, fits_lane_behind}
 use Rattle.lane_run.proofs.NotesJoined.{are_later, AreOf, call_notes, joined, none_noted}
-use Rattle.lane_run.proofs.PartLists.{each_weaker}
-use Rattle.lane_run.proofs.Tallies.{tallies_none, tallies_more}
+use Rattle.lane_run.proofs.PartLists.{both_noted-assoc, each_weaker, no_notes-joins}
+use Rattle.lane_run.proofs.Tallies.{tallies_none, tallies_more, tallies_split}
 use Rattle.std.proofs.lemmas.Option.{slice_get_within, same_Some}
 use Rattle.pass_names.specs.Passes.{Begins}
 use Rattle.run_history.proofs.Lists.{at_left, all_at, at_seam}
@@ -162,31 +162,65 @@ module _ {s : Script} {l : LaneOf} {call : Call} {a : Answer} {m : LaneOf} (kept
 
 -- ---- a round
 
--- a lane in a round, behind its calls of earlier rounds, with the first passes as they were when the round began
-pub record IsInRound (s : Script) (x : WorldOf) (before : List Seen) (base : WorldPass) (first : List DoneCall) (lane : ℕ) (l : LaneOf) (d : LaneSoFar)
-    : Type 0 where
+-- A lane in a round, behind its calls of earlier rounds, with the first passes as they were when the round began. Behind these notes the places of its
+-- passes are those of its own.
+pub record IsInRound (s : Script) (x : WorldOf) (before : List Seen) (base : WorldPass) (first : List DoneCall) (start : NotesOf) (lane : ℕ) (l : LaneOf)
+    (d : LaneSoFar) : Type 0 where
   pub label : l.label ≡ label_at lane (as_index (length d.done))
   pub opening : l.pass.objects.knows.opening ≡ (row_of x.objects).made
   pub sees : SeesMore base l.pass
   pub begins : Begins first d.done
   pub kept : IsKeptOf s (before ++ seen_by base ∷ []) l.pass lane d
   pub are : AreOf l.pass l.notes (IsFrom lane (length first) d.done)
-  pub tallies : Tallies l.pass l.notes
+  pub tallies : Tallies (length s.timers) l.pass (both_noted start l.notes)
 
 -- a lane has made calls in the round: they are done, with these answers, and it wrote no more than this
-pub record MakesInRound (s : Script) (x : WorldOf) (before : List Seen) (base : WorldPass) (first : List DoneCall) (lane : ℕ) (m : LaneOf)
+pub record MakesInRound (s : Script) (x : WorldOf) (before : List Seen) (base : WorldPass) (first : List DoneCall) (start : NotesOf) (lane : ℕ) (m : LaneOf)
     (done : List DoneCall) (rest : List CallInRound) (given : List Answer) (most : ℕ) : Type 0 where
   pub all : List DoneCall
   pub answers : answers_in all ≡ answers_in done ++ given
   pub few : length m.notes.writes ≤ most
-  pub is : IsInRound s x before base first lane m (record { done = all; rest = rest })
+  pub is : IsInRound s x before base first start lane m (record { done = all; rest = rest })
+
+-- a lane begins a round: its passes have seen what the first ones had, the places that they have made are those of these notes, and nothing is noted
+pub record BeginsSo (s : Script) (x : WorldOf) (base : WorldPass) (left : LeftOf) (start : NotesOf) (old : Lane) : Type 0 where
+  pub call : old.label.call ≡ as_index (length (get_or left.answers old.label.lane []))
+  pub pass : ArePassesOf x old.pass
+  pub sees : SeesMore base old.pass
+  pub notes : old.notes ≡ no_notes
+  pub answers : old.answers.items ≡ []
+  pub tallies : Tallies (length s.timers) old.pass start
+
+-- law: so does a lane behind the first, whose passes have made nothing
+pub begins_behind : {s : Script} {x : WorldOf} {base : WorldPass} {left : LeftOf} {old : Lane} → BeginsRound base left old → IsLaneOf x old
+    → BeginsSo s x base left no_notes old
+begins_behind begins of = record {
+  call = begins.call;
+  pass = of.pass;
+  sees = more_begun begins;
+  notes = begins.notes;
+  answers = begins.answers;
+  tallies = tallies_none begins.timers_mine begins.objects_mine begins.clock_mine;
+}
+
+-- law: and the first lane, whose passes are the first ones
+pub begins_first : {s : Script} {x : WorldOf} {base : WorldPass} {left : LeftOf} {old : Lane} → BeginsFirst x base left old
+    → Tallies (length s.timers) base left.notes → BeginsSo s x base left left.notes old
+begins_first {left = left} begins tallies = record {
+  call = ap (λ (l : Label). l.call) begins.label ∙ sym (ap (λ (l : Label). as_index (length (get_or left.answers l.lane []))) begins.label);
+  pass = begins.of;
+  sees = more_split begins.split;
+  notes = begins.notes;
+  answers = begins.answers;
+  tallies = tallies_split begins.split tallies;
+}
 
 module _ {s : Script} {x : WorldOf} (each : KeepsEach s x) (world : IsWorldOf s x) (range : IsInRange s) (whole : IsWhole x) (before : List Seen)
-    (base : WorldPass) (first : List DoneCall) where
+    (base : WorldPass) (first : List DoneCall) (start : NotesOf) where
   -- one call
   one_call : {lane : ℕ} {l n : LaneOf} (done : List DoneCall) (rest : List CallInRound) {c : Call} {a : Answer}
-      → IsInRound s x before base first lane l (record { done = done; rest = record { round = length before; call = c } ∷ rest }) → n.label ≡ l.label
-      → Called x l c a n → MakesInRound s x before base first lane (next_of n) done rest (a ∷ []) (length l.notes.writes + 1)
+      → IsInRound s x before base first start lane l (record { done = done; rest = record { round = length before; call = c } ∷ rest }) → n.label ≡ l.label
+      → Called x l c a n → MakesInRound s x before base first start lane (next_of n) done rest (a ∷ []) (length l.notes.writes + 1)
   one_call {lane} {l} {n} done rest {c} {a} old same called =
       let at : CallInRound = record { round = length before; call = c } in
       let there : slice_get (calls_of s lane) (length done) ≡ Some at =
@@ -210,19 +244,20 @@ module _ {s : Script} {x : WorldOf} (each : KeepsEach s x) (world : IsWorldOf s 
           begins = begins_trans old.begins (begins_more done (k ∷ []));
           kept = kept_one kept before lane done label base rest old.sees old.kept;
           are = notes_one kept before lane done label (length first) (begins_length old.begins) old.are;
-          tallies = subst (Tallies n.pass) (sym kept.joins) (tallies_more l.notes kept.added old.tallies kept.places);
+          tallies = subst (Tallies (length s.timers) n.pass) (both_noted-assoc start l.notes kept.added ∙ ap (both_noted start) (sym kept.joins))
+              (tallies_more (both_noted start l.notes) kept.added old.tallies kept.places);
         };
       }
 
   -- calls in turn
   calls_made : {lane : ℕ} (cs : List Call) (given : List Answer) {l m : LaneOf} (done : List DoneCall) (rest : List CallInRound)
-      → IsInRound s x before base first lane l (record { done = done; rest = in_round (length before) cs ++ rest }) → CalledAll x l cs given m
-      → MakesInRound s x before base first lane m done rest given (length l.notes.writes + length cs)
+      → IsInRound s x before base first start lane l (record { done = done; rest = in_round (length before) cs ++ rest }) → CalledAll x l cs given m
+      → MakesInRound s x before base first start lane m done rest given (length l.notes.writes + length cs)
   calls_made {lane} [] [] done rest old called = record {
     all = done;
     answers = sym (append-nil (answers_in done));
     few = omega (arith, ap (λ (k : LaneOf). length k.notes.writes) called);
-    is = subst (λ k. IsInRound s x before base first lane k (record { done = done; rest = rest })) (sym called) old;
+    is = subst (λ k. IsInRound s x before base first start lane k (record { done = done; rest = rest })) (sym called) old;
   }
   calls_made [] (a ∷ given) done rest old called = absurd called
   calls_made (c ∷ cs) [] done rest old called = absurd called
@@ -237,22 +272,22 @@ module _ {s : Script} {x : WorldOf} (each : KeepsEach s x) (world : IsWorldOf s 
       }
 
   -- law: what a lane leaves of a round in which it made its calls
-  pub leaves_round : {left : LeftOf} {r : Round} (rest : List CallInRound) {old new : Lane} → let lane = old.label.lane in
+  pub leaves_from : {left : LeftOf} {r : Round} (rest : List CallInRound) {old new : Lane} → let lane = old.label.lane in
       IsKeptOf s (before ++ seen_by base ∷ []) base lane (record { done = first; rest = in_round (length before) (lane_calls lane r) ++ rest })
-      → get_or left.answers lane [] ≡ answers_in first → BeginsRound base left old → IsLaneOf x old → MakesLane x r old new
-      → MakesInRound s x before base first lane (lane_of new) first rest new.answers.items (length (lane_calls lane r))
-  leaves_round {left} {r} rest {old} {new} so_far same begins of makes =
+      → get_or left.answers lane [] ≡ answers_in first → BeginsSo s x base left start old → MakesLane x r old new
+      → MakesInRound s x before base first start lane (lane_of new) first rest new.answers.items (length (lane_calls lane r))
+  leaves_from {left} {r} rest {old} {new} so_far same begins makes =
       let lane = old.label.lane in
       let cs = lane_calls lane r in
-      let begun : IsInRound s x before base first lane (lane_of old) (record { done = first; rest = in_round (length before) cs ++ rest }) = record {
+      let begun : IsInRound s x before base first start lane (lane_of old) (record { done = first; rest = in_round (length before) cs ++ rest }) = record {
         label = ap (label_at lane) (begins.call ∙ ap as_index (ap length same ∙ length-map first (λ (d : DoneCall). d.answer)));
-        opening = of.pass.objects.row.made;
-        sees = more_begun begins;
+        opening = begins.pass.objects.row.made;
+        sees = begins.sees;
         begins = begins_refl first;
-        kept = kept_later (more_begun begins) so_far;
+        kept = kept_later begins.sees so_far;
         are = subst (λ ns. AreOf old.pass ns (IsFrom lane (length first) first)) (sym begins.notes)
             (none_noted (λ c g is. absurd (omega (arith, is.1, slice_get_within first c.call is.2.0 is.2.1))));
-        tallies = subst (Tallies old.pass) (sym begins.notes) (tallies_none begins.timers_mine begins.objects_mine begins.clock_mine);
+        tallies = subst (Tallies (length s.timers) old.pass) (no_notes-joins start ∙ ap (both_noted start) (sym begins.notes)) begins.tallies;
       } in
       let made = calls_made cs makes.calls.given first rest begun makes.calls.calls in
       record {

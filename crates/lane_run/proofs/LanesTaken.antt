@@ -7,7 +7,8 @@ use Rattle.run_history.specs.Fits.{Seen}
 use Rattle.run_history.specs.Runs.{CallLog}
 use Rattle.run_history.specs.Order.{CallInRound}
 use Rattle.script_text.specs.declared.script.Script.{Script}
-use Rattle.lane_run.proofs.Kept.{seen_by, Tallies, more_heard, more_taken, no_less, stands_on}
+use Rattle.lane_notes.specs.Notes.{NotesOf, both_noted, no_notes}
+use Rattle.lane_run.proofs.Kept.{seen_by, SeesMore, Tallies, more_heard, more_same, more_taken, no_less, stands_on}
 use Rattle.lane_run.specs.Rounds.{LeftOf, TakesInPass, with_lane}
 use Rattle.lane_run.specs.declared.lane.Lane.{Lane}
 use Rattle.lane_run.specs.declared.world.WorldPass.{WorldPass}
@@ -50,7 +51,7 @@ pub record AreLeftSoFar (s : Script) (past : List Seen) (p : WorldPass) (left : 
   pub given : (j : ℕ) → get_or left.answers j [] ≡ answers_in (of j).done
   pub kept : (j : ℕ) → IsKeptOf s past p j (of j)
   pub are : AreOf p left.notes (λ c. IsAt (of c.lane).done c)
-  pub tallies : Tallies p left.notes
+  pub tallies : Tallies (length s.timers) p left.notes
   pub rise : AreUpTo past (seen_by p)
 
 -- ---- one lane
@@ -98,18 +99,17 @@ given_taken answers lane given of end within is same j =
     (λ other. get_or-set_other answers lane j new [] other ∙ same j)
 
 -- law: what a lane leaves of a round is added
-pub left_taken : {s : Script} {x : WorldOf} {before : List Seen} {base p q : WorldPass} {left : LeftOf} (of : ℕ → LaneSoFar) (lane : Lane)
-    {rest : List CallInRound} {most : ℕ} → let first = (of lane.label.lane).done in
-    (leaves : MakesInRound s x before base first lane.label.lane (lane_of lane) first rest lane.answers.items most) → lane.label.lane < s.lanes
-    → TakesInPass p lane.pass q → AreLeftSoFar s (before ++ seen_by base ∷ []) p left of
+left_added : {s : Script} {x : WorldOf} {before : List Seen} {base p q : WorldPass} {left : LeftOf} (of : ℕ → LaneSoFar) (lane : Lane)
+    {start : NotesOf} {rest : List CallInRound} {most : ℕ} → let first = (of lane.label.lane).done in
+    (leaves : MakesInRound s x before base first start lane.label.lane (lane_of lane) first rest lane.answers.items most) → lane.label.lane < s.lanes
+    → SeesMore p q → SeesMore lane.pass q → Tallies (length s.timers) q (both_noted left.notes lane.notes)
+    → AreLeftSoFar s (before ++ seen_by base ∷ []) p left of
     → AreLeftSoFar s (before ++ seen_by base ∷ []) q (with_lane left lane) (put of lane.label.lane (record { done = leaves.all; rest = rest }))
-left_taken {s = s} {before = before} {base = base} {q = q} {left = left} of lane {rest = rest} leaves within takes so_far =
+left_added {s = s} {before = before} {base = base} {q = q} {left = left} of lane {rest = rest} leaves within grows heard tallies so_far =
     let name = lane.label.lane in
     let past = before ++ seen_by base ∷ [] in
     let end : LaneSoFar = record { done = leaves.all; rest = rest } in
     let given = lane.answers.items in
-    let grows = more_taken takes in
-    let heard = more_heard takes in
     let begins = leaves.is.begins in
     record {
       lanes = length-set left.answers name (get_or left.answers name [] ++ given) ∙ so_far.lanes;
@@ -118,6 +118,24 @@ left_taken {s = s} {before = before} {base = base} {q = q} {left = left} of lane
           (λ here. subst (λ i. IsKeptOf s past q i end) (sym here) (kept_later heard leaves.is.kept)) (λ other. kept_later grows (so_far.kept j));
       are = joined (are_later grows so_far.are) (are_later heard leaves.is.are) (apart of name end begins) (still of name end begins) (now of name end begins)
           (either of name end begins);
-      tallies = tallies_more left.notes lane.notes so_far.tallies (adds_taken takes leaves.is.tallies);
+      tallies = tallies;
       rise = up_to_later past (no_less grows) so_far.rise;
     }
+
+-- law: so where its passes are taken in
+pub left_taken : {s : Script} {x : WorldOf} {before : List Seen} {base p q : WorldPass} {left : LeftOf} (of : ℕ → LaneSoFar) (lane : Lane)
+    {rest : List CallInRound} {most : ℕ} → let first = (of lane.label.lane).done in
+    (leaves : MakesInRound s x before base first no_notes lane.label.lane (lane_of lane) first rest lane.answers.items most) → lane.label.lane < s.lanes
+    → TakesInPass p lane.pass q → AreLeftSoFar s (before ++ seen_by base ∷ []) p left of
+    → AreLeftSoFar s (before ++ seen_by base ∷ []) q (with_lane left lane) (put of lane.label.lane (record { done = leaves.all; rest = rest }))
+left_taken {left = left} of lane leaves within takes so_far =
+    left_added of lane leaves within (more_taken takes) (more_heard takes)
+    (tallies_more left.notes lane.notes so_far.tallies (adds_taken takes leaves.is.tallies)) so_far
+
+-- law: and of the first lane, whose passes the others' are taken into
+pub left_first_lane : {s : Script} {x : WorldOf} {before : List Seen} {base : WorldPass} {left : LeftOf} (of : ℕ → LaneSoFar) (lane : Lane)
+    {rest : List CallInRound} {most : ℕ} → let first = (of lane.label.lane).done in
+    (leaves : MakesInRound s x before base first left.notes lane.label.lane (lane_of lane) first rest lane.answers.items most) → lane.label.lane < s.lanes
+    → AreLeftSoFar s (before ++ seen_by base ∷ []) base left of
+    → AreLeftSoFar s (before ++ seen_by base ∷ []) lane.pass (with_lane left lane) (put of lane.label.lane (record { done = leaves.all; rest = rest }))
+left_first_lane of lane leaves within so_far = left_added of lane leaves within leaves.is.sees more_same leaves.is.tallies so_far

@@ -29,7 +29,7 @@ pub record AreLeft (s : Script) (q : WorldPass) (notes : NotesOf) (logs : Label 
   pub stand : (c : Label) → StandAt q (logs c)
   pub seen : (k : NoteKind) → AllByRecursion (λ n. IsLabel s (label_of k n) × IsNoteSeen k q (logs (label_of k n)) n) (list_of k notes)
   pub few : length notes.writes < last_stamp
-  pub places : Tallies q notes
+  pub places : Tallies (length s.timers) q notes
 
 -- these are the last passes of the script's world, and what they know is true
 pub record AreLastOf (s : Script) (x : WorldOf) (q : WorldPass) : Type 0 where
@@ -46,7 +46,7 @@ abbrev pub span_of : Option ObjectMove → ℕ × ℕ
 span_of None = (0, 0)
 span_of (Some h) = (h.call.from, h.call.to)
 
--- a run with this record: the order of all timers' entries, and the spans of objects' entries, are as the last passes have seen them
+-- a run with this record: the order of all timers' and bases' entries, and the spans of objects' entries, are as the last passes have seen them
 abbrev pub ending_of : RunRecord → WorldPass → (Label → CallLog) → RoundStarts → Ending
 ending_of r q logs starts = record {
   run = r;

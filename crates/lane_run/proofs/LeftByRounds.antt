@@ -44,7 +44,7 @@ has_from e lane index (k ∷ done) has = (
 abbrev pub no_call : DoneCall
 no_call = record {
   at = record { round = 0; call = calls.Cancel 0 };
-  log = record { notes = []; trace = record { at = 0; fired = []; actions = []; first = 0; last = 0 }; moves = (0, 0); clock = (0, 0); objects = λ i. (0, 0) };
+  log = record { notes = []; trace = record { at = 0; fired = []; moved = []; actions = []; first = 0; last = 0 }; moves = (0, 0); clock = (0, 0); objects = λ i. (0, 0) };
   answer = answers.NoSignal;
 }
 

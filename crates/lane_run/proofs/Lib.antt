@@ -15,6 +15,7 @@ pub mod Writing
 pub mod Parts
 pub mod PartLists
 pub mod Declared
+pub mod BaseLines
 pub mod Bodies
 pub mod Triggered
 pub mod Fired
@@ -53,3 +54,7 @@ pub mod Ended
 pub mod RunFits
 pub mod Starts
 pub mod Greatest
+pub mod SeenOff
+pub mod ShiftKept
+pub mod Evacuated
+pub mod OffLine

@@ -24,7 +24,7 @@ module _ {o at : Opening} (is : at ≡ o) (v w : KnownOfTimers) (t : ℕ) (log l
   -- law: those of a start, which was asked for so
   pub start_logged : {asked was : Asked} (a : StartAnswer) → asked ≡ was → StartsLogged kept at v w t asked a log log'
       → (c : StartsTimer o v w t was a)
-      × (log'.receipts ≡ receipts_of t (timer_then o c.at t).stamp (start_entries (timer_then o c.at t) was a))
+      × (log'.receipts ≡ receipts_of t (timer_then o c.at t).stamp (start_entries (timer_then o c.at t) was c.sent c.last a))
   start_logged {was = was} a same logged =
       let its = subst (λ x. StartsLogged kept x v w t was a log log') is (subst (λ x. StartsLogged kept at v w t x a log log') same logged) in
       (its.starts, has_all log log' _ empty its.logged)

@@ -5,9 +5,10 @@ use Rattle.pass_names.specs.declared.PassId.{PassId}
 use Rattle.pass_names.specs.Names.{AnswersFor, Covers, after_retire, after_split, child_of}
 use Rattle.pass_names.proofs.Covering.{covers_answers, covers_last, covers_none, covers_retire, covers_split}
 use Rattle.hr_timers.specs.Known.{KnownOfTimers}
+use Rattle.script_text.specs.declared.script.Round.{Round}
 use Rattle.lane_run.specs.declared.lane.Lane.{Lane}
 use Rattle.lane_run.specs.declared.world.WorldPass.{WorldPass}
-use Rattle.lane_run.specs.Rounds.{IsLaneOf, IsMain, TakesInPass}
+use Rattle.lane_run.specs.Rounds.{CanRun, IsLaneOf, IsMain, RunsLane, TakesInPass}
 use Rattle.lane_run.specs.Worlds.{AnswerFor, AreFirst, AreLast, ArePassesOf, KeepPasses, SplitsPass, WorldOf}
 
 -- ---- of one kind of pass; `id_of` is the lane's
@@ -73,8 +74,9 @@ main_split {lanes = lanes} lane is split = let s = split.splits in record {
 }
 
 -- a lane with passes that were just split off
-pub lane_new : {x : WorldOf} {p q : WorldPass} {lane : Lane} → SplitsLane x p q lane → IsLaneOf x lane
-lane_new split = record {
+pub lane_new : {x : WorldOf} {p q : WorldPass} {lane : Lane} → 0 < lane.label.lane → SplitsLane x p q lane → IsLaneOf x lane
+lane_new behind split = record {
+  behind = behind;
   pass = split.of;
   unclaimed = ap (λ k. k.claims) split.splits.timers_new;
   timers = ap (λ k. k.id.split) split.splits.timers_new;
@@ -123,17 +125,40 @@ main_first {p = p} pass first = record {
   clock = covers_none p.clock.knows.pass.id (ap (λ v. v.pass.id.split) first.clock);
 }
 
--- lanes that have run
-pub main_same : {x : WorldOf} {p : WorldPass} (old new : List Lane) → length new ≡ length old
-    → ((k : ℕ) (d : Lane) → k < length old → KeepPasses (get_or old k d).pass (get_or new k d).pass) → IsMain x p old → IsMain x p new
-main_same {p = p} old new len each is = record {
-  pass = is.pass;
-  unclaimed = is.unclaimed;
-  timers_first = is.timers_first;
-  objects_first = is.objects_first;
-  clock_first = is.clock_first;
-  timers = subst (Covers p.timers.known.id) (names_same (λ l. l.pass.timers.known.id) old new len (λ k d h. (each k d h).timers)) is.timers;
-  objects =
-      subst (Covers p.objects.knows.pass.id) (names_same (λ l. l.pass.objects.knows.pass.id) old new len (λ k d h. (each k d h).objects)) is.objects;
-  clock = subst (Covers p.clock.knows.pass.id) (names_same (λ l. l.pass.clock.knows.pass.id) old new len (λ k d h. (each k d h).clock)) is.clock;
+-- the first passes, and lanes, that have run
+pub main_ran : {x : WorldOf} {p q : WorldPass} (old new : List Lane) → ArePassesOf x q → KeepPasses p q → length new ≡ length old
+    → ((k : ℕ) (d : Lane) → k < length old → KeepPasses (get_or old k d).pass (get_or new k d).pass) → IsMain x p old → IsMain x q new
+main_ran {p = p} {q = q} old new pass keeps len each is = record {
+  pass = pass;
+  unclaimed = keeps.claims ∙ is.unclaimed;
+  timers_first = ap (λ (l : PassId). l.name) keeps.timers ∙ is.timers_first;
+  objects_first = ap (λ (l : PassId). l.name) keeps.objects ∙ is.objects_first;
+  clock_first = ap (λ (l : PassId). l.name) keeps.clock ∙ is.clock_first;
+  timers = covers_same keeps.timers (names_same (λ l. l.pass.timers.known.id) old new len (λ k d h. (each k d h).timers)) is.timers;
+  objects = covers_same keeps.objects (names_same (λ l. l.pass.objects.knows.pass.id) old new len (λ k d h. (each k d h).objects)) is.objects;
+  clock = covers_same keeps.clock (names_same (λ l. l.pass.clock.knows.pass.id) old new len (λ k d h. (each k d h).clock)) is.clock;
 }
+  where
+    covers_same : {l m : PassId} {these those : List (List ℕ)} → m ≡ l → these ≡ those → Covers l these → Covers m those
+    covers_same {l} {m} {these} {those} same names covers = subst (Covers m) names (subst (λ i. Covers i these) (sym same) covers)
+
+-- a lane behind the first that has run
+pub lane_ran : {x : WorldOf} {r : Round} {old new : Lane} → RunsLane x r old new → IsLaneOf x old → IsLaneOf x new
+lane_ran ran is = record {
+  behind = subst (λ n. 0 < n) (sym ran.name) is.behind;
+  pass = ran.pass;
+  unclaimed = ran.keeps.claims ∙ is.unclaimed;
+  timers = ap (λ (l : PassId). l.split) ran.keeps.timers ∙ is.timers;
+  objects = ap (λ (l : PassId). l.split) ran.keeps.objects ∙ is.objects;
+  clock = ap (λ (l : PassId). l.split) ran.keeps.clock ∙ is.clock;
+}
+
+-- who can make calls: the first lane with the first passes, and each lane behind it
+pub first_can : {x : WorldOf} {lanes : List Lane} (first : Lane) {p : WorldPass} → first.pass ≡ p → IsMain x p lanes → CanRun x first
+first_can {x} first same is = record {
+  pass = subst (ArePassesOf x) (sym same) is.pass;
+  first = λ here. ap (λ (q : WorldPass). q.timers.known.id.name) same ∙ is.timers_first;
+}
+
+pub lane_can : {x : WorldOf} {l : Lane} → IsLaneOf x l → CanRun x l
+lane_can is = record { pass = is.pass; first = λ here. absurd (omega (arith, is.behind, here)) }

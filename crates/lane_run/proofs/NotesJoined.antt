@@ -12,7 +12,7 @@ use Rattle.run_history.specs.Order.{is_label}
 use Rattle.script_text.specs.declared.script.Call.{Call}
 use Rattle.script_text.specs.declared.script.Script.{Script}
 use Rattle.lane_run.specs.Called.{LaneOf}
-use Rattle.lane_run.proofs.Kept.{KeepsCall, log_of, label_of, list_of, IsNoteSeen, TellLog, SkipNotes, ObjectNotes, LookNotes, EntryNotes, NoteOf, NoteKind, WriteNotes, SeesMore, seen_later, own_notes}
+use Rattle.lane_run.proofs.Kept.{KeepsCall, log_of, label_of, list_of, IsNoteSeen, TellLog, BaseNotes, SkipNotes, ObjectNotes, LookNotes, EntryNotes, NoteOf, NoteKind, WriteNotes, SeesMore, seen_later, own_notes}
 use Rattle.lane_run.specs.declared.world.WorldPass.{WorldPass}
 use Rattle.lane_run.proofs.PartLists.{no_notes-joins, notes_same, each_weaker}
 use Rattle.record_text.proofs.Lists.{All-append}
@@ -51,13 +51,13 @@ filter_all label c (x ∷ xs) all =
 own_notes-both : (c : Label) (a b : NotesOf) → own_notes c (both_noted a b) ≡ both_noted (own_notes c a) (own_notes c b)
 own_notes-both c a b = notes_same (own_notes c (both_noted a b)) (both_noted (own_notes c a) (own_notes c b))
     (filter-append _ a.entries b.entries) (filter-append _ a.looks b.looks) (filter-append _ a.objects b.objects)
-    (filter-append _ a.skips b.skips) (filter-append _ a.writes b.writes)
+    (filter-append _ a.skips b.skips) (filter-append _ a.bases b.bases) (filter-append _ a.writes b.writes)
 
 -- law: a call of which they are not has none of them
 pub own_notes-none : {p : WorldPass} {notes : NotesOf} {Of : Label → CallLog → Type 0} (c : Label) → AreOf p notes Of → ((g : CallLog) → Of c g → ⊥)
     → own_notes c notes ≡ no_notes
 own_notes-none {p} {notes} {Of} c are never = notes_same (own_notes c notes) no_notes (none EntryNotes) (none LookNotes) (none ObjectNotes) (none SkipNotes)
-    (none WriteNotes)
+    (none BaseNotes) (none WriteNotes)
   where
     none : (k : NoteKind) → filter (λ n. is_label c (label_of k n)) (list_of k notes) ≡ []
     none k = filter_none (label_of k) c (list_of k notes)
@@ -79,6 +79,7 @@ none_noted {p} {Of} never = record {
     | LookNotes ↦ tt
     | ObjectNotes ↦ tt
     | SkipNotes ↦ tt
+    | BaseNotes ↦ tt
     | WriteNotes ↦ tt
   ];
 }
@@ -92,6 +93,7 @@ each_both EntryNotes P a b = All-append P a.entries b.entries
 each_both LookNotes P a b = All-append P a.looks b.looks
 each_both ObjectNotes P a b = All-append P a.objects b.objects
 each_both SkipNotes P a b = All-append P a.skips b.skips
+each_both BaseNotes P a b = All-append P a.bases b.bases
 each_both WriteNotes P a b = All-append P a.writes b.writes
 
 module _ {p : WorldPass} {a b : NotesOf} {Of Also Both : Label → CallLog → Type 0} (one : AreOf p a Of) (two : AreOf p b Also)
@@ -134,4 +136,4 @@ call_notes {l = l} {m = m} kept =
     own c is =
         let all = λ (k : NoteKind). filter_all (label_of k) c (list_of k kept.added)
         (each_weaker (list_of k kept.added) (λ n bears. bears ∙ sym is) (kept.bears k)) in
-        sym (notes_same (own_notes c kept.added) kept.added (all EntryNotes) (all LookNotes) (all ObjectNotes) (all SkipNotes) (all WriteNotes))
+        sym (notes_same (own_notes c kept.added) kept.added (all EntryNotes) (all LookNotes) (all ObjectNotes) (all SkipNotes) (all BaseNotes) (all WriteNotes))

@@ -17,7 +17,7 @@ use Rattle.run_history.proofs.Permuted.{filter_permuted}
 use Rattle.lane_notes.specs.Records.{each_below}
 
 -- law: what is counted among things that are made of others
-count-map : {X Y : Type 0} (f : X → Y) (p : Y → Bool) (xs : List X) → count p (map f xs) ≡ length (filter (λ x. p (f x)) xs)
+pub count-map : {X Y : Type 0} (f : X → Y) (p : Y → Bool) (xs : List X) → count p (map f xs) ≡ length (filter (λ x. p (f x)) xs)
 count-map f p [] = refl
 count-map f p (x ∷ xs) =
     let rest = count-map f p xs in

@@ -108,7 +108,7 @@ object_leads {s = s} {x = x} {q = q} last i = ⊎_elim
 module _ {s : Script} {x : WorldOf} {q : WorldPass} {notes sorted : NotesOf} {logs : Label → CallLog} (last : AreLastOf s x q) (left : AreLeft s q notes logs)
     (is : IsSortedFrom notes sorted) (answers : List (List Answer)) where
   abbrev r : RunRecord
-  r = record_from s.version sorted (length s.timers) answers
+  r = record_from s.version sorted s.bases (length s.timers) answers
 
   shown : (i : ℕ) → ShowNotes place_of_object (λ y. y.label) (λ y. y.entry) (λ n. n.entry) (lines_of_object r i)
       (filter (is_of_list place_of_object i) sorted.objects)

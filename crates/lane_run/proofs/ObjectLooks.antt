@@ -25,7 +25,7 @@ use Rattle.script_text.specs.declared.script.Call.TheVariants as calls
 use Rattle.script_text.specs.declared.script.Call.{Call}
 use Rattle.script_text.specs.declared.script.Kind.TheVariants as kinds
 use Rattle.script_text.specs.declared.script.Script.{Script}
-use Rattle.run_history.specs.Calls.{Does}
+use Rattle.run_history.specs.Truths.{WasOffLine}
 use Rattle.run_history.specs.Runs.{witness_of, Ending}
 use Rattle.run_history.specs.Truths.{IsObjectPoint}
 use Rattle.lane_run.specs.Called.{Called, lane_caller, CallsOverrun, gettime_told, LaneOf, with_done}
@@ -34,7 +34,7 @@ use Rattle.lane_run.specs.Worlds.{WorldOf}
 use Rattle.lane_run.proofs.CallKept.{clock_left, clock_read, LooksAtClock, with_done-joins}
 use Rattle.lane_run.proofs.PartLists.{no_notes-joins}
 use Rattle.lane_run.proofs.ObjectSeen.{object_after, object_seen}
-use Rattle.lane_run.proofs.Sights.{IsToldSo, keeps_sight, LooksOnly, point_seen, stamped, notes_alone}
+use Rattle.lane_run.proofs.Sights.{DoesNothing, IsToldSo, keeps_sight, LooksOnly, point_seen, stamped, notes_alone}
 use Rattle.lane_run.proofs.CallKept.{clock_left, clock_read, LooksAtClock, reading_of_seen}
 use Rattle.script_text.specs.declared.script.Kind.{Kind}
 use Rattle.record_text.specs.declared.record.RunRecord.{RunRecord}
@@ -46,7 +46,7 @@ module _ {s : Script} {x : WorldOf} {l : LaneOf} (m : LaneOf) {call : Call} (nex
     (looks : LooksAtObject (lane_caller l.pass [] []) (lane_caller m.pass log object_log) i object stamp)
     (clock : LooksAtClock l.pass m.pass) (notes : m.notes ≡ with_done l.notes l.label log object_log) (on : object_called call ≡ Some i) where
   -- law: a lane keeps a call that looked at an object, where its answer holds of the object as the record has it after so many entries
-  pub keeps_look : object_stamp_in a ≡ stamp ∷ [] → Does s (length (writes m.pass.clock.knows)) call a [] []
+  pub keeps_look : object_stamp_in a ≡ stamp ∷ [] → DoesNothing s m call a
       → ((e : Ending) → Follows m.pass e → IsObjectPoint (witness_of s e) l.label [] i stamp → object ≡ object_after s e.run i stamp (kind_of s i)
       → IsToldSo s l m call a e)
       → KeepsCall s l call a m
@@ -82,7 +82,7 @@ pub keeps_overrun : {s : Script} {x : WorldOf} {l m : LaneOf} {a : Answer} {time
 keeps_overrun {s = s} {l = l} {m = m} {timer = timer} next c =
     subst (λ a. KeepsCall s l (calls.Overrun timer) a m) (sym c.told)
     (keeps_look m next (answers.Overrun c.found.overrun c.found.stamp) c.looks.1 (clock_left c.clock)
-    (c.notes ∙ no_notes-joins l.notes ∙ sym (with_done-joins l.notes l.label [] [])) refl refl refl (λ e follows point is. (
+    (c.notes ∙ no_notes-joins l.notes ∙ sym (with_done-joins l.notes l.label [] [])) refl refl (λ e. refl) (λ e follows point is. (
       point,
       ap (λ (u : PosixTimer). u.overrun) (sym (posix_looked s e.run timer c.found.stamp (kind_of s timer) is)) ∙ sym c.looks.2,
     )))
@@ -96,7 +96,7 @@ keeps_readable {s = s} {l = l} {m = m} {timer = timer} next called =
     let ws = writes m.pass.clock.knows in
     subst (λ a. KeepsCall s l (calls.Readable timer) a m) (sym c.does.1)
     (keeps_look m next (answers.Readable found.ready c.reading.stamp found.stamp) c.does.0.1 (clock_read c.reads.looks)
-    c.notes refl refl (refl, c.reads.count) (λ e follows point is. (
+    c.notes refl refl (λ e. (refl, c.reads.count)) (λ e follows point is. (
       point,
       ap (λ u. is_readable u (reading_at e.run.clock (length ws))) (sym (fd_looked s e.run timer found.stamp (kind_of s timer) is))
           ∙ ap (is_readable c.does.0.0) (reading_of_seen e ws follows.clock ∙ sym c.reads.shows) ∙ sym c.does.0.2,
@@ -113,7 +113,9 @@ keeps_gettime-posix {s = s} {l = l} {m = m} {timer = timer} next kind (gettimes.
     let ws = writes m.pass.clock.knows in
     subst (λ b. KeepsCall s l (calls.Gettime timer) b m) (sym c.does.1)
     (keeps_look m next (answers.LeftAt left interval c.reading.stamp stamp) c.does.0.1 (clock_read c.reads.looks) c.notes refl refl
-    (subst (λ k. DoesGettime k timer (length ws) (answers.LeftAt left interval c.reading.stamp stamp) []) (sym kind) (refl, c.reads.count))
+    (λ e. let last = length m.pass.timers.known.seen in
+    subst (λ k. DoesGettime (WasOffLine (witness_of s e) last last) s.limit k timer (length ws) (answers.LeftAt left interval c.reading.stamp stamp) [])
+    (sym kind) (refl, c.reads.count))
     (λ e follows point is. (
       point,
       ap (λ u. setting_of u (reading_at e.run.clock (length ws))) (sym (posix_looked s e.run timer stamp (kind_of s timer) is))

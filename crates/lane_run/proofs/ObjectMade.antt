@@ -2,7 +2,7 @@
 use Rattle.std.proofs.Common.{◌≤◌, ◌≡◌, ℕ, ◌+◌, Option, Some, List, [], ◌++◌, length, arith, refl, sym, ap, ◌∙◌, subst, ◌≤◌, Bool, ◌∷◌}
 use Rattle.ktime.specs.Readings.{ClockReading}
 use Rattle.seq_timer.specs.Steps.{Timer}
-use Rattle.seq_timer.specs.declared.system.TimerEntry.{TimerEntry}
+use Rattle.seq_timer.specs.declared.system.SystemEntry.{SystemEntry}
 use Rattle.base_row.specs.declared.log.Receipt.{Receipt}
 use Rattle.hr_timers.specs.Known.{KnownOfTimers, timer_then}
 use Rattle.timer_objects.specs.Calls.{phase_of, EntersCall}
@@ -72,7 +72,7 @@ module _ {s : Script} {x : WorldOf} {l : LaneOf} (m : LaneOf) {call : Call} (nex
     {object_log : List ObjectReceipt} {made : SpannedCall} {reply : ObjectReply}
     (enters : EntersCall x.objects (lane_caller l.pass [] []) (lane_caller m.pass log object_log) timer made reply) {mode : Mode} {ns base : ℕ}
     {reading : ClockReading} {arm : Arm} {cancel : Option (ℕ × ℕ)} {begin : KnownOfTimers}
-    (k : TimerPart x l timer begin m.pass.timers.known mode ns base reading arm cancel log) where
+    (k : TimerPart s x l timer begin m.pass.timers.known mode ns base reading arm cancel log) where
   abbrev w : KnownOfTimers
   w = m.pass.timers.known
 
@@ -91,7 +91,7 @@ module _ {s : Script} {x : WorldOf} {l : LaneOf} (m : LaneOf) {call : Call} (nex
 
   module _ {e : Ending} (follows : Follows m.pass e) (joined : IsJoined s e) where
     -- a timer as the lane knows it is the script's
-    timer_at : (ys : List TimerEntry) → promises.GoesOn ys e → witnesses.timer_along (witness_of s e) (length ys) timer ≡ timer_then x.timers.about ys timer
+    timer_at : (ys : List SystemEntry) → promises.GoesOn ys e → witnesses.timer_along (witness_of s e) (length ys) timer ≡ timer_then x.timers.about ys timer
     timer_at ys on =
         timer_seen (witness_of s e) ys on.0 (seen_first ys joined on) timer ∙ sym (ap (λ (o : Opening). timer_then o ys timer) next.world.timers)
 

@@ -1,7 +1,7 @@
 -- What a lane keeps of a call that is a part: of any call but a write of the clock.
 use Rattle.run_history.specs.Told.{object_steps_on}
 use Rattle.run_history.specs.Order.{NeverFall}
-use Rattle.std.proofs.Common.{◌≡◌, ◌+◌, List, length, map, arith, sym, ap, ◌∙◌, subst, ℕ}
+use Rattle.std.proofs.Common.{◌≡◌, ◌+◌, List, length, map, arith, refl, sym, ap, ◌∙◌, subst, ℕ}
 use Rattle.clock_cell.specs.Views.{writes}
 use Rattle.pass_names.specs.Counts.{count, one_if}
 use Rattle.pass_names.specs.Passes.{is_place}
@@ -16,7 +16,7 @@ use Rattle.script_text.specs.declared.script.Call.{Call}
 use Rattle.script_text.specs.declared.script.Script.{Script}
 use Rattle.lane_notes.specs.Entries.{entry_notes, look_notes}
 use Rattle.lane_notes.specs.Objects.{object_notes, skip_notes}
-use Rattle.run_history.specs.Witnesses.{Trace}
+use Rattle.run_history.specs.Witnesses.{TimersList, Trace}
 use Rattle.run_history.specs.Promises as promises
 use Rattle.run_history.specs.Promises.{HasLog, IsRightLog}
 use Rattle.run_history.specs.Receipts as receipts
@@ -25,9 +25,9 @@ use Rattle.run_history.specs.Runs.{Ending}
 use Rattle.lane_run.specs.Called.{LaneOf, with_done}
 use Rattle.std.specs.List.{AllByRecursion}
 use Rattle.std.proofs.lemmas.Option.{slice_get_within}
-use Rattle.lane_run.proofs.Kept.{IsNextCall, IsNoteSeen, list_of, EntryNotes, LookNotes, ObjectNotes, SkipNotes, WriteNotes, KeepsCall, log_of, SeesOn}
+use Rattle.lane_run.proofs.Kept.{IsNextCall, IsNoteSeen, list_of, EntryNotes, LookNotes, ObjectNotes, SkipNotes, BaseNotes, WriteNotes, KeepsCall, log_of, SeesOn}
 use Rattle.lane_run.specs.Worlds.{WorldOf}
-use Rattle.lane_run.proofs.CallKept.{FitsOn, logged_from, LooksAtClock, no_places, notes_of, notes_of-bear, places_added, promised_from, stand_from, with_done-joins}
+use Rattle.lane_run.proofs.CallKept.{FitsOn, logged_from, LooksAtClock, no_places, notes_of, notes_of-bear, places_of_timers, promised_from, stand_from, told_timers, with_done-joins}
 use Rattle.lane_run.proofs.Parts.{IsPart, object_place}
 use Rattle.run_history.proofs.Known.{rises_lower}
 use Rattle.lane_run.proofs.PartLists.{each_weaker}
@@ -42,7 +42,7 @@ pub keeps_part : {s : Script} {x : WorldOf} {l : LaneOf} {call : Call} {IsSo : L
     → m.notes ≡ with_done l.notes l.label log object_log → t.last ≡ length m.pass.timers.known.seen → t.at ≡ length (writes m.pass.clock.knows)
     → ((i : ℕ) → NeverFall (length (seen_of l.pass.objects i)) (object_steps_on i call a t.actions) (length (seen_of m.pass.objects i)))
     → FitsOn s l m call a notes t → KeepsCall s l call a m
-keeps_part {l = l} {call = call} {IsSo = IsSo} {log = log} {object_log = object_log} {notes = notes} next m a t part so clock joins last at steps fits =
+keeps_part {s = s} {l = l} {call = call} {IsSo = IsSo} {log = log} {object_log = object_log} {notes = notes} next m a t part so clock joins last at steps fits =
     let p = l.pass in
     let q = m.pass in
     let label = l.label in
@@ -57,14 +57,14 @@ keeps_part {l = l} {call = call} {IsSo = IsSo} {log = log} {object_log = object_
       joins = joins ∙ with_done-joins l.notes label log object_log;
       bears = notes_of-bear label log object_log;
       tells = record {
-        receipts = part.timers.told;
+        receipts = told_timers notes (notes_of label log object_log) refl part.timers.told;
         tells = record {
           writes = sym part.timers.no_write;
           looks = part.timers.looks;
           objects = part.objects.makes;
           skips = part.objects.skips;
           writes_rise = subst (λ ws. Rises 1 (map (λ k. k.0) ws)) (sym part.timers.no_write) tt;
-          looks_rise = λ i. rises_lower 1 (receipts.count i p.timers.known.seen + 1) (map (λ k. k.0) (looked i actions)) (omega arith)
+          looks_rise = λ i. rises_lower 1 (receipts.count (TimersList i) p.timers.known.seen + 1) (map (λ k. k.0) (looked i actions)) (omega arith)
               (part.timers.looks_rise i).rise;
           objects_rise = λ i. rises_lower 1 (length (seen_of p.objects i) + 1) (map (λ k. k.0) (made i actions)) (omega arith)
               (part.objects.rise i).rise;
@@ -72,7 +72,8 @@ keeps_part {l = l} {call = call} {IsSo = IsSo} {log = log} {object_log = object_
       };
       few = omega arith;
       places = record {
-        timers = places_added p.timers.known.mine q.timers.known.mine notes (entry_notes label log) part.timers.enters.mine part.timers.told;
+        timers = places_of_timers (length s.timers) p.timers.known.mine q.timers.known.mine notes (notes_of label log object_log) part.timers.enters.mine
+            part.timers.told refl;
         objects = λ i k. ap (count (is_place i k)) part.objects.mine
             ∙ total-append (λ u. one_if (is_place i k u)) p.objects.knows.pass.mine (map object_place (object_notes label object_log));
         clock = λ k. no_places (is_place 0 k) p.clock.knows.pass.mine q.clock.knows.pass.mine clock.mine;
@@ -90,6 +91,7 @@ keeps_part {l = l} {call = call} {IsSo = IsSo} {log = log} {object_log = object_
               shows = λ e goes. its.shows e.run.clock (so e goes);
             }) part.objects.seen
         | SkipNotes ↦ each_weaker (skip_notes label object_log) (λ n its. record { some = its.0; seen = its.1 }) part.objects.skips_seen
+        | BaseNotes ↦ tt
         | WriteNotes ↦ tt
       ];
       stand = stand_from IsSo p q notes part.timers.enters t (λ e follows. so e follows.clock);

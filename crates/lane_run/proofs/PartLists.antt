@@ -2,7 +2,7 @@
 use Rattle.std.proofs.Common.{◌≡◌, ◌≤◌, ◌<◌, ℕ, ◌+◌, true, false, nat_eq, Option, List, [], ◌∷◌, ◌++◌, map, arith, refl, ap, ◌∙◌, Bool}
 use Rattle.std.specs.List.{AllByRecursion}
 use Rattle.std.proofs.lemmas.List.{map-append}
-use Rattle.run_history.specs.Actions.{Action, also, Entered, Looked, looked, Made, numbers_of_object, Skipped, skipped, Wrote, wrote}
+use Rattle.run_history.specs.Actions.{Action, also, Entered, Looked, looked, Made, Shifted, numbers_of_object, Skipped, skipped, Wrote, wrote}
 use Rattle.run_history.specs.Objects.{present}
 use Rattle.run_history.specs.Order.{NeverFall}
 use Rattle.lane_notes.proofs.Receipts.{present-append}
@@ -13,7 +13,7 @@ use Rattle.std.proofs.Common.{subst}
 use Rattle.std.specs.List.Sorted.{IsPermutation}
 use Rattle.std.proofs.lemmas.List.Sorted.{IsPermutation-refl}
 use Rattle.std.proofs.Common.{sym}
-use Rattle.std.proofs.lemmas.List.{append-nil}
+use Rattle.std.proofs.lemmas.List.{append_assoc, append-nil}
 use Rattle.clock_cell.specs.Views.{writes}
 use Rattle.lane_notes.specs.Notes.{both_noted, no_notes, NotesOf}
 use Rattle.run_history.specs.Actions.{made}
@@ -129,24 +129,29 @@ pub same_order : {A : Type 0} {xs ys : List A} → xs ≡ ys → IsPermutation x
 same_order {xs = xs} is = subst (IsPermutation xs) is (IsPermutation-refl xs)
 
 -- notes are the same where each list of them is
-pub notes_same : (a b : NotesOf) → a.entries ≡ b.entries → a.looks ≡ b.looks → a.objects ≡ b.objects → a.skips ≡ b.skips → a.writes ≡ b.writes → a ≡ b
-notes_same a b entries looks objects skips writes =
-    ap (λ es. record { entries = es; looks = a.looks; objects = a.objects; skips = a.skips; writes = a.writes }) entries
-    ∙ ap (λ ls. record { entries = b.entries; looks = ls; objects = a.objects; skips = a.skips; writes = a.writes }) looks
-    ∙ ap (λ os. record { entries = b.entries; looks = b.looks; objects = os; skips = a.skips; writes = a.writes }) objects
-    ∙ ap (λ ks. record { entries = b.entries; looks = b.looks; objects = b.objects; skips = ks; writes = a.writes }) skips
-    ∙ ap (λ ws. record { entries = b.entries; looks = b.looks; objects = b.objects; skips = b.skips; writes = ws }) writes
+pub notes_same : (a b : NotesOf) → a.entries ≡ b.entries → a.looks ≡ b.looks → a.objects ≡ b.objects → a.skips ≡ b.skips → a.bases ≡ b.bases
+    → a.writes ≡ b.writes → a ≡ b
+notes_same a b entries looks objects skips bases writes =
+    λ i. record { entries = entries i; looks = looks i; objects = objects i; skips = skips i; bases = bases i; writes = writes i }
 
 -- law: no receipts, no notes
 pub no_notes-joins : (notes : NotesOf) → notes ≡ both_noted notes no_notes
 no_notes-joins notes =
     notes_same notes (both_noted notes no_notes) (sym (append-nil notes.entries)) (sym (append-nil notes.looks)) (sym (append-nil notes.objects))
-    (sym (append-nil notes.skips)) (sym (append-nil notes.writes))
+    (sym (append-nil notes.skips)) (sym (append-nil notes.bases)) (sym (append-nil notes.writes))
 
--- ---- entries of timers, and nothing else
+-- law: three lists of notes
+pub both_noted-assoc : (a b c : NotesOf) → both_noted (both_noted a b) c ≡ both_noted a (both_noted b c)
+both_noted-assoc a b c =
+    notes_same (both_noted (both_noted a b) c) (both_noted a (both_noted b c)) (append_assoc a.entries b.entries c.entries)
+    (append_assoc a.looks b.looks c.looks) (append_assoc a.objects b.objects c.objects) (append_assoc a.skips b.skips c.skips)
+    (append_assoc a.bases b.bases c.bases) (append_assoc a.writes b.writes c.writes)
+
+-- ---- entries of timers and bases, and nothing else
 
 abbrev pub IsEntered : Action → Type 0
 IsEntered (Entered timer number entry) = Unit
+IsEntered (Shifted base number event) = Unit
 IsEntered d = ⊥
 
 -- there is nothing else among them
@@ -157,10 +162,13 @@ pub record HasNoOther (ds : List Action) : Type 0 where
   pub skipped : (i : ℕ) → skipped i ds ≡ []
   pub numbers : (i : ℕ) → numbers_of_object i ds ≡ []
 
--- law: entries of timers are no writes, looks or entries of objects
+-- law: entries of timers and bases are no writes, looks or entries of objects
 pub no_other : (ds : List Action) → AllByRecursion IsEntered ds → HasNoOther ds
 no_other [] all = record { wrote = refl; looked = λ t. refl; made = λ i. refl; skipped = λ i. refl; numbers = λ i. refl }
 no_other (Entered timer number entry ∷ ds) all =
+    let rest = no_other ds all.1 in
+    record { wrote = rest.wrote; looked = rest.looked; made = rest.made; skipped = rest.skipped; numbers = rest.numbers }
+no_other (Shifted base number event ∷ ds) all =
     let rest = no_other ds all.1 in
     record { wrote = rest.wrote; looked = rest.looked; made = rest.made; skipped = rest.skipped; numbers = rest.numbers }
 no_other (d ∷ ds) all = absurd all.0

@@ -11,7 +11,7 @@ use Rattle.seq_timer.specs.Histories as seq
 use Rattle.seq_timer.specs.Systems.{openings}
 use Rattle.seq_timer.specs.declared.context.Declared.{Declared}
 use Rattle.seq_timer.specs.declared.context.Terms.{Terms}
-use Rattle.seq_timer.specs.declared.system.TimerEntry.{TimerEntry}
+use Rattle.seq_timer.specs.declared.system.SystemEntry.{SystemEntry}
 use Rattle.base_row.specs.Logs.{receipts_of}
 use Rattle.base_row.specs.declared.view.Opening.{Opening}
 use Rattle.run_history.proofs.Known.{numbered}
@@ -60,10 +60,10 @@ use Rattle.script_text.specs.declared.script.Script.{Script}
 use Rattle.lane_notes.specs.Entries.{entry_note, look_note, look_noted}
 use Rattle.lane_notes.specs.Objects.{object_note, skip_note}
 use Rattle.run_history.specs.Calls.{IsBody}
-use Rattle.run_history.specs.Witnesses.{Fired}
+use Rattle.run_history.specs.Witnesses.{Fired, OfTimer, Shown, TimersList}
 use Rattle.run_history.specs.Promises as promises
 use Rattle.run_history.specs.Runs.{witness_of, Ending, IsJoined}
-use Rattle.run_history.specs.Truths.{IsClaimSpan, IsObjectPoint}
+use Rattle.run_history.specs.Truths.{IsClaimSpan, IsObjectPoint, WasOffLine}
 use Rattle.run_history.proofs.Expires.{ReplyHolds}
 use Rattle.lane_run.proofs.PartLists.{notes-append, rises_none}
 
@@ -107,8 +107,8 @@ pub record IsTimersPart (IsSo : List ClockLine → Type 0) (label : Label) (v w 
   pub told : IsPermutation (map receipt notes) (map entry_in_note (entry_notes label log))
   pub no_write : wrote actions ≡ []
   pub looks : (t : ℕ) → looks_on t (look_notes label log) ≡ looked t actions
-  pub looks_rise : (t : ℕ) → RisesTo (count t v.seen + 1) (looked t actions) (count t w.seen + 1)
-  pub looks_seen : AllByRecursion (λ n. (0 < n.number) × (n.number ≤ count n.timer w.seen)) (look_notes label log)
+  pub looks_rise : (t : ℕ) → RisesTo (count (TimersList t) v.seen + 1) (looked t actions) (count (TimersList t) w.seen + 1)
+  pub looks_seen : AllByRecursion (λ n. (0 < n.number) × (n.number ≤ count (TimersList n.timer) w.seen)) (look_notes label log)
 
 -- the same of objects
 pub record IsObjectsPart (IsSo : List ClockLine → Type 0) (label : Label) (p q : ObjectsPass) (actions : List Action) (log : List ObjectReceipt)
@@ -165,7 +165,7 @@ module _ {IsSo : List ClockLine → Type 0} {label : Label} where
     told = same_order told;
     no_write = no_write;
     looks = λ t. rw (no_note, no_look t) refl;
-    looks_rise = λ t. let le = count_begins t enters.seen in rw (no_look t) (rises_none (omega (arith, le)));
+    looks_rise = λ t. let le = count_begins (TimersList t) enters.seen in rw (no_look t) (rises_none (omega (arith, le)));
     looks_seen = rw no_note tt;
   }
 
@@ -217,7 +217,7 @@ module _ {IsSo : List ClockLine → Type 0} {label : Label} where
 
   -- law: the entries that a call made of a timer at a moment, with a receipt of each
   pub part_at : (o : Opening) (clocks : List Declared) (terms : Terms) {v : KnownOfTimers} {p : ObjectsPass} {w : KnownOfTimers} {q : ObjectsPass}
-      {t : ℕ} {at : List TimerEntry} {es : List seq.Entry} {actions : List Action} → o.timers ≡ openings clocks terms → MadeAt v w t at es
+      {t : ℕ} {at : List SystemEntry} {es : List seq.Entry} {actions : List Action} → o.timers ≡ openings clocks terms → MadeAt v w t at es
       → ((clock : List ClockLine) → IsSo clock → HaveReadings clock es) → q ≡ p → AllByRecursion IsEntered actions
       → numbered t (timer_then o at t).stamp (map entry_stamped es) ≡ all_entered actions
       → (notes : List PlacedEntry) × IsPart IsSo label v p w q actions notes (receipts_of t (timer_then o at t).stamp es) []
@@ -309,7 +309,7 @@ module _ {IsSo : List ClockLine → Type 0} {label : Label} where
           looks = λ t. rw (looks, notes, looks_on-append t, one.looks t, two.looks t) (sym (looked-append t ds es));
           looks_rise = λ t. rw (looked-append t ds es) (rises_on (one.looks_rise t) (two.looks_rise t));
           looks_seen = rw (looks, notes) (each_joined (look_notes label log) (look_notes label more)
-              (λ n is. let le = count_begins n.timer two.enters.seen in (is.0, omega (arith, is.1, le))) (λ n is. is) one.looks_seen two.looks_seen);
+              (λ n is. let le = count_begins (TimersList n.timer) two.enters.seen in (is.0, omega (arith, is.1, le))) (λ n is. is) one.looks_seen two.looks_seen);
         };
         objects = objects-append left.objects right.objects;
       }
@@ -339,10 +339,10 @@ claim_in base stamp c = record { event = events.Claim base stamp; reply = replie
 pub record IsClaimed (base : ℕ) (c : ClaimNumbers) (reading : ClockReading) (k v : KnownOfTimers) : Type 0 where
   pub note : PlacedEntry
   pub enters : EntersNotes (HasRead reading) k v (note ∷ [])
-  pub is : receipt note ≡ (c.timer, (c.number, claim_in base reading.stamp c))
+  pub is : receipt note ≡ (c.number, OfTimer c.timer (claim_in base reading.stamp c))
   pub there : c.base ≡ base
   pub some : 0 < c.number
-  pub more : count c.timer k.seen < count c.timer v.seen
+  pub more : count (TimersList c.timer) k.seen < count (TimersList c.timer) v.seen
 
 -- What a claim's function did: with the claim it is a part of the call, so that its look stands behind an entry of the part. And what it promises of
 -- every run that goes on from there.
@@ -357,7 +357,9 @@ pub record BodyKept (s : Script) (label : Label) {base : ℕ} {c : ClaimNumbers}
   pub enters : EntersNotes (HasRead reading) v w notes
   pub part : IsPart (HasRead reading) label k h.objects_pass.now w h'.objects_pass.now
       (Entered c.timer c.number (claim_in base reading.stamp c) ∷ body) (claim.note ∷ notes) (claim_receipt reading c ∷ more) object_more
-  pub kind : (finish : ℕ) (restarted : Restarted) → IsBody (kind_of s c.timer) reading.stamp (fired_of c body finish (asks restart) restarted)
+  pub kind : (e : Ending) → IsJoined s e → promises.GoesOn w.seen e → (finish : ℕ) (restarted : Restarted)
+      → IsBody (WasOffLine (witness_of s e) (length v.seen) (length w.seen)) s.limit (kind_of s c.timer) reading.stamp
+      (fired_of c body finish (asks restart) restarted)
   pub holds : (e : Ending) → IsJoined s e → promises.GoesOn w.seen e → (before : List Action)
       → ((i : ℕ) → ((j : ℕ) → made j body ≡ []) → IsObjectPoint (witness_of s e) label before i (length (seen_of h'.objects_pass.now i)))
       → ReplyHolds (witness_of s e) label before (length w.seen) body
@@ -371,20 +373,20 @@ module _ {label : Label} {base : ℕ} {c : ClaimNumbers} {reading : ClockReading
       → IsPart (HasRead reading) label k p w q (Entered c.timer c.number (claim_in base reading.stamp c) ∷ body) (claim.note ∷ notes)
       (claim_receipt reading c ∷ more) object_more
   part_claimed claim part =
-      let are = ap (λ (r : ℕ × (ℕ × Entry)). r ∷ []) claim.is in
+      let are = ap (λ (r : ℕ × Shown). r ∷ []) claim.is in
       part_then {ds = Entered c.timer c.number (claim_in base reading.stamp c) ∷ []} {log = claim_receipt reading c ∷ []}
       (part_entered claim.enters refl (tt, tt) are (rw claim.there are) refl) part
 
   -- law: a claim, and behind it a look at its timer
   pub part_looked : (claim : IsClaimed base c reading k v) (number : ℕ) (event : Event) (observation : Observation) (reply : CallbackReply)
-      → Begins v.seen w.seen → w.mine ≡ v.mine → q ≡ p → look_noted observation ≡ Some reply → count c.timer v.seen ≤ number
-      → number ≤ count c.timer w.seen → IsPart (HasRead reading) label k p w q
+      → Begins v.seen w.seen → w.mine ≡ v.mine → q ≡ p → look_noted observation ≡ Some reply → count (TimersList c.timer) v.seen ≤ number
+      → number ≤ count (TimersList c.timer) w.seen → IsPart (HasRead reading) label k p w q
       (Entered c.timer c.number (claim_in base reading.stamp c) ∷ Looked c.timer number reply ∷ []) (claim.note ∷ [])
       (claim_receipt reading c ∷ look_receipt c number event observation ∷ []) []
   part_looked claim number event observation reply seen mine same noted low high =
       let are : look_notes label (claim_receipt reading c ∷ look_receipt c number event observation ∷ [])
       ≡ record { label = label; timer = c.timer; number = number; reply = reply } ∷ [] = rw noted refl in
-      let entered = ap (λ (r : ℕ × (ℕ × Entry)). r ∷ []) claim.is in
+      let entered = ap (λ (r : ℕ × Shown). r ∷ []) claim.is in
       record {
         timers = record {
           enters = enters-append claim.enters (enters_none seen mine);
@@ -392,8 +394,8 @@ module _ {label : Label} {base : ℕ} {c : ClaimNumbers} {reading : ClockReading
           told = same_order (rw claim.there entered);
           no_write = refl;
           looks = λ t. ap (looks_on t) are;
-          looks_rise = one_rises c.timer number reply (λ t. count t k.seen + 1) (λ t. count t w.seen + 1) (omega (arith, claim.more, low))
-              (omega (arith, high)) (λ t. let first = count_begins t claim.enters.seen in let le = count_begins t seen in omega (arith, first, le));
+          looks_rise = one_rises c.timer number reply (λ t. count (TimersList t) k.seen + 1) (λ t. count (TimersList t) w.seen + 1) (omega (arith, claim.more, low))
+              (omega (arith, high)) (λ t. let first = count_begins (TimersList t) claim.enters.seen in let le = count_begins (TimersList t) seen in omega (arith, first, le));
           looks_seen = rw are ((omega (arith, claim.more, low), high), tt);
         };
         objects = objects_alone same (λ i. refl) (λ i. refl) (λ i. refl);

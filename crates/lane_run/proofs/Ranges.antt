@@ -22,8 +22,12 @@ use Rattle.script_text.specs.Scripts.{IsCallInRange, IsInRange, HasTimerFor, all
 use Rattle.lane_run.specs.Worlds.{CanCall, IsWorldOf, WorldOf, decl_of}
 use Rattle.lane_run.proofs.Making.{whole_of}
 use Rattle.lane_run.proofs.Declared.{declared_over, over_of}
-use Rattle.lane_run.proofs.PartLists.{each_weaker}
-use Rattle.script_text.specs.Declarations.{kind_of}
+use Rattle.hr_timers.specs.Known.{IsEvacuable}
+use Rattle.hr_timers.proofs.Shifts.{evacuable_on}
+use Rattle.record_text.specs.declared.version.Version.{Version}
+use Rattle.record_text.specs.declared.version.Version.TheVariants as versions
+use Rattle.script_text.specs.VersionOne.{IsHardCall}
+use Rattle.script_text.specs.Declarations.{declareds_of, kind_of, reach_of, terms_of}
 use Rattle.script_text.specs.declared.script.Callback.{Callback}
 
 module _ {s : Script} {x : WorldOf} (range : IsInRange s) (is : IsWorldOf s x) where
@@ -48,25 +52,44 @@ module _ {s : Script} {x : WorldOf} (range : IsInRange s) (is : IsWorldOf s x) w
       by_kind (kinds.Posix b) e = posix b e
       by_kind (kinds.Fd b) e = fd b e
 
-  can_call : (c : Call) → IsCallInRange s.bases s.timers c → CanCall x c
-  can_call (calls.Start timer request) ok = (timer_there ok.0.0, base_there ok.1)
-  can_call (calls.Cancel timer) ok = timer_there ok.0
-  can_call (calls.Peek timer) ok = timer_there ok.0
-  can_call (calls.Expire context base budget) ok = (base_there ok.0, ok.1)
-  can_call (calls.Clock write) ok = tt
-  can_call (calls.Settime timer flags value interval) ok =
+  -- bases may go off line where the script is of a later version than the first
+  evacuable : (s.version ≡ versions.One → ⊥) → IsEvacuable x.timers.about
+  evacuable later = subst IsEvacuable (sym is.timers) (evacuable_on s.bases (declareds_of s) (terms_of s) (by_version s.version later))
+    where
+      by_version : (v : Version) → (v ≡ versions.One → ⊥) → 0 < reach_of v
+      by_version versions.One later = absurd (later refl)
+      by_version versions.Two later = omega arith
+
+  can_call : (lane : ℕ) (c : Call) → IsCallInRange lane s.bases s.timers c → (s.version ≡ versions.One → IsHardCall c) → CanCall x lane c
+  can_call lane (calls.Start timer request) ok hard = (timer_there ok.0.0, base_there ok.1)
+  can_call lane (calls.Cancel timer) ok hard = timer_there ok.0
+  can_call lane (calls.Peek timer) ok hard = timer_there ok.0
+  can_call lane (calls.Expire context base budget) ok hard = (base_there ok.0, ok.1)
+  can_call lane (calls.Clock write) ok hard = tt
+  can_call lane (calls.Settime timer flags value interval) ok hard =
       on_object timer forms.Settime (λ k. k ≢ over.Raw) ok (λ y c e. absurd cc) (λ b e raw. absurd cc) (λ b e raw. absurd cc)
-  can_call (calls.Gettime timer) ok =
+  can_call lane (calls.Gettime timer) ok hard =
       on_object timer forms.Gettime (λ k. k ≢ over.Raw) ok (λ y c e. absurd cc) (λ b e raw. absurd cc) (λ b e raw. absurd cc)
-  can_call (calls.Accept timer) ok = on_object timer forms.Accept (λ k. k ≡ over.Posix) ok (λ y c e. absurd cc) (λ b e. refl) (λ b e. absurd cc)
-  can_call (calls.Overrun timer) ok = on_object timer forms.Overrun (λ k. k ≡ over.Posix) ok (λ y c e. absurd cc) (λ b e. refl) (λ b e. absurd cc)
-  can_call (calls.Read timer len) ok = on_object timer forms.Read (λ k. k ≡ over.Fd) ok (λ y c e. absurd cc) (λ b e. absurd cc) (λ b e. refl)
-  can_call (calls.Readable timer) ok = on_object timer forms.Readable (λ k. k ≡ over.Fd) ok (λ y c e. absurd cc) (λ b e. absurd cc) (λ b e. refl)
+  can_call lane (calls.Accept timer) ok hard = on_object timer forms.Accept (λ k. k ≡ over.Posix) ok (λ y c e. absurd cc) (λ b e. refl) (λ b e. absurd cc)
+  can_call lane (calls.Overrun timer) ok hard = on_object timer forms.Overrun (λ k. k ≡ over.Posix) ok (λ y c e. absurd cc) (λ b e. refl) (λ b e. absurd cc)
+  can_call lane (calls.Read timer len) ok hard = on_object timer forms.Read (λ k. k ≡ over.Fd) ok (λ y c e. absurd cc) (λ b e. absurd cc) (λ b e. refl)
+  can_call lane (calls.Readable timer) ok hard = on_object timer forms.Readable (λ k. k ≡ over.Fd) ok (λ y c e. absurd cc) (λ b e. absurd cc) (λ b e. refl)
+  can_call lane (calls.Offline base heir budget) ok hard = (ok.0, base_there ok.1, ok.2, ok.3, evacuable hard)
+  can_call lane (calls.Online base) ok hard = (ok.0, base_there ok.1, evacuable hard)
 
   -- so can those of each round
   pub round_can : (rs : List Round) (i : ℕ) (r : Round) → i < length rs
-      → AllByRecursion (λ (c : LaneCall). IsCallInRange s.bases s.timers c.call) (all_calls rs)
-      → AllByRecursion (λ (c : LaneCall). CanCall x c.call) (get_or rs i r).calls
-  round_can [] i r here all = absurd (omega (arith, here))
-  round_can (y ∷ rs) zero r here all = each_weaker y.calls (λ c. can_call c.call) (All-front _ y.calls (all_calls rs) all)
-  round_can (y ∷ rs) (suc i) r here all = round_can rs i r (omega (arith, here)) (All-back _ y.calls (all_calls rs) all)
+      → AllByRecursion (λ (c : LaneCall). IsCallInRange c.lane s.bases s.timers c.call) (all_calls rs)
+      → (s.version ≡ versions.One → AllByRecursion (λ (c : LaneCall). IsHardCall c.call) (all_calls rs))
+      → AllByRecursion (λ (c : LaneCall). CanCall x c.lane c.call) (get_or rs i r).calls
+  round_can [] i r here all hard = absurd (omega (arith, here))
+  round_can (y ∷ rs) zero r here all hard =
+      calls_can y.calls (All-front _ y.calls (all_calls rs) all) (λ one. All-front _ y.calls (all_calls rs) (hard one))
+    where
+      calls_can : (cs : List LaneCall) → AllByRecursion (λ (c : LaneCall). IsCallInRange c.lane s.bases s.timers c.call) cs
+          → (s.version ≡ versions.One → AllByRecursion (λ (c : LaneCall). IsHardCall c.call) cs)
+          → AllByRecursion (λ (c : LaneCall). CanCall x c.lane c.call) cs
+      calls_can [] range hard = tt
+      calls_can (c ∷ cs) range hard = (can_call c.lane c.call range.0 (λ one. (hard one).0), calls_can cs range.1 (λ one. (hard one).1))
+  round_can (y ∷ rs) (suc i) r here all hard =
+      round_can rs i r (omega (arith, here)) (All-back _ y.calls (all_calls rs) all) (λ one. All-back _ y.calls (all_calls rs) (hard one))

@@ -55,6 +55,7 @@ use Rattle.run_history.specs.Told.{object_called}
 use Rattle.run_history.specs.Fits.{FitsCall}
 use Rattle.run_history.specs.Receipts.{PlacedEntry}
 use Rattle.run_history.specs.Runs.{witness_of, Ending, IsJoined, moves_spans}
+use Rattle.run_history.specs.Truths.{WasOffLine}
 use Rattle.run_history.proofs.Kept.{IsKept}
 use Rattle.run_history.proofs.ObjectsMade.{IsRearmed, rearming_actions}
 use Rattle.run_history.proofs.OthersMade.{plain}
@@ -88,7 +89,7 @@ module _ {s : Script} {x : WorldOf} {l m : LaneOf} {call : Call} (next : IsNextC
     {a : Answer} {Does : Caller → Caller → ClockReading → Type 0} (c : CallsObject x l m a Does) {r : Rearming} {reply : ObjectReply}
     (made : RearmingMade x.objects x.timers.about (lane_caller l.pass [] []) (lane_caller m.pass c.log c.object_log) timer r c.reading reply)
     (entry : Armed → ObjectEntry) where
-  part : RearmPart x l timer m.pass.timers.known (decl_at x.objects timer).base c.reading made.arm made.span c.log
+  part : RearmPart s x l timer m.pass.timers.known (decl_at x.objects timer).base c.reading made.arm made.span c.log
   part =
       let object = made.enters.commits.state.object in
       rearm_part next timer c.reading made.enters.commits.state.last (wanted_by r object c.reading) made.arm (wanted_timely r object c.reading) made.rearms
@@ -96,11 +97,11 @@ module _ {s : Script} {x : WorldOf} {l m : LaneOf} {call : Call} (next : IsNextC
   rearmed : {e : Ending} → Follows m.pass e → IsJoined s e
       → IsRearmed (witness_of s e) l.label part.does.part.0 c.reading.stamp (length part.begin.seen) (length m.pass.timers.known.seen) timer
       (arm_noted made.arm) part.does.start (length made.enters.commits.adds.before + 1)
-  rearmed follows joined = record {
+  rearmed {e = e} follows joined = record {
     ns = part.ns;
     timely = part.timely;
-    arms = subst (λ b. Arms timer modes.Keep part.ns c.reading.stamp b (arm_noted made.arm) part.does.start) (declared_base s x timer next.world)
-        part.does.arms;
+    arms = subst (λ b. Arms (WasOffLine (witness_of s e) (length part.begin.seen) (length m.pass.timers.known.seen)) s.limit timer modes.Keep part.ns
+        c.reading.stamp b (arm_noted made.arm) part.does.start) (declared_base s x timer next.world) (part.does.arms e joined follows.timers);
     ends = length m.pass.timers.known.seen;
     between = begins_length part.does.part.1.timers.enters.seen;
     high = omega arith;
@@ -149,7 +150,7 @@ module _ {s : Script} {x : WorldOf} {l m : LaneOf} {a : Answer} {timer : ℕ} wh
           → KeepsCall s l (calls.Accept timer) (accept_told g) m
       by_answer (accept_answers.Spent n) c =
           keeps_full next (answers.Spent n) timer n c.does (clock_read c.reads.looks) c.notes
-          refl refl refl (λ e saw. saw)
+          refl refl (λ e. refl) (λ e saw. saw)
       by_answer (accept_answers.Accepted overrun) c = accept_kept next (acceptances.Accepted overrun) refl refl c
       by_answer accept_answers.NoSignal c = accept_kept next acceptances.NoSignal refl refl c
 
@@ -174,10 +175,10 @@ module _ {s : Script} {x : WorldOf} {l m : LaneOf} {a : Answer} {timer len : ℕ
           → KeepsCall s l (calls.Read timer len) (read_told g) m
       by_answer read_answers.ShortBuffer c =
           keeps_same next answers.Invalid timer c.does.1 (clock_read c.reads.looks) c.notes
-          refl refl (refl, c.does.0) (λ e. tt)
+          refl refl (λ e. (refl, c.does.0)) (λ e. tt)
       by_answer (read_answers.Spent n) c =
           keeps_full next (answers.Spent n) timer n c.does.1 (clock_read c.reads.looks) c.notes
-          refl refl (refl, c.does.0) (λ e saw. saw)
+          refl refl (λ e. (refl, c.does.0)) (λ e saw. saw)
       by_answer (read_answers.Count total) c = read_kept next (reads.Count total) refl refl c
       by_answer read_answers.Canceled c = read_kept next reads.Canceled refl refl c
       by_answer read_answers.Again c = read_kept next reads.Again refl refl c
@@ -190,7 +191,9 @@ pub keeps_gettime-fd : {s : Script} {x : WorldOf} {l m : LaneOf} {a : Answer} {t
 keeps_gettime-fd {s = s} {l = l} {m = m} {timer = timer} next kind (gettimes.Spent n) c =
     subst (λ b. KeepsCall s l (calls.Gettime timer) b m) (sym c.does.1)
     (keeps_full next (answers.Spent n) timer n c.does.0 (clock_read c.reads.looks) c.notes refl
-    refl (subst (λ k. DoesGettime k timer (length (writes m.pass.clock.knows)) (answers.Spent n) []) (sym kind) refl) (λ e saw. saw))
+    refl (λ e. let last = length m.pass.timers.known.seen in
+    subst (λ k. DoesGettime (WasOffLine (witness_of s e) last last) s.limit k timer (length (writes m.pass.clock.knows)) (answers.Spent n) [])
+    (sym kind) refl) (λ e saw. saw))
 keeps_gettime-fd {s = s} {l = l} {m = m} {timer = timer} {base = base} next kind (gettimes.Left left interval stamp) c =
     let answered = fd_replies.Gettime (lefts.Left left interval) in
     subst (λ b. KeepsCall s l (calls.Gettime timer) b m) (sym c.does.1)

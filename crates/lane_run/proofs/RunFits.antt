@@ -33,6 +33,8 @@ use Rattle.script_text.specs.declared.script.Kind.{Kind}
 use Rattle.script_text.specs.declared.script.Kind.TheVariants as kinds
 use Rattle.lane_run.proofs.Declared.{declared_over, over_of}
 use Rattle.lane_run.proofs.LaneKept.{KeepsEach}
+use Rattle.lane_run.proofs.BaseLines.{shows_shifts}
+use Rattle.lane_run.proofs.OffLine.{keeps_offline, keeps_online}
 
 -- ---- each call
 
@@ -64,6 +66,8 @@ keeps_call s x l m (calls.Accept timer) a next c = keeps_accept next c
 keeps_call s x l m (calls.Overrun timer) a next c = keeps_overrun next c
 keeps_call s x l m (calls.Read timer len) a next c = keeps_read next c
 keeps_call s x l m (calls.Readable timer) a next c = keeps_readable next c
+keeps_call s x l m (calls.Offline base heir budget) a next c = keeps_offline next c
+keeps_call s x l m (calls.Online base) a next c = keeps_online next c
 
 -- ---- the run
 
@@ -79,14 +83,15 @@ run_recorded s x p r q range world first passes last run =
     let whole = whole_of s x range world in
     let left = left_by_rounds s x p q run.left (keeps_call s x) world range whole first run.rounds in
     let of : AreLastOf s x q = record { range = range; world = world; whole = whole; passes = passes; last = last } in
-    let record_is = record_from s.version run.sorted (length s.timers) run.left.answers in
+    let record_is = record_from s.version run.shows.sorted s.bases (length s.timers) run.left.answers in
     let e = ending_of record_is q left.0 left.1 in
-    subst (λ y. IsWholeRecord s y q) (sym run.shows) (record {
-      fits = run_fits s record_is (is_run of left.2 run.in_order run.left.answers left.1 left.3);
+    subst (λ y. IsWholeRecord s y q) (sym run.shows.shows) (record {
+      fits = run_fits s record_is (is_run of left.2 run.shows.in_order run.left.answers left.1 left.3);
       shows = record {
-        clock = clock_writes of left.2 run.in_order;
-        timers = shows s e (is_ending of left.2 run.in_order run.left.answers left.1 left.3);
+        clock = clock_writes of left.2 run.shows.in_order;
+        timers = shows s e (is_ending of left.2 run.shows.in_order run.left.answers left.1 left.3);
+        bases = shows_shifts s e (is_ending of left.2 run.shows.in_order run.left.answers left.1 left.3);
         spans = e.spans;
-        objects = object_lines_show of left.2 run.in_order run.left.answers left.1;
+        objects = object_lines_show of left.2 run.shows.in_order run.left.answers left.1;
       };
     })

@@ -24,6 +24,7 @@ use Rattle.script_text.specs.declared.script.Call.TheVariants as calls
 use Rattle.script_text.specs.declared.script.Script.{Script}
 use Rattle.lane_notes.specs.Arms.{arm_noted}
 use Rattle.run_history.specs.Runs.{witness_of, Ending, IsJoined}
+use Rattle.run_history.specs.Truths.{WasOffLine}
 use Rattle.run_history.proofs.ObjectsMade.{FoundIdle, IsSet, settime_made}
 use Rattle.lane_run.specs.Called.{Called, lane_caller, CallsObject, LaneOf, ReadsClock, settime_told, with_done}
 use Rattle.lane_run.proofs.Kept.{Follows, IsNextCall, KeepsCall, begins_same}
@@ -70,7 +71,7 @@ module _ {s : Script} {x : WorldOf} {l : LaneOf} (m : LaneOf) {timer flags : ℕ
       disarmed_part next timer reading d.answer (record { at = begin.seen; made = made; fits = c.fits; claims = c.claims }) d.ended
       (d.receipts ∙ ap (λ k. receipts_of timer k (cancel_entries d.answer)) d.from)
 
-  part : TimerPart x l timer begin w (mode_by flags) (time_of value) (decl_at x.objects timer).base reading set.arm disarmed.0 log
+  part : TimerPart s x l timer begin w (mode_by flags) (time_of value) (decl_at x.objects timer).base reading set.arm disarmed.0 log
   part = settime_start next timer reading set.disarms.cancelled.made.from refl disarmed.1 flags (time_of value) set.arm set.arms
 
   noted : SettimeNoted flags (time_of value) (time_of interval) reading a (decl_at x.objects timer).kind set.arm set.reply
@@ -86,12 +87,13 @@ module _ {s : Script} {x : WorldOf} {l : LaneOf} (m : LaneOf) {timer flags : ℕ
     is_set =
         let takes = takes_valid (kind_of s timer) _ flags value interval (declared_over s x timer next.world)
         (λ raw. let none = raw_object next set.enters.commits.at raw in subst (λ y. ObjectAllows y call) none.0 set.enters.may.allowed) in
+        let off = WasOffLine (witness_of s e) (length begin.seen) (length w.seen) in
         record {
           taken = takes.0 valid;
-          arms = subst (λ b. Arms timer (start_mode (kind_of s timer) flags) (nanoseconds_of value) reading.stamp b (arm_noted set.arm) part.start)
-              (declared_base s x timer next.world)
-              (subst (λ k. Arms timer k (time_of value) reading.stamp (decl_at x.objects timer).base (arm_noted set.arm) part.start) (sym takes.1)
-              part.arms);
+          arms = subst (λ b. Arms off s.limit timer (start_mode (kind_of s timer) flags) (nanoseconds_of value) reading.stamp b (arm_noted set.arm)
+              part.start) (declared_base s x timer next.world)
+              (subst (λ k. Arms off s.limit timer k (time_of value) reading.stamp (decl_at x.objects timer).base (arm_noted set.arm) part.start)
+              (sym takes.1) (part.arms e joined follows.timers));
           ends = length w.seen;
           between = begins_length part.part.1.timers.enters.seen;
           high = omega arith;
@@ -145,7 +147,7 @@ keeps_settime {s = s} {x = x} {l = l} {m = m} {a = a} {timer = timer} {flags = f
         let takes = takes_valid (kind_of s timer) _ flags value interval (declared_over s x timer next.world)
         (λ raw. let none = raw_object next full.reads.at raw in omega (arith, none.1, full.full, full.stamp, next.world.limit, next.range.limit.0)) in
         keeps_full next (answers.Spent n) timer n full (clock_read c.reads.looks) c.notes refl
-        refl (refl, takes.0 valid) (λ e saw. saw)
+        refl (λ e. (refl, takes.0 valid)) (λ e saw. saw)
     by_answer settings.BadFlags valid made = absurd made
     by_answer settings.BadTime valid made = absurd made
     by_answer answer valid made = keeps_set m next c.reads c.notes made valid
@@ -158,4 +160,4 @@ keeps_settime {s = s} {x = x} {l = l} {m = m} {a = a} {timer = timer} {flags = f
     by_arguments (Some refusal) bad refused =
         subst (λ b. KeepsCall s l (calls.Settime timer flags value interval) b m) (sym (ap settime_told refused.0 ∙ bad.0))
         (keeps_same next answers.Invalid timer refused.1 (clock_read c.reads.looks) c.notes
-        refl refl (refl, λ v. bad.1 (valid_for (kind_of s timer) _ flags value interval (declared_over s x timer next.world) v)) (λ e. tt))
+        refl refl (λ e. (refl, λ v. bad.1 (valid_for (kind_of s timer) _ flags value interval (declared_over s x timer next.world) v))) (λ e. tt))

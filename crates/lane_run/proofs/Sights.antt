@@ -20,11 +20,11 @@ use Rattle.run_history.specs.Calls.{Does}
 use Rattle.run_history.specs.Witnesses.{Trace}
 use Rattle.run_history.specs.Promises.{HasLog}
 use Rattle.run_history.specs.Runs.{witness_of, Ending, IsJoined}
-use Rattle.run_history.specs.Truths.{IsObjectPoint, AnswerHolds, SawFull}
+use Rattle.run_history.specs.Truths.{IsObjectPoint, AnswerHolds, SawFull, WasOffLine}
 use Rattle.run_history.proofs.OthersMade.{plain, quiet_made}
 use Rattle.run_history.proofs.Promise.{object_point_from}
 use Rattle.lane_run.specs.Called.{lane_caller, LaneOf, with_done}
-use Rattle.lane_run.proofs.Kept.{Follows, IsNextCall, KeepsCall, log_of, begins_same, entry_in_note}
+use Rattle.lane_run.proofs.Kept.{Follows, IsNextCall, KeepsCall, log_of, begins_same}
 use Rattle.lane_run.specs.Worlds.{WorldOf}
 use Rattle.pass_names.proofs.Passes.{begins_length}
 use Rattle.lane_run.proofs.CallKept.{clock_left, FitsOn, LooksAtClock, same_objects, unstamped, with_done-joins}
@@ -40,7 +40,7 @@ use Rattle.seq_timer.specs.Histories.{Holds}
 use Rattle.seq_timer.specs.Steps.{Timer}
 use Rattle.seq_timer.specs.declared.observation.Observation.TheVariants as observations
 use Rattle.seq_timer.specs.declared.observation.Observation.{Observation}
-use Rattle.seq_timer.specs.declared.system.TimerEntry.{TimerEntry}
+use Rattle.seq_timer.specs.declared.system.SystemEntry.{SystemEntry}
 use Rattle.record_text.specs.declared.record.Answer.TheVariants as answers
 use Rattle.record_text.specs.declared.record.ClockLine.{ClockLine}
 use Rattle.run_history.specs.Actions.{made}
@@ -49,7 +49,7 @@ use Rattle.run_history.proofs.Known.{numbered}
 use Rattle.script_text.specs.Declarations.{declareds_of, terms_of}
 use Rattle.run_history.specs.Witnesses as witnesses
 use Rattle.run_history.specs.Promises.{GoesOnClock}
-use Rattle.run_history.specs.Receipts.{PlacedEntry, receipt}
+use Rattle.run_history.specs.Receipts.{PlacedEntry}
 use Rattle.run_history.specs.Traces.{all_entered}
 use Rattle.run_history.specs.Truths.{Saw}
 use Rattle.run_history.proofs.PassState.{saw_from, state_seen, timer_seen}
@@ -148,20 +148,26 @@ abbrev pub IsToldSo : Script → LaneOf → LaneOf → Call → Answer → Endin
 IsToldSo s l m call a e =
     let last = length m.pass.timers.known.seen in AnswerHolds (witness_of s e) last last l.label (length (writes m.pass.clock.knows)) [] call a
 
+-- it is to do nothing
+abbrev pub DoesNothing : Script → LaneOf → Call → Answer → Type 0
+DoesNothing s m call a =
+    (e : Ending) → let last = length m.pass.timers.known.seen in
+    Does (WasOffLine (witness_of s e) last last) s (length (writes m.pass.clock.knows)) call a [] [] []
+
 -- law: the same where it is so in every such run
 pub keeps_sight : {s : Script} {x : WorldOf} {l m : LaneOf} {call : Call} (next : IsNextCall s x l call) (a : Answer) → LooksOnly l m
     → ((j : ℕ) → NeverFall (length (seen_of l.pass.objects j)) (object_steps_on j call a []) (length (seen_of m.pass.objects j)))
-    → Does s (length (writes m.pass.clock.knows)) call a [] []
+    → DoesNothing s m call a
     → ((e : Ending) → Follows m.pass e → IsJoined s e → HasLog e l.label (log_of l.pass m.pass [] (looking m)) → IsToldSo s l m call a e)
     → KeepsCall s l call a m
 keeps_sight next a only steps does seen =
-    keeps_looking next a only steps (λ e follows joined has kept low. quiet_made kept does (seen e follows joined has))
+    keeps_looking next a only steps (λ e follows joined has kept low. quiet_made kept (does e) (seen e follows joined has))
 
 -- law: a lane keeps a call on an object that found its history full
 pub keeps_full : {s : Script} {x : WorldOf} {l m : LaneOf} {call : Call} {log : List Receipt} {object_log : List ObjectReceipt}
     (next : IsNextCall s x l call) (a : Answer) (i n : ℕ) → FindsFull x.objects (lane_caller l.pass [] []) (lane_caller m.pass log object_log) i n
     → LooksAtClock l.pass m.pass → m.notes ≡ with_done l.notes l.label log object_log → object_called call ≡ Some i → object_stamp_in a ≡ n ∷ []
-    → Does s (length (writes m.pass.clock.knows)) call a [] [] → ((e : Ending) → SawFull (witness_of s e) l.label [] i n → IsToldSo s l m call a e)
+    → DoesNothing s m call a → ((e : Ending) → SawFull (witness_of s e) l.label [] i n → IsToldSo s l m call a e)
     → KeepsCall s l call a m
 keeps_full {l = l} {m = m} {call = call} next a i n full clock notes on stamps does seen =
     let only : LooksOnly l m = record {
@@ -180,7 +186,7 @@ keeps_full {l = l} {m = m} {call = call} next a i n full clock notes on stamps d
 pub keeps_same : {s : Script} {x : WorldOf} {l m : LaneOf} {call : Call} {log : List Receipt} {object_log : List ObjectReceipt}
     (next : IsNextCall s x l call) (a : Answer) (i : ℕ) → lane_caller m.pass log object_log ≡ lane_caller l.pass [] [] → LooksAtClock l.pass m.pass
     → m.notes ≡ with_done l.notes l.label log object_log → object_called call ≡ Some i → object_stamp_in a ≡ []
-    → Does s (length (writes m.pass.clock.knows)) call a [] [] → ((e : Ending) → IsToldSo s l m call a e) → KeepsCall s l call a m
+    → DoesNothing s m call a → ((e : Ending) → IsToldSo s l m call a e) → KeepsCall s l call a m
 keeps_same {l = l} {m = m} {call = call} next a i same clock notes on none does seen =
     let only : LooksOnly l m = looks_alone (begins_same (ap (λ (c : Caller). c.timers.seen) same)) (ap (λ (c : Caller). c.timers.mine) same)
     (ap (λ (c : Caller). c.objects) same) clock
@@ -202,7 +208,7 @@ no_object_steps p q call a ds none on_none goes_on i =
 -- ---- the call
 
 -- law: a lane keeps a call on no object that made entries of a timer at a moment and nothing else, where it fits in every run that goes on from there
-pub keeps_entered : {s : Script} {x : WorldOf} {l : LaneOf} {call : Call} (IsSo : List ClockLine → Type 0) {timer : ℕ} {at : List TimerEntry}
+pub keeps_entered : {s : Script} {x : WorldOf} {l : LaneOf} {call : Call} (IsSo : List ClockLine → Type 0) {timer : ℕ} {at : List SystemEntry}
     {es : List seq.Entry} (next : IsNextCall s x l call) (m : LaneOf) (a : Answer) (t : Trace) → MadeAt l.pass.timers.known m.pass.timers.known timer at es
     → ((clock : List ClockLine) → IsSo clock → HaveReadings clock es) → ((e : Ending) → GoesOnClock (writes m.pass.clock.knows) e → IsSo e.run.clock)
     → LooksAtClock l.pass m.pass → m.pass.objects ≡ l.pass.objects
@@ -216,7 +222,7 @@ keeps_entered {s = s} {x = x} {l = l} {call = call} IsSo next m a t made reads s
 
 -- law: a lane keeps a call on no object that only looked, where what it saw holds when it ended
 pub keeps_quiet : {s : Script} {x : WorldOf} {l m : LaneOf} {call : Call} (next : IsNextCall s x l call) (a : Answer) → LooksOnly l m
-    → object_called call ≡ None → Does s (length (writes m.pass.clock.knows)) call a [] []
+    → object_called call ≡ None → DoesNothing s m call a
     → ((e : Ending) → Follows m.pass e → IsJoined s e → IsToldSo s l m call a e) → KeepsCall s l call a m
 keeps_quiet {l = l} {m = m} {call = call} next a only on_none does seen =
     keeps_sight next a only (no_object_steps l.pass m.pass call a [] (λ i. refl) on_none only.objects) does
@@ -225,7 +231,7 @@ keeps_quiet {l = l} {m = m} {call = call} next a only on_none does seen =
 -- ---- what a call saw of a timer
 
 module _ {s : Script} {x : WorldOf} {l : LaneOf} {call : Call} (next : IsNextCall s x l call) (q : WorldPass) {v : KnownOfTimers} {t : ℕ}
-    {at : List TimerEntry} (made : MadeAt v q.timers.known t at []) where
+    {at : List SystemEntry} (made : MadeAt v q.timers.known t at []) where
   -- law: a timer at a call's moment, behind which the call made no entry of it, is that which the call had seen when it ended
   pub state_quiet : timer_then x.timers.about at t ≡ state_seen s q.timers.known.seen t
   state_quiet =
@@ -247,7 +253,7 @@ module _ {s : Script} {x : WorldOf} {l : LaneOf} {call : Call} (next : IsNextCal
       (timer_seen (witness_of s e) q.timers.known.seen follows.timers.0 (seen_first q.timers.known.seen joined follows.timers) t ∙ sym state_quiet) ∙ still
 
 -- law: a call that made no entry of a timer only looked, where it left objects alone
-pub looks_at : {l m : LaneOf} {t : ℕ} {at : List TimerEntry} → MadeAt l.pass.timers.known m.pass.timers.known t at []
+pub looks_at : {l m : LaneOf} {t : ℕ} {at : List SystemEntry} → MadeAt l.pass.timers.known m.pass.timers.known t at []
     → m.pass.objects ≡ l.pass.objects → LooksAtClock l.pass m.pass → m.notes ≡ l.notes → LooksOnly l m
 looks_at made = let looks = looks_made made in looks_alone looks.0 looks.1
 
@@ -260,5 +266,5 @@ keeps_peek {s = s} {l = l} {m = m} {timer = timer} next c =
     let made = c.peeks.made in
     subst (λ a. KeepsCall s l (calls.Peek timer) a m) (sym c.told)
     (keeps_quiet next (answers.Peek c.seen.stamp c.seen.base c.seen.enqueued c.seen.running c.seen.moving)
-    (looks_at made c.objects (clock_left c.clock) c.notes) refl refl
+    (looks_at made c.objects (clock_left c.clock) c.notes) refl (λ e. refl)
     (saw_quiet next m.pass made c.seen.stamp (observations.Peek c.seen) (ap (λ p. p.stamp) c.peeks.fits) c.peeks.fits))

@@ -1,5 +1,5 @@
 -- Lanes that get passes of their own, one after another.
-use Rattle.std.proofs.Common.{◌≡◌, ◌<◌, ◌+◌, ℕ, suc, true, false, List, [], ◌∷◌, ◌++◌, length, map, get_or, refl, sym, ap, ◌∙◌, subst, arith}
+use Rattle.std.proofs.Common.{◌≡◌, ◌<◌, ◌+◌, ◌-◌, ℕ, suc, true, false, List, [], ◌∷◌, ◌++◌, length, map, get_or, refl, sym, ap, ◌∙◌, subst, arith}
 use Rattle.std.specs.Prelude.{All}
 use Rattle.std.proofs.lemmas.List.{append_assoc, map-append}
 use Rattle.std.proofs.lemmas.List.Elements.{All-push}
@@ -17,22 +17,24 @@ use Rattle.run_history.specs.Actions.{also}
 abbrev pub lane_names : List Lane → List ℕ
 lane_names lanes = map (λ l. l.label.lane) lanes
 
--- of the numbers below this one, the lanes that have calls in a round have passes of their own
+-- of the numbers below this one, the lanes behind the first that have calls in a round have passes of their own
 pub record SplitsSoFar (x : WorldOf) (r : Round) (p : WorldPass) (left : LeftOf) (number : ℕ) (q : WorldPass) (made : List Lane) : Type 0 where
   pub main : IsMain x q made
   pub split : HasSplit p q
   pub lanes : All (λ (l : Lane). IsLaneOf x l) made
   pub begins : All (λ (l : Lane). BeginsRound p left l) made
+  pub behind : 0 < number
   pub names : (n : ℕ) → number + n ≡ length left.answers
-      → lane_names made ++ calling_from r number n ≡ calling_from r 0 (length left.answers)
+      → lane_names made ++ calling_from r number n ≡ calling_from r 1 (length left.answers - 1)
 
-pub splits_none : {x : WorldOf} {r : Round} {p : WorldPass} {left : LeftOf} → IsMain x p [] → SplitsSoFar x r p left 0 p []
+pub splits_none : {x : WorldOf} {r : Round} {p : WorldPass} {left : LeftOf} → IsMain x p [] → SplitsSoFar x r p left 1 p []
 splits_none {r = r} is = record {
   main = is;
   split = record { timers = refl; timers_mine = refl; objects = refl; objects_mine = refl; clock = refl; clock_mine = refl };
   lanes = λ k d h. absurd (omega (arith, h));
   begins = λ k d h. absurd (omega (arith, h));
-  names = λ n all. ap (calling_from r 0) (omega (arith, all));
+  behind = omega arith;
+  names = λ n all. ap (calling_from r 1) (omega (arith, all));
 }
 
 -- a lane that was just made with passes that were just split off
@@ -49,7 +51,8 @@ splits_past {r = r} {left = left} {i = i} {lanes = lanes} none so_far = record {
   split = so_far.split;
   lanes = so_far.lanes;
   begins = so_far.begins;
-  names = λ n all. subst (λ b. lane_names lanes ++ also b i (calling_from r (i + 1) n) ≡ calling_from r 0 (length left.answers)) none
+  behind = omega arith;
+  names = λ n all. subst (λ b. lane_names lanes ++ also b i (calling_from r (i + 1) n) ≡ calling_from r 1 (length left.answers - 1)) none
       (so_far.names (suc n) (omega (arith, all)));
 }
 
@@ -68,7 +71,9 @@ splits_more {x} {r} {p} {left} {i} {lanes = lanes} lane here calls split fresh s
         clock = ap (λ k. k.pass.seen) s.clock ∙ so_far.split.clock;
         clock_mine = ap (λ k. k.pass.mine) s.clock ∙ so_far.split.clock_mine;
       };
-      lanes = All-push (λ (l : Lane). IsLaneOf x l) lanes lane so_far.lanes (lane_new split);
+      lanes = All-push (λ (l : Lane). IsLaneOf x l) lanes lane so_far.lanes
+          (lane_new (subst (λ n. 0 < n) (sym (ap (λ (l : Label). l.lane) fresh.label)) so_far.behind) split);
+      behind = omega arith;
       begins = All-push (λ (l : Lane). BeginsRound p left l) lanes lane so_far.begins (record {
         within = subst (λ n. n < length left.answers) (sym (ap (λ (l : Label). l.lane) fresh.label)) here;
         call = ap (λ (l : Label). l.call) fresh.label
@@ -85,6 +90,6 @@ splits_more {x} {r} {p} {left} {i} {lanes = lanes} lane here calls split fresh s
       names = λ n all. ap (λ ns. ns ++ calling_from r (i + 1) n)
           (map-append (λ (l : Lane). l.label.lane) lanes (lane ∷ []) ∙ ap (λ (l : Label). lane_names lanes ++ l.lane ∷ []) fresh.label)
           ∙ append_assoc (lane_names lanes) (i ∷ []) (calling_from r (i + 1) n)
-          ∙ subst (λ b. lane_names lanes ++ also b i (calling_from r (i + 1) n) ≡ calling_from r 0 (length left.answers)) calls
+          ∙ subst (λ b. lane_names lanes ++ also b i (calling_from r (i + 1) n) ≡ calling_from r 1 (length left.answers - 1)) calls
           (so_far.names (suc n) (omega (arith, all)));
     }

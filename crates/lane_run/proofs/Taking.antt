@@ -1,8 +1,10 @@
 -- Lanes that are taken in one after another, the last one first; and rounds in turn.
-use Rattle.std.proofs.Common.{length, get_or, ◌≡◌, ◌<◌, Bool, false, List, [], ◌∷◌, ◌++◌, refl, sym, ap, ◌∙◌, subst, arith}
+use Rattle.std.proofs.Common.{length, length-append, get_or, ℕ, ◌≡◌, ◌<◌, ◌+◌, Bool, false, List, [], ◌∷◌, ◌++◌, refl, sym, ap, ◌∙◌, subst, arith}
 use Rattle.std.specs.Prelude.{All, Some}
 use Rattle.std.proofs.lemmas.List.Elements.{All-cons, All-pop}
 use Rattle.lane_run.proofs.Mains.{main_takes}
+use Rattle.std.proofs.Math.ListN.{get_or-append}
+use Rattle.std.proofs.Math.Seq.{get_or-append_seam}
 use Rattle.std.proofs.lemmas.List.{append-nil, append_assoc}
 use Rattle.script_text.specs.declared.script.Round.{Round}
 use Rattle.lane_run.specs.declared.lane.Lane.{Lane}
@@ -51,6 +53,24 @@ takes_one {x} {lanes = lanes} {m = m} {n = n} lane so_far pop pass takes count q
         taken = (m, n, rest.taken, takes, (quiet none).2);
       };
     }
+
+-- ---- lanes beside the first
+
+-- law: what holds of each lane of two lists holds of their last ones, and of those before
+pub ran_apart : (R : Lane → Lane → Type 0) (xs ys : List Lane) (x y : Lane) {old new : List Lane} → old ≡ xs ++ x ∷ [] → new ≡ ys ++ y ∷ []
+    → length new ≡ length old → ((k : ℕ) (d : Lane) → k < length old → R (get_or old k d) (get_or new k d))
+    → R x y × (length ys ≡ length xs) × ((k : ℕ) (d : Lane) → k < length xs → R (get_or xs k d) (get_or ys k d))
+ran_apart R xs ys x y {old} {new} was is many ran =
+    let before : length old ≡ length xs + 1 = ap length was ∙ length-append xs (x ∷ []) in
+    let after : length new ≡ length ys + 1 = ap length is ∙ length-append ys (y ∷ []) in
+    let same : length ys ≡ length xs = omega (arith, before, after, many) in
+    let one : get_or old (length xs) x ≡ x = ap (λ zs. get_or zs (length xs) x) was ∙ get_or-append_seam xs x [] x in
+    let two : get_or new (length xs) x ≡ y = ap (λ zs. get_or zs (length xs) x) is ∙ ap (λ n. get_or (ys ++ y ∷ []) n x) (sym same) ∙ get_or-append_seam ys y [] x in (
+      subst (R x) two (subst (λ z. R z (get_or new (length xs) x)) one (ran (length xs) x (omega (arith, before)))),
+      same,
+      λ k d h. subst (R (get_or xs k d)) (ap (λ zs. get_or zs k d) is ∙ get_or-append ys (y ∷ []) d k (omega (arith, h, same)))
+          (subst (λ z. R z (get_or new k d)) (ap (λ zs. get_or zs k d) was ∙ get_or-append xs (x ∷ []) d k h) (ran k d (omega (arith, h, before)))),
+    )
 
 -- ---- rounds
 

@@ -80,7 +80,7 @@ fd_noted x generation reading allows = absurd allows
 module _ (s : Script) (x : ObjectsOf) (limit : x.limit ≡ s.limit) (some : 1 ≤ s.limit) (label : Label) (c : ClaimNumbers)
     (reading : ClockReading) {base : ℕ} {k v : KnownOfTimers} (claim : IsClaimed base c reading k v) (restart : Restart) (h h' : Firing)
     (same_log : h'.log.receipts ≡ h.log.receipts) (stops : restart ≡ wishes.Stop)
-    (is_body : (f : Fired) → IsTrigger reading.stamp f → IsBody (kind_of s c.timer) reading.stamp f) (call : ObjectCall)
+    (is_body : (Reached : ℕ → ℕ → Type 0) (f : Fired) → IsTrigger reading.stamp f → IsBody Reached s.limit (kind_of s c.timer) reading.stamp f) (call : ObjectCall)
     (noted : (y : Object) → ObjectAllows y call → TriggerNoted call (object_answer y call) c.generation reading)
     (no_entry : (n : ℕ) → object_entry_noted call (trigger_refused call n) ≡ None)
     (skip : (n : ℕ) → skip_generation call (trigger_refused call n) ≡ Some c.generation) where
@@ -113,7 +113,7 @@ module _ (s : Script) (x : ObjectsOf) (limit : x.limit ≡ s.limit) (some : 1 �
         adds_objects = t.receipt;
         enters = still;
         part = part_claimed claim (part_made {step = step} adds t.commits.opening n.1);
-        kind = λ finish rearmed. is_body (fired_of c body finish (asks restart) rearmed) (inl (many + 1, n.0, refl), ap asks stops);
+        kind = λ e joined goes finish rearmed. is_body _ (fired_of c body finish (asks restart) rearmed) (inl (many + 1, n.0, refl), ap asks stops);
         holds = λ e joined goes before points. tt;
         span = λ e follows finish rearmed. (
           c.number - 1,
@@ -152,7 +152,7 @@ module _ (s : Script) (x : ObjectsOf) (limit : x.limit ≡ s.limit) (some : 1 �
         adds_objects = t.receipt;
         enters = still;
         part = part_claimed claim (part_of_objects refl refl (λ t. refl) part);
-        kind = λ finish rearmed. is_body (fired_of c body finish (asks restart) rearmed) (inr (many, refl), ap asks stops);
+        kind = λ e joined goes finish rearmed. is_body _ (fired_of c body finish (asks restart) rearmed) (inr (many, refl), ap asks stops);
         holds = λ e joined goes before points. (points c.timer (λ j. refl), omega (arith, t.full, limit));
         span = λ e follows finish rearmed. tt;
       }

@@ -1,5 +1,5 @@
 -- Writes of the clock, as their lanes keep them.
-use Rattle.std.proofs.Common.{◌≡◌, ℕ, ◌+◌, ◌≤◌, List, [], ◌∷◌, ◌++◌, length, length-append, take, Ok, Err, Result, Some, arith, refl, sym, ap, ◌∙◌, subst}
+use Rattle.std.proofs.Common.{◌≡◌, ℕ, ◌+◌, ◌≤◌, List, [], ◌∷◌, length, length-append, take, Ok, Err, Result, Some, arith, refl, sym, ap, ◌∙◌, subst}
 use Rattle.std.specs.List.{slice_get}
 use Rattle.std.proofs.lemmas.List.{append-nil, length-map}
 use Rattle.ktime.specs.Readings.{ClockReading}
@@ -26,30 +26,24 @@ use Rattle.run_history.proofs.Lists.{at_seam}
 use Rattle.run_history.proofs.OthersMade.{plain, wrote_made}
 use Rattle.lane_run.specs.Called.{CallsWrite, LaneOf, line_of_write, with_write_told, write_told}
 use Rattle.std.specs.List.{AllByRecursion}
-use Rattle.lane_run.proofs.Kept.{IsNoteSeen, label_of, list_of, EntryNotes, LookNotes, ObjectNotes, SkipNotes, WriteNotes, IsNextCall, KeepsCall, log_of, seen_by, SeesOn, begins_same}
+use Rattle.lane_run.proofs.Kept.{IsNoteSeen, label_of, list_of, EntryNotes, LookNotes, ObjectNotes, SkipNotes, BaseNotes, WriteNotes, IsNextCall, KeepsCall, log_of, seen_by, SeesOn, begins_same}
 use Rattle.lane_run.specs.Worlds.{WorldOf}
 use Rattle.lane_run.proofs.Entering.{enters_none}
 use Rattle.pass_names.proofs.Passes.{begins_length}
 use Rattle.lane_run.proofs.CallKept.{clock_read, no_places, promised_from, same_objects, stand_from, take_whole, reading_of_seen}
-use Rattle.lane_run.proofs.PartLists.{same_order}
+use Rattle.lane_run.proofs.PartLists.{notes_same, same_order}
 use Rattle.lane_run.proofs.Sights.{keeps_quiet, no_object_steps}
 use Rattle.lane_run.proofs.Sights.{LooksOnly, looks_alone, keeps_looking}
 use Rattle.lane_run.proofs.Entering.{EntersNotes}
 
 -- the notes of a write alone
 abbrev pub write_notes : ℕ → ClockLine → NotesOf
-write_notes stamp line = record { entries = []; looks = []; objects = []; skips = []; writes = record { stamp = stamp; line = line } ∷ [] }
+write_notes stamp line = record { entries = []; looks = []; objects = []; skips = []; bases = []; writes = record { stamp = stamp; line = line } ∷ [] }
 
 write_joins : (notes : NotesOf) (stamp : ℕ) (line : ClockLine) → with_write_note notes stamp line ≡ both_noted notes (write_notes stamp line)
 write_joins notes stamp line =
-    let all = notes.writes ++ record { stamp = stamp; line = line } ∷ [] in
-    ap (λ es. record { entries = es; looks = notes.looks; objects = notes.objects; skips = notes.skips; writes = all }) (sym (append-nil notes.entries))
-    ∙ ap (λ ls. record { entries = notes.entries ++ []; looks = ls; objects = notes.objects; skips = notes.skips; writes = all })
-    (sym (append-nil notes.looks))
-    ∙ ap (λ os. record { entries = notes.entries ++ []; looks = notes.looks ++ []; objects = os; skips = notes.skips; writes = all })
-    (sym (append-nil notes.objects))
-    ∙ ap (λ ks. record { entries = notes.entries ++ []; looks = notes.looks ++ []; objects = notes.objects ++ []; skips = ks; writes = all })
-    (sym (append-nil notes.skips))
+    notes_same (with_write_note notes stamp line) (both_noted notes (write_notes stamp line)) (sym (append-nil notes.entries))
+    (sym (append-nil notes.looks)) (sym (append-nil notes.objects)) (sym (append-nil notes.skips)) (sym (append-nil notes.bases)) refl
 
 -- such a run has no fewer writes
 writes_within : (e : Ending) (ws : List Write) → GoesOnClock ws e → length ws ≤ length e.run.clock
@@ -66,7 +60,7 @@ write_kept : {s : Script} {x : WorldOf} {l m : LaneOf} {write : Write} (next : I
 write_kept {l = l} {m = m} {write = write} next (Err (faults.ClockRange would_be)) w timers objects notes =
     let ws = writes m.pass.clock.knows in
     let cause = (w.err.cause.range would_be).0 refl in
-    keeps_quiet next (answers.Range would_be) (refused l m w.err.looks timers objects notes) refl refl (λ e follows joined. record {
+    keeps_quiet next (answers.Range would_be) (refused l m w.err.looks timers objects notes) refl (λ e. refl) (λ e follows joined. record {
       counted = omega (arith, writes_within e ws follows.clock, follows.few);
       late = cause.1;
       greatest = cause.2 ∙ ap (λ r. greatest (after_write r write)) (sym (reading_of_seen e ws follows.clock));
@@ -122,6 +116,7 @@ write_kept {s = s} {l = l} {m = m} {write = write} next (Ok r) w timers objects 
         | LookNotes ↦ tt
         | ObjectNotes ↦ tt
         | SkipNotes ↦ tt
+        | BaseNotes ↦ tt
         | WriteNotes ↦ (refl, tt)
       ];
       tells = record {
@@ -138,7 +133,7 @@ write_kept {s = s} {l = l} {m = m} {write = write} next (Ok r) w timers objects 
       };
       few = omega arith;
       places = record {
-        timers = λ i n. no_places (is_place i n) p.timers.known.mine q.timers.known.mine (ap (λ t. t.known.mine) timers);
+        timers = λ i n. omega (arith, ap (λ t. count (is_place i n) t.known.mine) timers);
         objects = λ i n. no_places (is_place i n) p.objects.knows.pass.mine q.objects.knows.pass.mine (ap (λ o. o.knows.pass.mine) objects);
         clock = λ n. ap (count (is_place 0 n)) w.ok.place ∙ total-append (λ k. one_if (is_place 0 n k)) p.clock.knows.pass.mine ((0, r.stamp) ∷ []);
       };
@@ -147,6 +142,7 @@ write_kept {s = s} {l = l} {m = m} {write = write} next (Ok r) w timers objects 
         | LookNotes ↦ tt
         | ObjectNotes ↦ tt
         | SkipNotes ↦ tt
+        | BaseNotes ↦ tt
         | WriteNotes ↦ (
           record {
             before = many;

@@ -1,5 +1,5 @@
 -- What each call of a lane does and answers: what its passes know before and after it, and what it notes.
-use Rattle.std.specs.Prelude.{ℕ, ◌≡◌, ◌-◌, Bool, true, false, nat_eq, if◌then◌else◌, List, [], ◌∷◌, ◌++◌, length, Result, Ok, Err}
+use Rattle.std.specs.Prelude.{ℕ, ◌≡◌, Bool, true, false, List, [], ◌∷◌, ◌++◌, length, Result, Ok, Err}
 use Rattle.ktime.specs.Readings.{ClockReading}
 use Rattle.clock_model.specs.declared.write.ClockFault.TheVariants as faults
 use Rattle.clock_model.specs.declared.write.Write.{Write}
@@ -10,9 +10,16 @@ use Rattle.seq_timer.specs.Events.{Asked, Event}
 use Rattle.seq_timer.specs.Calls.{asked_for}
 use Rattle.seq_timer.specs.declared.answer.CancelAnswer.{CancelAnswer}
 use Rattle.seq_timer.specs.declared.answer.CancelAnswer.TheVariants as cancels
+use Rattle.hr_timers.specs.declared.answer.OfflineAnswer.{OfflineAnswer}
+use Rattle.hr_timers.specs.declared.answer.OfflineAnswer.TheVariants as offs
+use Rattle.hr_timers.specs.declared.answer.OnlineAnswer.{OnlineAnswer}
+use Rattle.hr_timers.specs.declared.answer.OnlineAnswer.TheVariants as ons
+use Rattle.hr_timers.specs.Moves.{OfflineFits, OnlineFits}
+use Rattle.seq_timer.specs.declared.standing.BaseEvent.{BaseEvent}
+use Rattle.seq_timer.specs.declared.standing.BaseEvent.TheVariants as shifts
 use Rattle.hr_timers.specs.declared.answer.StartAnswer.{StartAnswer}
 use Rattle.hr_timers.specs.declared.answer.StartAnswer.TheVariants as starts
-use Rattle.base_row.specs.Logs.{receipts_of}
+use Rattle.base_row.specs.Logs.{LogOf, kept, receipts_of}
 use Rattle.hr_timers.specs.Known.{timer_then}
 use Rattle.hr_timers.specs.Calls.{Cancels, Peeks, StartsTimer, cancel_entries, start_entries}
 use Rattle.expire_pass.specs.declared.expiry.ExpireAnswer.{ExpireAnswer}
@@ -45,7 +52,7 @@ use Rattle.seq_timer.specs.declared.context.Context.{Context}
 use Rattle.run_history.specs.Actions.{also}
 use Rattle.script_text.specs.declared.script.Call.{Call}
 use Rattle.script_text.specs.declared.script.Call.TheVariants as calls
-use Rattle.lane_notes.specs.Notes.{NotesOf, with_write_note}
+use Rattle.lane_notes.specs.Notes.{NotesOf, with_base_note, with_write_note}
 use Rattle.lane_notes.specs.Entries.{with_receipts}
 use Rattle.lane_notes.specs.Objects.{with_object_receipts}
 use Rattle.lane_run.specs.Expiries.{RunsGated}
@@ -98,7 +105,7 @@ lane_caller p log object_log = record { timers = p.timers.known; objects = p.obj
 
 -- what a start answers
 abbrev pub start_told : StartAnswer → Answer
-start_told (starts.Started was_armed generation outs placement) = answers.Started generation placement.base was_armed
+start_told (starts.Started was_armed generation asked outs placement) = answers.Started generation placement.base was_armed
 start_told (starts.Spent stamp) = answers.Spent stamp
 
 -- what a cancel answers
@@ -166,6 +173,42 @@ read_told (reads.Spent stamp) = answers.Spent stamp
 read_told reads.Canceled = answers.Canceled
 read_told reads.Again = answers.Again
 
+-- ---- bases
+
+-- what taking a base off line answers
+abbrev pub offline_told : OfflineAnswer → Answer
+offline_told (offs.AlreadyOffline stamp) = answers.Already stamp
+offline_told (offs.HeirOffline stamp) = answers.HeirOffline stamp
+offline_told (offs.BaseSpent stamp) = answers.BaseSpent stamp
+offline_told (offs.Busy moved timer generation) = answers.OfflineBusy moved timer generation
+offline_told (offs.Offline moved stamp) = answers.Offline moved stamp
+offline_told (offs.More moved) = answers.OfflineMore moved
+offline_told (offs.Spent moved timer stamp) = answers.OfflineSpent moved timer stamp
+
+-- what bringing it on line again answers
+abbrev pub online_told : OnlineAnswer → Answer
+online_told (ons.Online stamp) = answers.Online stamp
+online_told (ons.AlreadyOnline stamp) = answers.Already stamp
+
+-- one more entry of a base is noted
+abbrev pub with_shift : NotesOf → Label → ℕ → ℕ → BaseEvent → NotesOf
+with_shift notes label base number event = with_base_note notes (record { label = label; base = base; number = number; event = event })
+
+-- that of a base that went off line, where it did
+abbrev pub with_offline_told : NotesOf → Label → ℕ → ℕ → OfflineAnswer → NotesOf
+with_offline_told notes label base heir (offs.AlreadyOffline stamp) = notes
+with_offline_told notes label base heir (offs.HeirOffline stamp) = notes
+with_offline_told notes label base heir (offs.BaseSpent stamp) = notes
+with_offline_told notes label base heir (offs.Busy moved timer generation) = notes
+with_offline_told notes label base heir (offs.Offline moved stamp) = with_shift notes label base stamp (shifts.Offline heir)
+with_offline_told notes label base heir (offs.More moved) = notes
+with_offline_told notes label base heir (offs.Spent moved timer stamp) = notes
+
+-- and of one that came on line
+abbrev pub with_online_told : NotesOf → Label → ℕ → OnlineAnswer → NotesOf
+with_online_told notes label base (ons.Online stamp) = with_shift notes label base stamp shifts.Online
+with_online_told notes label base (ons.AlreadyOnline stamp) = notes
+
 -- ---- the calls
 
 -- what the request of a start line asks for, by a reading
@@ -180,7 +223,7 @@ module _ (x : WorldOf) (l m : LaneOf) (a : Answer) where
     pub starts : StartsTimer x.timers.about l.pass.timers.known m.pass.timers.known timer (asked_in request reading) answer
     pub objects : m.pass.objects ≡ l.pass.objects
     pub notes : let t = timer_then x.timers.about starts.at timer in
-        m.notes ≡ with_done l.notes l.label (receipts_of timer t.stamp (start_entries t (asked_in request reading) answer)) []
+        m.notes ≡ with_done l.notes l.label (receipts_of timer t.stamp (start_entries t (asked_in request reading) starts.sent starts.last answer)) []
     pub told : a ≡ start_told answer
 
   pub record CallsCancel (timer : ℕ) : Type 0 where
@@ -222,6 +265,33 @@ module _ (x : WorldOf) (l m : LaneOf) (a : Answer) where
     pub notes : m.notes ≡ with_done l.notes l.label (log ++ callback_log) object_log
     pub told : a ≡ expire_told reading.stamp (claimed_in log) answer
 
+  -- ---- bases
+
+  -- a base is taken off line by the first pass and one reading, and its timers are moved to the heir, at most so many; the log has the receipts of the moves
+  pub record CallsOffline (base heir budget : ℕ) : Type 0 where
+    pub first : l.pass.timers.known.id.name ≡ []
+    pub reading : ClockReading
+    pub reads : ReadsClock l.pass m.pass reading
+    pub fresh : LogOf Receipt
+    pub log : LogOf Receipt
+    pub empty : fresh.receipts ≡ []
+    pub answer : OfflineAnswer
+    pub takes : OfflineFits kept x.timers.about base heir reading l.pass.timers.known m.pass.timers.known budget answer fresh log
+    pub objects : m.pass.objects ≡ l.pass.objects
+    pub notes : m.notes ≡ with_offline_told (with_done l.notes l.label log.receipts []) l.label base heir answer
+    pub told : a ≡ offline_told answer
+
+  pub record CallsOnline (base : ℕ) : Type 0 where
+    pub first : l.pass.timers.known.id.name ≡ []
+    pub clock : LeavesClock l.pass m.pass
+    pub answer : OnlineAnswer
+    pub takes : OnlineFits x.timers.about l.pass.timers.known m.pass.timers.known base answer
+    pub objects : m.pass.objects ≡ l.pass.objects
+    pub notes : m.notes ≡ with_online_told l.notes l.label base answer
+    pub told : a ≡ online_told answer
+
+  -- ---- objects
+
   -- a call on an object, by what the lane's passes know before and after it
   pub record CallsObject (Does : Caller → Caller → ClockReading → Type 0) : Type 0 where
     pub reading : ClockReading
@@ -262,3 +332,5 @@ Called x l (calls.Read timer len) a m =
 Called x l (calls.Readable timer) a m =
     (found : Readable) × CallsObject x l m a (λ old new reading.
     LooksReadable old new timer reading found × (a ≡ answers.Readable found.ready reading.stamp found.stamp))
+Called x l (calls.Offline base heir budget) a m = CallsOffline x l m a base heir budget
+Called x l (calls.Online base) a m = CallsOnline x l m a base

@@ -10,7 +10,7 @@ use Rattle.script_text.specs.declared.script.Call.{Call}
 use Rattle.script_text.specs.declared.script.Round.{Round}
 use Rattle.lane_notes.specs.Notes.{NotesOf, both_noted, no_notes}
 use Rattle.lane_run.specs.Called.{Called, LaneOf, lane_of}
-use Rattle.lane_run.specs.Worlds.{ArePassesOf, KeepPasses, WorldOf}
+use Rattle.lane_run.specs.Worlds.{ArePassesOf, KeepPasses, LeadsByName, WorldOf}
 use Rattle.lane_run.specs.declared.lane.Lane.{Lane}
 use Rattle.lane_run.specs.declared.world.WorldPass.{WorldPass}
 
@@ -91,6 +91,15 @@ pub record HasSplit (p q : WorldPass) : Type 0 where
   pub clock : q.clock.knows.pass.seen ≡ p.clock.knows.pass.seen
   pub clock_mine : q.clock.knows.pass.mine ≡ p.clock.knows.pass.mine
 
+-- The first lane begins a round by the first passes, from which those of the others were split off. Nothing is noted, and its next call is the one
+-- behind those that it has answers of.
+pub record BeginsFirst (x : WorldOf) (main : WorldPass) (left : LeftOf) (lane : Lane) : Type 0 where
+  pub label : lane.label ≡ record { lane = 0; call = as_index (length (get_or left.answers 0 [])) }
+  pub of : ArePassesOf x lane.pass
+  pub split : HasSplit main lane.pass
+  pub notes : lane.notes ≡ no_notes
+  pub answers : lane.answers.items ≡ []
+
 -- the passes have taken in others, and that of the clock has looked
 pub record TakesInPass (main other new : WorldPass) : Type 0 where
   pub timers : TakesIn main.timers.known other.timers.known new.timers.known
@@ -124,13 +133,19 @@ pub record IsMain (x : WorldOf) (p : WorldPass) (lanes : List Lane) : Type 0 whe
   pub objects : Covers p.objects.knows.pass.id (object_names lanes)
   pub clock : Covers p.clock.knows.pass.id (clock_names lanes)
 
--- a lane's passes are the world's, answer for no others and have no claims
+-- the passes of a lane behind the first are the world's, answer for no others and have no claims
 pub record IsLaneOf (x : WorldOf) (l : Lane) : Type 0 where
+  pub behind : 0 < l.label.lane
   pub pass : ArePassesOf x l.pass
   pub unclaimed : l.pass.timers.known.claims ≡ []
   pub timers : l.pass.timers.known.id.split ≡ []
   pub objects : l.pass.objects.knows.pass.id.split ≡ []
   pub clock : l.pass.clock.knows.pass.id.split ≡ []
+
+-- a lane can make calls: its passes are the world's, and the first lane's are the first ones
+pub record CanRun (x : WorldOf) (l : Lane) : Type 0 where
+  pub pass : ArePassesOf x l.pass
+  pub first : LeadsByName l.label.lane l.pass
 
 -- whether a lane has calls in a round
 abbrev pub has_calls : Round → ℕ → Bool
@@ -148,22 +163,26 @@ pub record MakesLane (x : WorldOf) (r : Round) (old new : Lane) : Type 0 where
 
 -- a lane has run in a round; unless it wanted memory, it has made its calls
 pub record RunsLane (x : WorldOf) (r : Round) (old new : Lane) : Type 0 where
+  pub pass : ArePassesOf x new.pass
   pub name : new.label.lane ≡ old.label.lane
   pub keeps : KeepPasses old.pass new.pass
   pub made : new.wants_memory ≡ false → MakesLane x r old new
 
--- A round: the lanes that have calls in it begin it with passes of their own, which are the world's, make their calls, and are taken in again.
+-- A round: the first lane begins it by the first passes, and the others that have calls in it with passes of their own, which are the world's. They
+-- make their calls, and are taken in again: what the first lane leaves, and then the others.
 pub record MakesRound (x : WorldOf) (r : Round) (p : WorldPass) (left : LeftOf) (q : WorldPass) (now : LeftOf) : Type 0 where
+  pub first : Lane
+  pub after : Lane
+  pub leads : BeginsFirst x p left first
+  pub first_made : MakesLane x r first after
   pub begun : List Lane
   pub ended : List Lane
-  pub split : WorldPass
-  pub main : HasSplit p split
-  pub lanes : map (λ l. l.label.lane) begun ≡ calling_from r 0 (length left.answers)
+  pub lanes : map (λ l. l.label.lane) begun ≡ calling_from r 1 (length left.answers - 1)
   pub begins : All (BeginsRound p left) begun
   pub of : All (IsLaneOf x) begun
   pub as_many : length ended ≡ length begun
   pub made : (k : ℕ) (d : Lane) → k < length begun → MakesLane x r (get_or begun k d) (get_or ended k d)
-  pub taken : TakesInLanes split left ended q now
+  pub taken : TakesInLanes after.pass (with_lane left after) ended q now
 
 -- rounds in turn
 abbrev pub MakesRounds : WorldOf → List Round → WorldPass → LeftOf → WorldPass → LeftOf → Type 0

@@ -6,9 +6,9 @@ use Rattle.script_text.specs.declared.script.Script.{Script}
 use Rattle.lane_notes.specs.Notes.{NotesOf}
 use Rattle.lane_notes.specs.Records.{record_from}
 use Rattle.lane_notes.specs.Sorted.{IsSortedFrom}
-use Rattle.run_history.specs.Histories.{history_of}
+use Rattle.run_history.specs.Histories.{history_of, lines_of_base}
 use Rattle.run_history.specs.Objects.{lines_of_object}
-use Rattle.seq_timer.specs.Systems.{entries_of}
+use Rattle.seq_timer.specs.Systems.{entries_of, shifts_of}
 use Rattle.timer_objects.specs.Known.{seen_of}
 use Rattle.lane_run.specs.Rounds.{LeftOf, MakesRounds, none_left}
 use Rattle.lane_run.specs.Worlds.{WorldOf}
@@ -27,13 +27,17 @@ use Rattle.timer_objects.specs.declared.object.ObjectCall.{ObjectCall}
 use Rattle.timer_objects.specs.declared.object.ObjectReply.TheVariants as replies
 use Rattle.timer_objects.specs.declared.object.ObjectReply.{ObjectReply}
 
+-- the record shows the notes and answers that were left, the notes in order
+pub record ShowsLeft (s : Script) (left : LeftOf) (r : RunRecord) : Type 0 where
+  pub sorted : NotesOf
+  pub in_order : IsSortedFrom left.notes sorted
+  pub shows : r ≡ record_from s.version sorted s.bases (length s.timers) left.answers
+
 -- the rounds were made in turn, and the record shows the notes and answers that they left, the notes in order
 pub record MakesRun (x : WorldOf) (s : Script) (p : WorldPass) (r : RunRecord) (q : WorldPass) : Type 0 where
   pub left : LeftOf
   pub rounds : MakesRounds x s.rounds p (none_left s.lanes) q left
-  pub sorted : NotesOf
-  pub in_order : IsSortedFrom left.notes sorted
-  pub shows : r ≡ record_from s.version sorted (length s.timers) left.answers
+  pub shows : ShowsLeft s left r
 
 -- ---- what it shows
 
@@ -55,9 +59,11 @@ AreObjectLines clock spans number (h ∷ hs) (line ∷ lines) =
 AreObjectLines clock spans number [] (line ∷ lines) = ⊥
 AreObjectLines clock spans number (h ∷ hs) [] = ⊥
 
--- The record's histories are the whole of what these passes have seen: the clock's writes, each timer's entries, and each object's with their spans.
+-- The record's histories are the whole of what these passes have seen: the clock's writes, each timer's and each base's entries, and each object's with
+-- their spans.
 pub record ShowsAllSeen (r : RunRecord) (q : WorldPass) : Type 0 where
   pub clock : map (λ line. line.write) r.clock ≡ writes q.clock.knows
   pub timers : (t : ℕ) → history_of r t ≡ entries_of t q.timers.known.seen
+  pub bases : (b : ℕ) → map (λ line. line.event) (lines_of_base r b) ≡ shifts_of b q.timers.known.seen
   pub spans : ℕ → ℕ → ℕ × ℕ
   pub objects : (i : ℕ) → AreObjectLines r.clock (spans i) 1 (seen_of q.objects i) (lines_of_object r i)

@@ -7,7 +7,7 @@ use Rattle.pass_names.specs.SharedHistory.{child_known, first_known, splitter_kn
 use Rattle.counted_row.specs.Views.{first_view, new_view, split_view}
 use Rattle.clock_cell.specs.Views.{IsPassOfClock, KnowsClock, first_clock_view, new_clock_view, split_clock_view}
 use Rattle.base_row.specs.Calls as rows
-use Rattle.hr_timers.specs.Known.{IsPassOf}
+use Rattle.hr_timers.specs.Known.{IsEvacuable, IsPassOf}
 use Rattle.timer_objects.specs.declared.callback.Callback.{Callback}
 use Rattle.timer_objects.specs.declared.callback.Callback.TheVariants as runs
 use Rattle.timer_objects.specs.declared.object.Decl.{Decl}
@@ -66,6 +66,7 @@ pub record IsWhole (x : WorldOf) : Type 0 where
   pub suits : Suits x.objects x.timers.about
   pub callbacks : length x.callbacks ≡ length x.objects.decls
   pub bases : bases_of x.callbacks ≤ x.timers.about.bases
+  pub few : x.timers.about.bases ≤ 64
 
 -- ---- passes
 
@@ -122,16 +123,24 @@ IsObject x id = (id < length x.objects.decls) × ((decl_at x.objects id).kind �
 abbrev pub IsOfKind : WorldOf → object_kind.Kind → ℕ → Type 0
 IsOfKind x kind id = (id < length x.objects.decls) × ((decl_at x.objects id).kind ≡ kind)
 
--- the call is of a timer, an object and a base that are there, and of the object's kind
-abbrev pub CanCall : WorldOf → Call → Type 0
-CanCall x (calls.Start timer request) = (timer < length x.timers.about.timers) × (request.base < x.timers.about.bases)
-CanCall x (calls.Cancel timer) = timer < length x.timers.about.timers
-CanCall x (calls.Peek timer) = timer < length x.timers.about.timers
-CanCall x (calls.Expire context base budget) = (base < x.timers.about.bases) × (budget ≤ most_budget)
-CanCall x (calls.Clock write) = Unit
-CanCall x (calls.Settime timer flags value interval) = IsObject x timer
-CanCall x (calls.Gettime timer) = IsObject x timer
-CanCall x (calls.Accept timer) = IsOfKind x over.Posix timer
-CanCall x (calls.Overrun timer) = IsOfKind x over.Posix timer
-CanCall x (calls.Read timer len) = IsOfKind x over.Fd timer
-CanCall x (calls.Readable timer) = IsOfKind x over.Fd timer
+-- the first lane's pass of timers is the first one, which takes bases off line and on line again
+abbrev pub LeadsByName : ℕ → WorldPass → Type 0
+LeadsByName lane p = lane ≡ 0 → p.timers.known.id.name ≡ []
+
+-- the lane's call is of a timer, an object and a base that are there, and of the object's kind; only the first lane takes a base off line and on line
+-- again, where bases may go off line at all
+abbrev pub CanCall : WorldOf → ℕ → Call → Type 0
+CanCall x lane (calls.Start timer request) = (timer < length x.timers.about.timers) × (request.base < x.timers.about.bases)
+CanCall x lane (calls.Cancel timer) = timer < length x.timers.about.timers
+CanCall x lane (calls.Peek timer) = timer < length x.timers.about.timers
+CanCall x lane (calls.Expire context base budget) = (base < x.timers.about.bases) × (budget ≤ most_budget)
+CanCall x lane (calls.Clock write) = Unit
+CanCall x lane (calls.Settime timer flags value interval) = IsObject x timer
+CanCall x lane (calls.Gettime timer) = IsObject x timer
+CanCall x lane (calls.Accept timer) = IsOfKind x over.Posix timer
+CanCall x lane (calls.Overrun timer) = IsOfKind x over.Posix timer
+CanCall x lane (calls.Read timer len) = IsOfKind x over.Fd timer
+CanCall x lane (calls.Readable timer) = IsOfKind x over.Fd timer
+CanCall x lane (calls.Offline base heir budget) =
+    (lane ≡ 0) × (base < x.timers.about.bases) × (heir < base) × (budget ≤ most_budget) × IsEvacuable x.timers.about
+CanCall x lane (calls.Online base) = (lane ≡ 0) × (base < x.timers.about.bases) × IsEvacuable x.timers.about

@@ -4,8 +4,9 @@ ghost use Rattle.std.specs.List.{AllByRecursion};
 ghost use Rattle.script_text.specs.Scripts.{IsCallInRange};
 ghost use Rattle.lane_run.specs.Called.{Called, LeavesLane, lane_of};
 ghost use Rattle.lane_run.specs.Rounds.{AnswersCall, MakesCalls, lane_calls};
-ghost use Rattle.lane_run.specs.Worlds.{ArePassesOf, CanCall, KeepPasses};
+ghost use Rattle.lane_run.specs.Worlds.{ArePassesOf, CanCall, KeepPasses, LeadsByName};
 
+use crate::base_calls::{offline, online};
 use crate::expiring::expire;
 use crate::gate::{Gate, Point};
 use crate::object_calls::{accept, gettime, overrun, read, readable, settime};
@@ -36,7 +37,8 @@ pub(crate) fn make_calls<R: Wait, G: Gate>(
     lane: &mut Lane,
 )
     requires pass { ArePassesOf world.now lane.old.pass }
-    requires calls { AllByRecursion (λ c. CanCall world.now c.call) round.now.calls }
+    requires first { LeadsByName lane.old.label.lane lane.old.pass }
+    requires calls { AllByRecursion (λ c. CanCall world.now c.lane c.call) round.now.calls }
     ensures pass { ArePassesOf world.now lane.new.pass }
     ensures keeps { KeepPasses lane.old.pass lane.new.pass }
     ensures lane { lane.new.label.lane ≡ lane.old.label.lane }
@@ -59,7 +61,8 @@ fn make_next<R: Wait, G: Gate>(
     call: Call,
 )
     requires pass { ArePassesOf world.now lane.old.pass }
-    requires call { CanCall world.now call }
+    requires first { LeadsByName lane.old.label.lane lane.old.pass }
+    requires call { CanCall world.now lane.old.label.lane call }
     ensures pass { ArePassesOf world.now lane.new.pass }
     ensures keeps { KeepPasses lane.old.pass lane.new.pass }
     ensures lane { lane.new.label.lane ≡ lane.old.label.lane }
@@ -87,7 +90,8 @@ fn make_noted<R: Wait, G: Gate>(
     call: Call,
 ) -> Result<(), AllocError>
     requires pass { ArePassesOf world.now lane.old.pass }
-    requires call { CanCall world.now call }
+    requires first { LeadsByName lane.old.label.lane lane.old.pass }
+    requires call { CanCall world.now lane.old.label.lane call }
     ensures pass { ArePassesOf world.now lane.new.pass }
     ensures keeps { KeepPasses lane.old.pass lane.new.pass }
     ensures label { lane.new.label ≡ lane.old.label }
@@ -109,7 +113,8 @@ fn make<R: Wait, G: Gate>(
     call: Call,
 ) -> Result<Answer, AllocError>
     requires pass { ArePassesOf world.now lane.old.pass }
-    requires call { CanCall world.now call }
+    requires first { LeadsByName lane.old.label.lane lane.old.pass }
+    requires call { CanCall world.now lane.old.label.lane call }
     ensures leaves { LeavesLane world.now lane.old lane.new }
     ensures call { IfOk result (λ a. Called world.now (lane_of lane.old) call a (lane_of lane.new)) }
 {
@@ -134,5 +139,9 @@ fn make<R: Wait, G: Gate>(
         Call::Overrun { timer } => Ok(overrun(rt, alloc, world, lane, timer)),
         Call::Read { timer, len } => read(rt, alloc, world, lane, timer, len),
         Call::Readable { timer } => Ok(readable(rt, alloc, world, lane, timer)),
+        Call::Offline { base, heir, budget } => {
+            offline(rt, alloc, world, lane, base, heir, budget)
+        }
+        Call::Online { base } => online(rt, world, lane, base),
     }
 }

@@ -6,6 +6,7 @@ pub use gate::{Gate, OpenGate, Point};
 pub use running::run;
 pub use world::{World, WorldPass};
 
+mod base_calls;
 mod expiring;
 mod gate;
 mod lane;

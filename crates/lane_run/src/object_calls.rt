@@ -31,16 +31,16 @@ struct Logs {
     objects: ObjectLog,
 }
 
-/// Logs with room for a cancel, an Out and a start of the timer, and the entry of the object.
+/// Logs with room for a cancel and a start of the timer, with an Out to each base that it is sent to, and the entry of the object.
 fn make_logs(alloc: Global) -> Result<Logs, AllocError>
     ensures empty { IfOk result (λ l. (l.timers.receipts ≡ []) × (l.objects.receipts ≡ [])) }
-    ensures room { IfOk result (λ l. (4 ≤ l.timers.spare) × (1 ≤ l.objects.spare)) }
+    ensures room { IfOk result (λ l. (68 ≤ l.timers.spare) × (1 ≤ l.objects.spare)) }
 {
     let mut logs = Logs {
         timers: Log::make(alloc),
         objects: ObjectLog::make(alloc),
     };
-    logs.timers.reserve(4)?;
+    logs.timers.reserve(68)?;
     logs.objects.reserve(1)?;
     Ok(logs)
 }

@@ -1,9 +1,9 @@
 //! A round: its lanes get passes of their own, run beside each other, and are taken in again.
-ghost use Rattle.std.specs.Prelude.{◌≡◌, ◌≤◌, ◌<◌, ℕ, [], ◌++◌, false, All, IfOk, OnOk, OnErr, get_or, length, map};
+ghost use Rattle.std.specs.Prelude.{◌≡◌, ◌≤◌, ◌<◌, ◌-◌, ℕ, [], ◌++◌, false, All, OnOk, get_or, length, map, vec_capacity, vec_len};
 ghost use Rattle.std.specs.List.{AllByRecursion};
 ghost use Rattle.lane_notes.specs.Notes.{no_notes};
 ghost use Rattle.lane_run.specs.declared.lane.Lane.{Lane};
-ghost use Rattle.lane_run.specs.Rounds.{BeginsRound, HasSplit, IsLaneOf, IsMain, MakesRound, RunsLane, TakesInLanes, TakesInPass, as_index, calling_from, has_calls, with_lane, with_left};
+ghost use Rattle.lane_run.specs.Rounds.{BeginsRound, CanRun, HasSplit, IsLaneOf, IsMain, MakesRound, RunsLane, TakesInLanes, TakesInPass, as_index, calling_from, has_calls, with_lane, with_left};
 ghost use Rattle.lane_run.specs.Worlds.{AnswerFor, ArePassesOf, CanCall};
 
 use crate::gate::Gate;
@@ -33,68 +33,61 @@ impl Model for Left {
     ghost view = { λ l. record { notes = l.notes; answers = l.answers.items } };
 }
 
-/// Makes the calls of a round, each lane on a thread of its own where one can be had.
+/// Makes the calls of a round, each lane on a thread of its own where one can be had. The first lane makes its calls by the first passes, which are
+/// given back.
 pub(crate) fn make_round<R: Threads + Wait + Sync, G: Gate>(
     rt: &R,
     alloc: Global,
     world: &World,
-    main: &mut WorldPass,
+    main: WorldPass,
     gate: &G,
     round: &Round,
     left: &mut Left,
-) -> Result<(), AllocError>
-    requires main { IsMain world.now main.old [] }
-    requires calls { AllByRecursion (λ c. CanCall world.now c.call) round.now.calls }
-    requires few { length left.old.answers ≤ 64 }
-    ensures main { IsMain world.now main.new [] }
+) -> (WorldPass, Result<(), AllocError>)
+    requires main { IsMain world.now main [] }
+    requires calls { AllByRecursion (λ c. CanCall world.now c.lane c.call) round.now.calls }
+    requires few { (0 < length left.old.answers) × (length left.old.answers ≤ 64) }
+    ensures main { IsMain world.now result.0 [] }
     ensures lanes { length left.new.answers ≡ length left.old.answers }
-    ensures round { OnOk result (MakesRound world.now round.now main.old left.old main.new left.new) }
+    ensures round { OnOk result.1 (MakesRound world.now round.now main left.old result.0 left.new) }
 {
-    let mut lanes = split_lanes(rt, alloc, world, main, round, left)?;
-    run_lanes(rt, alloc, world, gate, round, &mut lanes);
-    take_in_lanes(rt, world, main, lanes, left)
+    let mut lanes = Vec::new(alloc);
+    if lanes.reserve(left.answers.len()).is_err() {
+        lanes.destroy_empty();
+        return (main, Err(AllocError));
+    }
+    let mut main = main;
+    split_lanes(alloc, world, &mut main, round, left, &mut lanes);
+    let first = new_lane(alloc, label_of(0, left.answers[0].as_slice()), main);
+    let first = run_lanes(rt, alloc, world, gate, round, first, &mut lanes);
+    take_in_all(rt, world, first, lanes, left)
 }
 
-/// The lanes that have calls in a round, each with passes of its own.
-fn split_lanes<R: Wait>(
-    rt: &R,
+/// Those of the other lanes that have calls in a round, each with passes of its own.
+fn split_lanes(
     alloc: Global,
     world: &World,
     main: &mut WorldPass,
     round: &Round,
-    left: &mut Left,
-) -> Result<Vec<Lane>, AllocError>
+    left: &Left,
+    lanes: &mut Vec<Lane>,
+)
     requires main { IsMain world.now main.old [] }
-    requires few { length left.old.answers ≤ 64 }
-    ensures left { OnOk result (left.new ≡ left.old) }
-    ensures count { length left.new.answers ≡ length left.old.answers }
-    ensures main { IfOk result (λ v. IsMain world.now main.new v.items) }
-    ensures split { OnOk result (HasSplit main.old main.new) }
-    ensures lanes { IfOk result (λ v. All (λ l. IsLaneOf world.now l) v.items) }
-    ensures begins { IfOk result (λ v. All (λ l. BeginsRound main.old left.old l) v.items) }
-    ensures names { IfOk result (λ v. map (λ l. l.label.lane) v.items ≡ calling_from round.now 0 (length left.old.answers)) }
-    ensures err { OnErr result (IsMain world.now main.new []) }
+    requires few { (0 < length left.now.answers) × (length left.now.answers ≤ 64) }
+    requires room { (lanes.old.items ≡ []) × (length left.now.answers ≤ vec_capacity lanes.old) }
+    ensures main { IsMain world.now main.new lanes.new.items }
+    ensures split { HasSplit main.old main.new }
+    ensures lanes { All (λ l. IsLaneOf world.now l) lanes.new.items }
+    ensures begins { All (λ l. BeginsRound main.old left.now l) lanes.new.items }
+    ensures names { map (λ l. l.label.lane) lanes.new.items ≡ calling_from round.now 1 (length left.now.answers - 1) }
+    ensures room { vec_len lanes.new < vec_capacity lanes.new }
 {
-    let mut lanes = Vec::new(alloc);
-    for number in 0..left.answers.len() {
+    for number in 1..left.answers.len() {
         if has_calls(round, number as u32) {
             let label = label_of(number, left.answers[number].as_slice());
-            let lane = new_lane(alloc, label, world.split(main));
-            if let Err(refused) = lanes.push(lane) {
-                let Lane {
-                    label: _,
-                    pass,
-                    notes: _,
-                    answers: _,
-                    wants_memory: _,
-                } = refused.value;
-                world.take_in(rt, main, pass);
-                let _ = take_in_lanes(rt, world, main, lanes, left);
-                return Err(AllocError);
-            }
+            lanes.push_reserved(new_lane(alloc, label, world.split(main)));
         }
     }
-    Ok(lanes)
 }
 
 /// The label of the call behind those that a lane has answers of.
@@ -129,8 +122,34 @@ fn has_calls(round: &Round, lane: u32) -> bool
     round.calls.as_slice().iter().any(|line| line.lane == lane)
 }
 
-/// Runs the lanes. One lane alone runs on this thread.
+/// Runs the lanes, and gives the first one back. One lane alone runs on this thread.
 fn run_lanes<R: Threads + Wait + Sync, G: Gate>(
+    rt: &R,
+    alloc: Global,
+    world: &World,
+    gate: &G,
+    round: &Round,
+    first: Lane,
+    lanes: &mut Vec<Lane>,
+) -> Lane
+    requires calls { AllByRecursion (λ c. CanCall world.now c.lane c.call) round.now.calls }
+    requires first { CanRun world.now first }
+    requires lanes { All (λ l. CanRun world.now l) lanes.old.items }
+    requires room { vec_len lanes.old < vec_capacity lanes.old }
+    ensures first { RunsLane world.now round.now first result }
+    ensures as_many { length lanes.new.items ≡ length lanes.old.items }
+    ensures ran { (k : ℕ) (d : Lane) → k < length lanes.old.items → RunsLane world.now round.now (get_or lanes.old.items k d) (get_or lanes.new.items k d) }
+{
+    lanes.push_reserved(first);
+    run_all(rt, alloc, world, gate, round, lanes);
+    match lanes.pop() {
+        Some(first) => first,
+        None => unreachable!(),
+    }
+}
+
+/// Runs these lanes.
+fn run_all<R: Threads + Wait + Sync, G: Gate>(
     rt: &R,
     alloc: Global,
     world: &World,
@@ -138,9 +157,8 @@ fn run_lanes<R: Threads + Wait + Sync, G: Gate>(
     round: &Round,
     lanes: &mut Vec<Lane>,
 )
-    requires calls { AllByRecursion (λ c. CanCall world.now c.call) round.now.calls }
-    requires lanes { All (λ l. IsLaneOf world.now l) lanes.old.items }
-    ensures lanes { All (λ l. IsLaneOf world.now l) lanes.new.items }
+    requires calls { AllByRecursion (λ c. CanCall world.now c.lane c.call) round.now.calls }
+    requires lanes { All (λ l. CanRun world.now l) lanes.old.items }
     ensures as_many { length lanes.new.items ≡ length lanes.old.items }
     ensures ran { (k : ℕ) (d : Lane) → k < length lanes.old.items → RunsLane world.now round.now (get_or lanes.old.items k d) (get_or lanes.new.items k d) }
 {
@@ -150,8 +168,8 @@ fn run_lanes<R: Threads + Wait + Sync, G: Gate>(
         lanes,
         count,
         &|_, lane: &mut Lane|
-            requires lane { IsLaneOf world.now lane.old }
-            requires calls { AllByRecursion (λ c. CanCall world.now c.call) round.now.calls }
+            requires lane { CanRun world.now lane.old }
+            requires calls { AllByRecursion (λ c. CanCall world.now c.lane c.call) round.now.calls }
         { run_lane(rt, alloc, world, gate, round, lane) },
     );
 }
@@ -165,15 +183,47 @@ fn run_lane<R: Wait, G: Gate>(
     round: &Round,
     lane: &mut Lane,
 )
-    requires lane { IsLaneOf world.now lane.old }
-    requires calls { AllByRecursion (λ c. CanCall world.now c.call) round.now.calls }
-    ensures lane { IsLaneOf world.now lane.new }
+    requires lane { CanRun world.now lane.old }
+    requires calls { AllByRecursion (λ c. CanCall world.now c.lane c.call) round.now.calls }
     ensures ran { RunsLane world.now round.now lane.old lane.new }
 {
     make_calls(rt, alloc, world, gate, round, lane);
 }
 
-/// Takes the lanes' passes in, with what they leave. It fails where one wants memory, or there is none for what they leave.
+/// Takes all lanes' passes into those of the first lane, with what they leave. It fails where one wants memory, or there is none for what they leave.
+fn take_in_all<R: Wait>(
+    rt: &R,
+    world: &World,
+    first: Lane,
+    lanes: Vec<Lane>,
+    left: &mut Left,
+) -> (WorldPass, Result<(), AllocError>)
+    requires main { IsMain world.now first.pass lanes.items }
+    requires lanes { All (λ l. IsLaneOf world.now l) lanes.items }
+    requires names { (first.label.lane < length left.old.answers) × All (λ l. l.label.lane < length left.old.answers) lanes.items }
+    ensures main { IsMain world.now result.0 [] }
+    ensures count { length left.new.answers ≡ length left.old.answers }
+    ensures memory { OnOk result.1 ((first.wants_memory ≡ false) × All (λ l. l.wants_memory ≡ false) lanes.items) }
+    ensures taken { OnOk result.1 (TakesInLanes first.pass (with_lane left.old first) lanes.items result.0 left.new) }
+{
+    let Lane {
+        label,
+        pass,
+        notes,
+        answers,
+        wants_memory,
+    } = first;
+    let mut main = pass;
+    let kept = left.keep(label.lane, notes, answers);
+    let taken = take_in_lanes(rt, world, &mut main, lanes, left);
+    if wants_memory || kept.is_err() || taken.is_err() {
+        (main, Err(AllocError))
+    } else {
+        (main, Ok(()))
+    }
+}
+
+/// Takes lanes' passes in, with what they leave. It fails where one wants memory, or there is none for what they leave.
 fn take_in_lanes<R: Wait>(
     rt: &R,
     world: &World,

@@ -2,7 +2,7 @@
 ghost use Rattle.std.specs.Prelude.{◌≡◌, [], IfOk, replicate};
 ghost use Rattle.script_text.specs.Scripts.{IsInRange};
 ghost use Rattle.lane_run.specs.Rounds.{IsMain};
-ghost use Rattle.lane_run.specs.Runs.{MakesRun, ShowsAllSeen};
+ghost use Rattle.lane_run.specs.Runs.{MakesRun, ShowsAllSeen, ShowsLeft};
 ghost use Rattle.run_history.specs.Fits.{Fits};
 ghost use Rattle.lane_run.specs.Worlds.{AreFirst, AreLast, ArePassesOf, IsWorldOf};
 
@@ -36,9 +36,9 @@ pub fn run<R: Threads + Wait + Sync, G: Gate>(
     ensures fits { IfOk result (λ r. Fits script.now r.0) }
     ensures histories { IfOk result (λ r. ShowsAllSeen r.0 r.2) }
 {
-    let mut main = pass;
-    match make_rounds(rt, alloc, &world, &mut main, script, gate) {
-        Ok(record) => Ok((record, world, main)),
+    let (main, made) = make_rounds(rt, alloc, &world, pass, script, gate);
+    match made {
+        Ok(shown) => Ok((shown, world, main)),
         Err(fault) => {
             world.close(main);
             Err(fault)
@@ -46,33 +46,50 @@ pub fn run<R: Threads + Wait + Sync, G: Gate>(
     }
 }
 
-/// Makes the rounds of a script, and the record of what they leave.
+/// Makes the rounds of a script, and the record of what they leave. The first passes are given back.
 fn make_rounds<R: Threads + Wait + Sync, G: Gate>(
     rt: &R,
     alloc: Global,
     world: &World,
-    main: &mut WorldPass,
+    main: WorldPass,
     script: &Script,
     gate: &G,
-) -> Result<RunRecord, AllocError>
+) -> (WorldPass, Result<RunRecord, AllocError>)
     requires range { IsInRange script.now }
     requires world { IsWorldOf script.now world.now }
-    requires main { IsMain world.now main.old [] }
-    ensures main { IsMain world.now main.new [] }
-    ensures run { IfOk result (λ r. MakesRun world.now script.now main.old r main.new) }
+    requires main { IsMain world.now main [] }
+    ensures main { IsMain world.now result.0 [] }
+    ensures run { IfOk result.1 (λ r. MakesRun world.now script.now main r result.0) }
 {
+    let answers = match no_answers(alloc, script.lanes) {
+        Ok(answers) => answers,
+        Err(fault) => return (main, Err(fault)),
+    };
     let mut left = Left {
         notes: Notes::new(alloc),
-        answers: no_answers(alloc, script.lanes)?,
+        answers,
     };
+    let mut main = main;
     for round in script.rounds.as_slice() {
-        make_round(rt, alloc, world, main, gate, round, &mut left)?;
+        let (after, made) = make_round(rt, alloc, world, main, gate, round, &mut left);
+        main = after;
+        if let Err(fault) = made {
+            return (main, Err(fault));
+        }
     }
+    (main, record_left(alloc, script, left))
+}
+
+/// The record of a script's run that left this.
+fn record_left(alloc: Global, script: &Script, left: Left) -> Result<RunRecord, AllocError>
+    ensures { IfOk result (λ r. ShowsLeft script.now left r) }
+{
     let Left { notes, answers } = left;
     record_of(
         alloc,
         script.version,
         notes,
+        script.bases as usize,
         script.timers.as_slice().len(),
         answers,
     )

@@ -14,13 +14,13 @@ use seq_timer::{Asked, CancelAnswer};
 use std::alloc::{AllocError, Global};
 use std::sync::Wait;
 
-/// A log with room for what a call makes of one timer: an Out and a start, or a cancel.
+/// A log with room for what a call makes of one timer: a cancel, or a start with an Out to each base that it is sent to.
 fn make_log(alloc: Global) -> Result<Log, AllocError>
     ensures empty { IfOk result (λ l. l.receipts ≡ []) }
-    ensures room { IfOk result (λ l. 2 ≤ l.spare) }
+    ensures room { IfOk result (λ l. 65 ≤ l.spare) }
 {
     let mut log = Log::make(alloc);
-    log.reserve(2)?;
+    log.reserve(65)?;
     Ok(log)
 }
 

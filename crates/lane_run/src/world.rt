@@ -1,16 +1,19 @@
 //! What a script's calls are made on: its timers, its objects and the clock, with the first passes.
-ghost use Rattle.std.specs.Prelude.{◌≡◌, ◌≤◌, ◌<◌, [], IfOk, OnOk, map};
+ghost use Rattle.std.specs.Prelude.{◌≡◌, ◌≤◌, ◌<◌, [], IfOk, OnOk, length, map};
 ghost use Rattle.pass_names.specs.Passes.{HasEach};
-ghost use Rattle.hr_timers.specs.Known.{HasEachPlace};
+ghost use Rattle.pass_names.specs.SharedHistory.{first_known};
+ghost use Rattle.base_row.specs.Calls.{opening_of};
+ghost use Rattle.hr_timers.specs.Known.{HasEachPlace, HasEachShift, IsPassOf};
 ghost use Rattle.clock_cell.specs.Views.{KnowsClock};
 ghost use Rattle.script_text.specs.Scripts.{IsInRange};
-ghost use Rattle.script_text.specs.Declarations.{declared_as};
+ghost use Rattle.script_text.specs.Declarations.{declared_as, terms_of};
 ghost use Rattle.lane_run.specs.Rounds.{TakesInPass};
 ghost use Rattle.lane_run.specs.Worlds.{AnswerFor, AreFirst, AreLast, ArePassesOf, IsWorldOf, SplitsPass, callback_of, decl_of};
 
 use clock_cell::{ClockPass, SharedClock};
 use counted_row::RowPass;
 use hr_timers::{Pass, Timers};
+use record_text::Version;
 use script_text::{Callback, Declaration, Kind, Script};
 use seq_timer::{Context, Declared};
 use std::alloc::{AllocError, Global};
@@ -65,7 +68,7 @@ impl World {
                 return Err(fault);
             }
         };
-        match Timers::make_full(alloc, script.bases, &timers, script.limit) {
+        match make_timers(alloc, script, &timers) {
             Ok((timers, pass)) => {
                 let world = World {
                     timers,
@@ -92,8 +95,9 @@ impl World {
     pub fn close(self, pass: WorldPass)
         requires pass { ArePassesOf self pass }
         requires last { AreLast pass }
-        // The passes have each entry of each timer and object once, and the last one's writes are all that the clock took.
+        // The passes have each entry of each timer, base and object once, and the last one's writes are all that the clock took.
         ensures timers { HasEachPlace self.timers.about pass.timers.known }
+        ensures bases { HasEachShift self.timers.about pass.timers.known }
         ensures objects { HasEach pass.objects.knows.pass.seen pass.objects.knows.pass.mine }
         ensures clock { pass.clock.knows.heard ≡ [] → KnowsClock pass.clock.knows }
     {
@@ -141,6 +145,27 @@ impl World {
         self.timers.retire(&mut main.timers, timers);
         self.objects.join(&mut main.objects, objects);
         self.clock.take_in(rt, &mut main.clock, clock);
+    }
+}
+
+/// How many entries past its limit may move a timer off a base that goes off line, in version 2 of the script.
+const REACH: u64 = 1024;
+
+/// The timers of a script, declared so. In version 2 their bases may go off line.
+fn make_timers(
+    alloc: Global,
+    script: &Script,
+    timers: &[Declared],
+) -> Result<(Timers, Pass), AllocError>
+    requires range { IsInRange script.now }
+    requires few { length timers.now ≡ length script.now.timers }
+    ensures pass { IfOk result (λ r. IsPassOf r.0 r.1) }
+    ensures about { IfOk result (λ r. r.0.about ≡ opening_of script.now.bases timers.now (terms_of script.now)) }
+    ensures first { IfOk result (λ r. r.1.known ≡ first_known) }
+{
+    match script.version {
+        Version::One => Timers::make_full(alloc, script.bases, timers, script.limit),
+        Version::Two => { Timers::make_evacuable(alloc, script.bases, timers, script.limit, REACH) }
     }
 }
 

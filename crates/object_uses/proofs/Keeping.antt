@@ -6,7 +6,7 @@ use Rattle.pass_names.specs.Passes.{Begins}
 use Rattle.pass_names.specs.SharedHistory.{LooksOn}
 use Rattle.pass_names.proofs.Passes.{begins_refl, begins_trans}
 use Rattle.seq_timer.specs.Histories as seq
-use Rattle.seq_timer.specs.declared.system.TimerEntry.{TimerEntry}
+use Rattle.seq_timer.specs.declared.system.SystemEntry.{SystemEntry}
 use Rattle.base_row.specs.declared.view.Opening.{Opening}
 use Rattle.hr_timers.specs.Known.{KnownOfTimers, MadeAt}
 use Rattle.expire_pass.specs.Handlers.{KeepsPass}
@@ -37,7 +37,7 @@ keeps_looks v w looks = record {
   mine = subst (λ m. Begins v.mine m) (sym looks.mine) (begins_refl v.mine);
 }
 
-keeps_made : (v w : KnownOfTimers) (t : ℕ) (x : List TimerEntry) (es : List seq.Entry) → MadeAt v w t x es → w.claims ≡ v.claims → KeepsPass v w
+keeps_made : (v w : KnownOfTimers) (t : ℕ) (x : List SystemEntry) (es : List seq.Entry) → MadeAt v w t x es → w.claims ≡ v.claims → KeepsPass v w
 keeps_made v w t x es made claims =
     record { id = made.id; claims = claims; seen = begins_trans made.from made.seen; mine = record { rest = _; whole = made.mine } }
 

@@ -34,7 +34,7 @@ use Rattle.timer_objects.specs.declared.callback.Callback.{Callback}
 use Rattle.timer_objects.specs.Callbacks.{bases_of}
 use Rattle.timer_objects.specs.Cells.{cell_meaning}
 use Rattle.timer_objects.specs.Calls.{Caller}
-use Rattle.timer_objects.specs.Known.{IsObjectsPass, KeepsObjectsPass, ObjectsOf, ObjectsPass, Suits, seen_of}
+use Rattle.timer_objects.specs.Known.{IsObjectsPass, KeepsObjectsPass, ObjectsOf, ObjectsPass, Suits, most_noted, seen_of}
 
 -- a thread has a pass of the timers and one of the objects, which stand over these timers
 pub record HasPasses (timers : rows.BaseRowOf) (objects : ObjectsOf) (pass : PassOf) (objects_pass : ObjectsPass) : Type 0 where
@@ -47,7 +47,7 @@ pub record MayCall (timers : rows.BaseRowOf) (objects : ObjectsOf) (pass : PassO
     (object_log : LogOf ObjectReceipt) (id : ℕ) : Type 0 where
   pub passes : HasPasses timers objects pass objects_pass
   pub within : id < length objects.decls
-  pub room : 4 ≤ log.spare
+  pub room : most_noted objects timers.about id ≤ log.spare
   pub object_room : 0 < object_log.spare
 
 -- functions may be run on a base, with a callback for each timer

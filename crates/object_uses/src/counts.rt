@@ -1,7 +1,7 @@
 //! The count of a descriptor, which one thread reads while another runs the functions of timers.
 ghost use Rattle.std.specs.Prelude.{◌≡◌, ◌≤◌, ◌+◌};
 ghost use Rattle.timer_objects.specs.declared.object.Kind.TheVariants as kinds;
-ghost use Rattle.timer_objects.specs.Known.{decl_at};
+ghost use Rattle.timer_objects.specs.Known.{decl_at, most_noted};
 ghost use Rattle.object_uses.specs.Callers.{KeepsPasses, MayCall, ReadFits};
 
 use counted_row::RowPass;
@@ -29,7 +29,7 @@ pub fn read_count<R: Wait>(
     requires kind { (decl_at objects.now id).kind ≡ kinds.Fd }
     ensures keeps { KeepsPasses timers.now objects.now pass.old pass.new objects_pass.old objects_pass.new }
     ensures reads { ReadFits objects_pass.old objects_pass.new id reading result }
-    ensures room { (log.old.spare ≤ log.new.spare + 4) × (object_log.old.spare ≤ object_log.new.spare + 1) }
+    ensures room { (log.old.spare ≤ log.new.spare + most_noted objects.now timers.now.about id) × (object_log.old.spare ≤ object_log.new.spare + 1) }
 {
     objects.read(
         rt,

@@ -1,7 +1,7 @@
 //! The signals of a periodic POSIX timer, and their overruns.
 ghost use Rattle.std.specs.Prelude.{◌≡◌, ◌≤◌, ◌+◌};
 ghost use Rattle.timer_objects.specs.declared.object.Kind.TheVariants as kinds;
-ghost use Rattle.timer_objects.specs.Known.{decl_at};
+ghost use Rattle.timer_objects.specs.Known.{decl_at, most_noted};
 ghost use Rattle.object_uses.specs.Callers.{AcceptFits, KeepsPasses, MayCall};
 
 use counted_row::RowPass;
@@ -29,7 +29,7 @@ pub fn accept_signal<R: Wait>(
     requires kind { (decl_at objects.now id).kind ≡ kinds.Posix }
     ensures keeps { KeepsPasses timers.now objects.now pass.old pass.new objects_pass.old objects_pass.new }
     ensures accepts { AcceptFits objects_pass.old objects_pass.new id reading result }
-    ensures room { (log.old.spare ≤ log.new.spare + 4) × (object_log.old.spare ≤ object_log.new.spare + 1) }
+    ensures room { (log.old.spare ≤ log.new.spare + most_noted objects.now timers.now.about id) × (object_log.old.spare ≤ object_log.new.spare + 1) }
 {
     objects.accept(rt, timers, pass, objects_pass, log, object_log, id, reading)
 }

@@ -5,6 +5,7 @@ mod expected;
 mod greatest;
 mod of_expire_pass;
 mod of_timer_objects;
+mod off_line;
 mod passes;
 mod stand;
 mod waiting;

@@ -2,6 +2,8 @@
 use Rattle.std.proofs.Common.{◌≡◌, ◌∷◌, [], ℕ, List, Bool, true, if◌then◌else◌, map, length, codes, refl, sym, ◌∙◌}
 use Rattle.record_text.specs.declared.version.Version.{Version}
 use Rattle.record_text.specs.declared.version.Version.TheVariants as versions
+use Rattle.seq_timer.specs.declared.standing.BaseEvent.{BaseEvent}
+use Rattle.seq_timer.specs.declared.standing.BaseEvent.TheVariants as shifts
 use Rattle.seq_timer.specs.declared.event.AskedBy.{AskedBy}
 use Rattle.seq_timer.specs.declared.event.EventBy.{EventBy}
 use Rattle.seq_timer.specs.declared.event.EventBy.TheVariants as events
@@ -23,8 +25,8 @@ use Rattle.record_text.specs.declared.record.ObjectEntry.TheVariants as object_e
 use Rattle.record_text.specs.declared.record.Answer.{Answer}
 use Rattle.record_text.specs.declared.record.Answer.TheVariants as answers
 use Rattle.record_text.specs.Replies.{answer_of_settime, answer_of_accept, answer_of_read}
-use Rattle.record_text.specs.Text.{entry_numbers, entry_words, told_words, answer_words, object_entry_words}
-use Rattle.record_text.specs.Numbers.{AreMachineNumbers, EntryHasNoSlack, IsReplyTo, told_numbers, answer_numbers, object_entry_numbers}
+use Rattle.record_text.specs.Text.{entry_numbers, entry_words, shift_words, told_words, answer_words, object_entry_words}
+use Rattle.record_text.specs.Numbers.{AreMachineNumbers, EntryHasNoSlack, IsReplyTo, shift_numbers, told_numbers, answer_numbers, object_entry_numbers}
 use Rattle.record_text.proofs.Words.{are_words}
 use Rattle.record_text.proofs.Spelling.{value, value_again, word_decimal, words_decimals, values_again, nth, number, after, is_key, flag_of, flag_read, clock_of, clock_read, mode_of, mode_read, restart_of, restart_read, restarted_of, restarted_read, armed_of, armed_read, counted_of, counted_read}
 
@@ -136,6 +138,14 @@ each_read v e r h plain = absurd plain.0
 pub entry_read : (v : Version) (x : Entry) → AreMachineNumbers (entry_numbers x) → IsReadable v x → IsReadBack (entry_of v) x (entry_words v x)
 entry_read v x h plain = each_read v x.event x.reply h plain
 
+pub shift_of : List (List ℕ) → BaseEvent
+shift_of ws = if is_key ws (codes "offline") then shifts.Offline (number 1 ws) else shifts.Online
+
+pub shift_read : AreReadBack shift_of shift_words shift_numbers
+unfolding shift_of
+shift_read (shifts.Offline heir) h = rw (value_again heir h.0, word_decimal heir h.0) (refl, refl)
+shift_read shifts.Online h = (refl, refl)
+
 pub told_of : List (List ℕ) → CallbackReply
 told_of ws =
     if is_key ws (codes "running") then told.Running (number 1 ws)
@@ -153,17 +163,30 @@ pub left_of : ℕ → ℕ → List (List ℕ) → Answer
 left_of left interval [] = answers.Left left interval
 left_of left interval (w ∷ ws) = answers.LeftAt left interval (value w) (number 0 ws)
 
+-- a word that two answers begin with: what a call tells that takes a base off line ends sooner, or later where a timer is spent
+pub spent_of : ℕ → List (List ℕ) → Answer
+spent_of stamp [] = answers.Spent stamp
+spent_of moved (w ∷ ws) = answers.OfflineSpent moved (value w) (number 0 ws)
+
+pub more_of : ℕ → List (List ℕ) → Answer
+more_of moved [] = answers.OfflineMore moved
+more_of count (w ∷ ws) = answers.More (value w) (map value ws)
+
+pub busy_of : ℕ → ℕ → ℕ → List (List ℕ) → Answer
+busy_of moved timer generation [] = answers.OfflineBusy moved timer generation
+busy_of count reading timer (w ∷ ws) = answers.Busy reading (map value ws) timer (value w)
+
 pub answer_of : List (List ℕ) → Answer
 answer_of ws =
     if is_key ws (codes "started") then answers.Started (number 1 ws) (number 2 ws) (flag_of (nth 3 ws))
-    else if is_key ws (codes "spent") then answers.Spent (number 1 ws)
+    else if is_key ws (codes "spent") then spent_of (number 1 ws) (after 2 ws)
     else if is_key ws (codes "cancelled") then answers.Cancelled (number 1 ws)
     else if is_key ws (codes "running") then answers.Running (number 1 ws) (number 2 ws)
     else if is_key ws (codes "idle") then answers.Idle (number 1 ws)
     else if is_key ws (codes "peek") then answers.Peek (number 1 ws) (number 2 ws) (flag_of (nth 3 ws)) (flag_of (nth 4 ws)) (flag_of (nth 5 ws))
     else if is_key ws (codes "done") then answers.Done (number 2 ws) (map value (after 3 ws))
-    else if is_key ws (codes "more") then answers.More (number 2 ws) (map value (after 3 ws))
-    else if is_key ws (codes "busy") then answers.Busy (number 2 ws) (map value (after 5 ws)) (number 3 ws) (number 4 ws)
+    else if is_key ws (codes "more") then more_of (number 1 ws) (after 2 ws)
+    else if is_key ws (codes "busy") then busy_of (number 1 ws) (number 2 ws) (number 3 ws) (after 4 ws)
     else if is_key ws (codes "clock") then answers.Clock (number 1 ws)
     else if is_key ws (codes "range") then answers.Range (number 1 ws)
     else if is_key ws (codes "clockspent") then answers.ClockSpent
@@ -177,10 +200,15 @@ answer_of ws =
     else if is_key ws (codes "overrun") then answers.Overrun (number 1 ws) (number 2 ws)
     else if is_key ws (codes "count") then answers.Count (number 1 ws)
     else if is_key ws (codes "again") then answers.Again
+    else if is_key ws (codes "off") then answers.Offline (number 1 ws) (number 2 ws)
+    else if is_key ws (codes "already") then answers.Already (number 1 ws)
+    else if is_key ws (codes "heiroff") then answers.HeirOffline (number 1 ws)
+    else if is_key ws (codes "basespent") then answers.BaseSpent (number 1 ws)
+    else if is_key ws (codes "on") then answers.Online (number 1 ws)
     else answers.Readable (flag_of (nth 1 ws)) (number 2 ws) (number 3 ws)
 
 pub answer_read : AreReadBack answer_of answer_words answer_numbers
-unfolding answer_of left_of
+unfolding answer_of left_of spent_of more_of busy_of
 answer_read (answers.Started generation base was_armed) h =
     rw (value_again generation h.0, value_again base h.1.0, (flag_read was_armed).0, word_decimal generation h.0)
     (rw (word_decimal base h.1.0, (flag_read was_armed).1) (refl, refl))
@@ -224,6 +252,19 @@ answer_read answers.Again h = (refl, refl)
 answer_read (answers.Readable ready reading stamp) h =
     rw ((flag_read ready).0, value_again reading h.0, value_again stamp h.1.0, (flag_read ready).1, word_decimal reading h.0)
     (rw (word_decimal stamp h.1.0) (refl, refl))
+answer_read (answers.Offline moved stamp) h =
+    rw (value_again moved h.0, value_again stamp h.1.0, word_decimal moved h.0, word_decimal stamp h.1.0) (refl, refl)
+answer_read (answers.OfflineBusy moved timer generation) h =
+    rw (value_again moved h.0, value_again timer h.1.0, value_again generation h.1.1.0, word_decimal moved h.0)
+    (rw (word_decimal timer h.1.0, word_decimal generation h.1.1.0) (refl, refl))
+answer_read (answers.OfflineMore moved) h = rw (value_again moved h.0, word_decimal moved h.0) (refl, refl)
+answer_read (answers.OfflineSpent moved timer stamp) h =
+    rw (value_again moved h.0, value_again timer h.1.0, value_again stamp h.1.1.0, word_decimal moved h.0)
+    (rw (word_decimal timer h.1.0, word_decimal stamp h.1.1.0) (refl, refl))
+answer_read (answers.Already stamp) h = rw (value_again stamp h.0, word_decimal stamp h.0) (refl, refl)
+answer_read (answers.HeirOffline stamp) h = rw (value_again stamp h.0, word_decimal stamp h.0) (refl, refl)
+answer_read (answers.BaseSpent stamp) h = rw (value_again stamp h.0, word_decimal stamp h.0) (refl, refl)
+answer_read (answers.Online stamp) h = rw (value_again stamp h.0, word_decimal stamp h.0) (refl, refl)
 
 -- a reply from the answer that it gives
 pub settime_of : Answer → SettimeReply

@@ -2,6 +2,7 @@
 use Rattle.std.proofs.Common.{◌≡◌, ◌∷◌, [], List, ℕ, ◌+◌, map}
 use Rattle.std.specs.List.{AllByRecursion}
 use Rattle.record_text.specs.declared.record.ClockLine.{ClockLine}
+use Rattle.record_text.specs.declared.record.BaseLine.{BaseLine}
 use Rattle.record_text.specs.declared.record.Entry.{Entry}
 use Rattle.record_text.specs.declared.record.Look.{Look}
 use Rattle.record_text.specs.declared.record.TimerLine.{TimerLine}
@@ -12,7 +13,7 @@ use Rattle.record_text.specs.declared.record.RunRecord.{RunRecord}
 use Rattle.record_text.specs.declared.version.Version.{Version}
 use Rattle.record_text.specs.declared.version.Version.TheVariants as versions
 use Rattle.record_text.specs.Numbers.{HaveNoSlack, HasNoSlack, HaveReplies, HasReplies}
-use Rattle.record_text.specs.Text.{RecordLine, OfLook, OfSkip, OfCall, OfClock, numbered, entry_and_looks, object_entry_and_skips, clock_lines, timer_lines, object_lines, lane_lines, record_lines}
+use Rattle.record_text.specs.Text.{RecordLine, OfLook, OfSkip, OfCall, OfClock, OfBase, numbered, entry_and_looks, object_entry_and_skips, clock_lines, base_lines, timer_lines, object_lines, lane_lines, record_lines}
 use Rattle.record_text.proofs.Lists.{All-append}
 use Rattle.record_text.proofs.EntriesAndAnswers.{IsReadable}
 use Rattle.record_text.proofs.Lines.{LineHas}
@@ -46,6 +47,12 @@ module _ (Is : Entry → Type 0) where
   clock_plain : (n : ℕ) (ws : List ClockLine) → AllByRecursion (LineHas Is) (clock_lines n ws)
   clock_plain n ws = numbered_plain (λ w. Unit {0}) (λ n w. OfClock n w ∷ []) (λ n w plain. (tt, tt)) n ws (any_plain ws)
 
+  bases_plain : (n : ℕ) (bss : List (List BaseLine)) → AllByRecursion (LineHas Is) (base_lines n bss)
+  bases_plain n bss =
+      numbered_plain (λ bs. Unit {0}) (λ b bs. numbered (λ m line. OfBase b m line ∷ []) 1 bs)
+      (λ b bs h. numbered_plain (λ line. Unit {0}) (λ m line. OfBase b m line ∷ []) (λ m line h. (tt, tt)) 1 bs (any_plain bs))
+      n bss (any_plain bss)
+
   timers_plain : (n : ℕ) (tss : List (List TimerLine)) → AllByRecursion AreSo tss → AllByRecursion (LineHas Is) (timer_lines n tss)
   timers_plain n tss plain =
       numbered_plain AreSo (λ i ts. numbered (entry_and_looks i) 1 ts)
@@ -69,7 +76,8 @@ module _ (Is : Entry → Type 0) where
       let end = All-append (LineHas Is) (lane_lines 0 r.answers) _ (lanes_plain 0 r.answers) (tt, tt) in
       let objects = All-append (LineHas Is) (object_lines 0 r.objects) _ (objects_plain 0 r.objects) end in
       let timers = All-append (LineHas Is) (timer_lines 0 r.timers) _ (timers_plain 0 r.timers plain) objects in
-      (tt, All-append (LineHas Is) (clock_lines 1 r.clock) _ (clock_plain 1 r.clock) timers)
+      let bases = All-append (LineHas Is) (base_lines 0 r.bases) _ (bases_plain 0 r.bases) timers in
+      (tt, All-append (LineHas Is) (clock_lines 1 r.clock) _ (clock_plain 1 r.clock) bases)
 
 -- ---- a record whose entries have their replies, and no slack where its version is the first
 

@@ -3,7 +3,7 @@ use Rattle.std.proofs.Common.{◌≡◌, ◌++◌, ◌∷◌, [], List, ℕ, tru
 use Rattle.std.specs.Fmt.{decimal}
 use Rattle.std.specs.List.{AllByRecursion}
 use Rattle.std.proofs.lemmas.List.{append_cancel_right}
-use Rattle.record_text.specs.Text.{RecordLine, Heading, OfClock, OfTimer, OfLook, OfObject, OfSkip, OfCall, End, join_words, lines_text, line_words, write_ns, entry_words, told_words, object_entry_words}
+use Rattle.record_text.specs.Text.{RecordLine, Heading, OfClock, OfBase, OfTimer, OfLook, OfObject, OfSkip, OfCall, End, join_words, lines_text, line_words, write_ns, shift_words, entry_words, told_words, object_entry_words}
 use Rattle.record_text.specs.Numbers.{AreMachineNumbers, numbers_of}
 use Rattle.record_text.proofs.Words.{are_words, parts, words_again, line_again}
 use Rattle.std.proofs.lemmas.Bool.{and_parts}
@@ -12,7 +12,7 @@ use Rattle.record_text.specs.declared.record.Label.{Label}
 use Rattle.record_text.specs.declared.version.Version.{Version}
 use Rattle.record_text.specs.declared.version.Version.TheVariants as versions
 use Rattle.record_text.proofs.Spelling.{value, value_again, word_decimal, nth, number, after, is_key, version_of, version_read, write_of, write_read}
-use Rattle.record_text.proofs.EntriesAndAnswers.{IsReadBack, IsReadable, entry_of, entry_read, told_of, told_read, answer_of, answer_read, object_entry_of, object_entry_read}
+use Rattle.record_text.proofs.EntriesAndAnswers.{IsReadBack, IsReadable, shift_of, shift_read, entry_of, entry_read, told_of, told_read, answer_of, answer_read, object_entry_of, object_entry_read}
 
 abbrev label_at : ℕ → List (List ℕ) → Label
 label_at n ws = record { lane = number n ws; call = number (n + 1) ws }
@@ -30,6 +30,8 @@ line_of v ws =
           number 8 ws;
       changes = number 9 ws;
     })
+    else if is_key ws (codes "base") then OfBase (number 1 ws) (number 2 ws)
+    (record { label = label_at 3 ws; event = shift_of (after 5 ws) })
     else if is_key ws (codes "timer") then OfTimer (number 1 ws) (number 2 ws) (label_at 3 ws) (entry_of v (after 5 ws))
     else if is_key ws (codes "look") then OfLook (number 1 ws) (number 2 ws) (record { label = label_at 3 ws; reply = told_of (after 5 ws) })
     else if is_key ws (codes "object") then OfObject (number 1 ws) (number 2 ws) (label_at 3 ws) (object_entry_of (after 5 ws))
@@ -62,6 +64,11 @@ words_read v (OfClock n w) h p =
     (rw (word_decimal w.label.call h.1.1.0, word_decimal (write_ns w.write) h.1.1.1.0, (write_read w.write).1)
     (rw (word_decimal w.mono h.1.1.1.1.0, word_decimal w.real h.1.1.1.1.1.0, word_decimal w.boot h.1.1.1.1.1.1.0)
     (rw (word_decimal w.changes h.1.1.1.1.1.1.1.0) (refl, refl))))))
+words_read v (OfBase base n line) h p =
+    let read = shift_read line.event h.1.1.1.1 in
+    head_read (λ i m by. OfBase i m (record { label = by; event = shift_of (shift_words line.event) })) base n line.label
+    (shift_words line.event) _ h
+    (ap (λ event. OfBase base n (record { label = line.label; event = event })) read.0) read.1
 words_read v (OfTimer timer n label entry) h p =
     let read = entry_read v entry h.1.1.1.1 p in
     head_read (λ i m by. OfTimer i m by (entry_of v (entry_words v entry))) timer n label (entry_words v entry) _ h
@@ -91,6 +98,7 @@ HasWords (w ∷ ws) = Unit {0}
 each_has_words : (v : Version) (l : RecordLine) → HasWords (line_words v l)
 each_has_words v Heading = tt
 each_has_words v (OfClock n w) = tt
+each_has_words v (OfBase base n line) = tt
 each_has_words v (OfTimer timer n label entry) = tt
 each_has_words v (OfLook timer n look) = tt
 each_has_words v (OfObject object n label entry) = tt

@@ -4,13 +4,14 @@ use Rattle.std.proofs.lemmas.List.{append-nil}
 use Rattle.std.proofs.lemmas.List.Concat.{flat_map-append}
 use Rattle.std.proofs.lemmas.Bool.Decides.{nat_tests}
 use Rattle.record_text.specs.declared.record.ClockLine.{ClockLine}
+use Rattle.record_text.specs.declared.record.BaseLine.{BaseLine}
 use Rattle.record_text.specs.declared.record.Look.{Look}
 use Rattle.record_text.specs.declared.record.TimerLine.{TimerLine}
 use Rattle.record_text.specs.declared.record.Skip.{Skip}
 use Rattle.record_text.specs.declared.record.ObjectLine.{ObjectLine}
 use Rattle.record_text.specs.declared.record.Answer.{Answer}
 use Rattle.record_text.specs.declared.record.RunRecord.{RunRecord}
-use Rattle.record_text.specs.Text.{RecordLine, Heading, OfClock, OfTimer, OfLook, OfObject, OfSkip, OfCall, End, numbered, lines_in_lists, clock_lines, timer_lines, object_lines, lane_lines, record_lines}
+use Rattle.record_text.specs.Text.{RecordLine, Heading, OfClock, OfBase, OfTimer, OfLook, OfObject, OfSkip, OfCall, End, numbered, lines_in_lists, clock_lines, base_lines, timer_lines, object_lines, lane_lines, record_lines}
 
 -- what a line adds to the list with a number: an item, to which what hangs below it is yet to be given, or what hangs there
 data Row (X K : Type 0) : Type 0 where
@@ -143,6 +144,10 @@ no_clock : {Y : Type 0} (view : RecordLine → List Y) → ((n : ℕ) (w : Clock
     → (ws : List ClockLine) → flat_map view (clock_lines 1 ws) ≡ []
 no_clock view hides ws = hidden view (λ n w. OfClock n w ∷ []) (λ n w. rw (hides n w) refl) 1 ws
 
+no_bases : {Y : Type 0} (view : RecordLine → List Y) → ((i n : ℕ) (b : BaseLine) → view (OfBase i n b) ≡ [])
+    → (bss : List (List BaseLine)) → flat_map view (base_lines 0 bss) ≡ []
+no_bases view heads bss = hidden_lists {K = ⊥} view OfBase (λ i n none. absurd none) (λ b. []) heads (λ i n none. absurd none) 1 bss
+
 no_timers : {Y : Type 0} (view : RecordLine → List Y) → ((i n : ℕ) (t : TimerLine) → view (OfTimer i n t.label t.entry) ≡ [])
     → ((i n : ℕ) (k : Look) → view (OfLook i n k) ≡ []) → (tss : List (List TimerLine)) → flat_map view (timer_lines 0 tss) ≡ []
 no_timers view heads looks tss = hidden_lists view (λ i n t. OfTimer i n t.label t.entry) OfLook (λ t. t.looks) heads looks 1 tss
@@ -156,20 +161,24 @@ no_lanes : {Y : Type 0} (view : RecordLine → List Y) → ((i n : ℕ) (a : Ans
 no_lanes view heads lanes = hidden_lists {K = ⊥} view OfCall (λ i n none. absurd none) (λ a. []) heads (λ i n none. absurd none) 0 lanes
 
 -- what a view sees of a record, by what it sees of each section
-sections_seen : {Y : Type 0} (view : RecordLine → List Y) → view Heading ≡ [] → view End ≡ [] → (r : RunRecord) {clock timers objects lanes : List Y}
-    → flat_map view (clock_lines 1 r.clock) ≡ clock → flat_map view (timer_lines 0 r.timers) ≡ timers
+sections_seen : {Y : Type 0} (view : RecordLine → List Y) → view Heading ≡ [] → view End ≡ [] → (r : RunRecord)
+    {clock bases timers objects lanes : List Y}
+    → flat_map view (clock_lines 1 r.clock) ≡ clock → flat_map view (base_lines 0 r.bases) ≡ bases
+    → flat_map view (timer_lines 0 r.timers) ≡ timers
     → flat_map view (object_lines 0 r.objects) ≡ objects → flat_map view (lane_lines 0 r.answers) ≡ lanes
-    → flat_map view (record_lines r) ≡ clock ++ (timers ++ (objects ++ lanes))
-sections_seen view heading end r clock timers objects lanes =
+    → flat_map view (record_lines r) ≡ clock ++ (bases ++ (timers ++ (objects ++ lanes)))
+sections_seen view heading end r clock bases timers objects lanes =
     rw (
       heading,
       flat_map-append view (clock_lines 1 r.clock) _,
+      flat_map-append view (base_lines 0 r.bases) _,
       flat_map-append view (timer_lines 0 r.timers) _,
       flat_map-append view (object_lines 0 r.objects) _,
       flat_map-append view (lane_lines 0 r.answers) _,
       end,
       append-nil (flat_map view (lane_lines 0 r.answers)),
       clock,
+      bases,
       timers,
       objects,
       lanes,
@@ -180,6 +189,11 @@ sections_seen view heading end r clock timers objects lanes =
 abbrev clock_view : RecordLine → List ClockLine
 clock_view (OfClock n w) = w ∷ []
 clock_view l = []
+
+-- nothing hangs below a base's entry
+abbrev base_view : RecordLine → List (Row BaseLine ⊥)
+base_view (OfBase i n b) = Item i (λ none. b) ∷ []
+base_view l = []
 
 abbrev timer_view : RecordLine → List (Row TimerLine Look)
 timer_view (OfTimer i n label e) = Item i (λ looks. record { label = label; entry = e; looks = looks }) ∷ []
@@ -204,28 +218,41 @@ clock_read n (w ∷ ws) = ap (λ r. w ∷ r) (clock_read (n + 1) ws)
 
 clock_seen : (r : RunRecord) → flat_map clock_view (record_lines r) ≡ r.clock
 clock_seen r =
-    sections_seen clock_view refl refl r (clock_read 1 r.clock) (no_timers clock_view (λ i n t. refl) (λ i n k. refl) r.timers)
+    sections_seen clock_view refl refl r (clock_read 1 r.clock) (no_bases clock_view (λ i n b. refl) r.bases)
+    (no_timers clock_view (λ i n t. refl) (λ i n k. refl) r.timers)
     (no_objects clock_view (λ i n o. refl) (λ i n k. refl) r.objects) (no_lanes clock_view (λ i n a. refl) r.answers)
     ∙ append-nil r.clock
 
+bases_seen : (r : RunRecord) → flat_map base_view (record_lines r) ≡ flat_map base_view (base_lines 0 r.bases)
+bases_seen r =
+    sections_seen base_view refl refl r (no_clock base_view (λ n w. refl) r.clock) refl
+    (no_timers base_view (λ i n t. refl) (λ i n k. refl) r.timers)
+    (no_objects base_view (λ i n o. refl) (λ i n k. refl) r.objects) (no_lanes base_view (λ i n a. refl) r.answers)
+    ∙ append-nil _
+
 timers_seen : (r : RunRecord) → flat_map timer_view (record_lines r) ≡ flat_map timer_view (timer_lines 0 r.timers)
 timers_seen r =
-    sections_seen timer_view refl refl r (no_clock timer_view (λ n w. refl) r.clock) refl
+    sections_seen timer_view refl refl r (no_clock timer_view (λ n w. refl) r.clock) (no_bases timer_view (λ i n b. refl) r.bases) refl
     (no_objects timer_view (λ i n o. refl) (λ i n k. refl) r.objects) (no_lanes timer_view (λ i n a. refl) r.answers)
     ∙ append-nil _
 
 objects_seen : (r : RunRecord) → flat_map object_view (record_lines r) ≡ flat_map object_view (object_lines 0 r.objects)
 objects_seen r =
-    sections_seen object_view refl refl r (no_clock object_view (λ n w. refl) r.clock)
+    sections_seen object_view refl refl r (no_clock object_view (λ n w. refl) r.clock) (no_bases object_view (λ i n b. refl) r.bases)
     (no_timers object_view (λ i n t. refl) (λ i n k. refl) r.timers) refl (no_lanes object_view (λ i n a. refl) r.answers)
     ∙ append-nil _
 
 lanes_seen : (r : RunRecord) → flat_map lane_view (record_lines r) ≡ flat_map lane_view (lane_lines 0 r.answers)
 lanes_seen r =
-    sections_seen lane_view refl refl r (no_clock lane_view (λ n w. refl) r.clock)
+    sections_seen lane_view refl refl r (no_clock lane_view (λ n w. refl) r.clock) (no_bases lane_view (λ i n b. refl) r.bases)
     (no_timers lane_view (λ i n t. refl) (λ i n k. refl) r.timers) (no_objects lane_view (λ i n o. refl) (λ i n k. refl) r.objects) refl
 
 -- ---- the sections of two records with equal lines
+
+same_bases : (a b : RunRecord) → length a.bases ≡ length b.bases → record_lines a ≡ record_lines b → a.bases ≡ b.bases
+same_bases a b =
+    same_section base_view OfBase (λ i n none. absurd none) (λ b none. b) (λ b. []) (λ b. refl) (λ i n b. refl) (λ i n none. absurd none)
+    1 (λ r. r.bases) bases_seen a b
 
 same_timers : (a b : RunRecord) → length a.timers ≡ length b.timers → record_lines a ≡ record_lines b → a.timers ≡ b.timers
 same_timers a b =
@@ -242,11 +269,12 @@ same_lanes a b =
     same_section lane_view OfCall (λ i n none. absurd none) (λ a none. a) (λ a. []) (λ a. refl) (λ i n a. refl) (λ i n none. absurd none)
     0 (λ r. r.answers) lanes_seen a b
 
-pub record_from_lines : (a b : RunRecord) → length a.timers ≡ length b.timers → length a.objects ≡ length b.objects
-    → length a.answers ≡ length b.answers → a.version ≡ b.version → record_lines a ≡ record_lines b → a ≡ b
-record_from_lines a b timers objects lanes version e =
+pub record_from_lines : (a b : RunRecord) → length a.bases ≡ length b.bases → length a.timers ≡ length b.timers
+    → length a.objects ≡ length b.objects → length a.answers ≡ length b.answers → a.version ≡ b.version → record_lines a ≡ record_lines b → a ≡ b
+record_from_lines a b bases timers objects lanes version e =
     ap (λ x. record a { version = x }) version
     ∙ ap (λ x. record a { version = b.version; clock = x }) (sym (clock_seen a) ∙ ap (flat_map clock_view) e ∙ clock_seen b)
-    ∙ ap (λ x. record a { version = b.version; clock = b.clock; timers = x }) (same_timers a b timers e)
+    ∙ ap (λ x. record a { version = b.version; clock = b.clock; bases = x }) (same_bases a b bases e)
+    ∙ ap (λ x. record b { timers = x; objects = a.objects; answers = a.answers }) (same_timers a b timers e)
     ∙ ap (λ x. record b { objects = x; answers = a.answers }) (same_objects a b objects e)
     ∙ ap (λ x. record b { answers = x }) (same_lanes a b lanes e)

@@ -1,6 +1,8 @@
 -- The numbers of a record's lines, and that a program can hold them.
 use Rattle.std.specs.Prelude.{ℕ, ◌≡◌, ◌<◌, ◌^◌, List, [], ◌∷◌, length}
 use Rattle.std.specs.List.{AllByRecursion}
+use Rattle.seq_timer.specs.declared.standing.BaseEvent.{BaseEvent}
+use Rattle.seq_timer.specs.declared.standing.BaseEvent.TheVariants as shifts
 use Rattle.seq_timer.specs.declared.event.EventBy.{EventBy}
 use Rattle.seq_timer.specs.declared.event.EventBy.TheVariants as events
 use Rattle.seq_timer.specs.declared.event.Reply.{Reply}
@@ -17,7 +19,12 @@ use Rattle.record_text.specs.declared.record.Answer.TheVariants as answers
 use Rattle.record_text.specs.declared.record.TimerLine.{TimerLine}
 use Rattle.record_text.specs.declared.record.RunRecord.{RunRecord}
 use Rattle.record_text.specs.Replies.{answer_of_accept, answer_of_read, answer_of_settime}
-use Rattle.record_text.specs.Text.{RecordLine, Heading, OfClock, OfTimer, OfLook, OfObject, OfSkip, OfCall, End, entry_numbers, write_ns, record_lines}
+use Rattle.record_text.specs.Text.{RecordLine, Heading, OfClock, OfBase, OfTimer, OfLook, OfObject, OfSkip, OfCall, End, entry_numbers, write_ns, record_lines}
+
+-- the numbers of what happened to a base
+abbrev pub shift_numbers : BaseEvent → List ℕ
+shift_numbers (shifts.Offline heir) = heir ∷ []
+shift_numbers shifts.Online = []
 
 -- the numbers of what a callback was told
 abbrev pub told_numbers : CallbackReply → List ℕ
@@ -41,6 +48,18 @@ object_answer_numbers answers.Again = []
 object_answer_numbers (answers.Readable ready reading stamp) = reading ∷ stamp ∷ []
 object_answer_numbers other = []
 
+-- the numbers of an answer to a call that takes a base off line or on line again, and of another those of an object's call
+abbrev pub shift_answer_numbers : Answer → List ℕ
+shift_answer_numbers (answers.Offline moved stamp) = moved ∷ stamp ∷ []
+shift_answer_numbers (answers.OfflineBusy moved timer generation) = moved ∷ timer ∷ generation ∷ []
+shift_answer_numbers (answers.OfflineMore moved) = moved ∷ []
+shift_answer_numbers (answers.OfflineSpent moved timer stamp) = moved ∷ timer ∷ stamp ∷ []
+shift_answer_numbers (answers.Already stamp) = stamp ∷ []
+shift_answer_numbers (answers.HeirOffline stamp) = stamp ∷ []
+shift_answer_numbers (answers.BaseSpent stamp) = stamp ∷ []
+shift_answer_numbers (answers.Online stamp) = stamp ∷ []
+shift_answer_numbers other = object_answer_numbers other
+
 -- the numbers of an answer
 abbrev pub answer_numbers : Answer → List ℕ
 answer_numbers (answers.Started generation base was_armed) = generation ∷ base ∷ []
@@ -55,7 +74,7 @@ answer_numbers (answers.Busy reading fired timer generation) = length fired ∷ 
 answer_numbers (answers.Clock stamp) = stamp ∷ []
 answer_numbers (answers.Range would_be) = would_be ∷ []
 answer_numbers answers.ClockSpent = []
-answer_numbers other = object_answer_numbers other
+answer_numbers other = shift_answer_numbers other
 
 -- the generation that a call armed, or 0
 abbrev pub armed_number : Armed → ℕ
@@ -81,6 +100,7 @@ object_entry_numbers other = rearming_numbers other
 abbrev pub numbers_of : RecordLine → List ℕ
 numbers_of Heading = []
 numbers_of (OfClock number w) = number ∷ w.label.lane ∷ w.label.call ∷ write_ns w.write ∷ w.mono ∷ w.real ∷ w.boot ∷ w.changes ∷ []
+numbers_of (OfBase base number line) = base ∷ number ∷ line.label.lane ∷ line.label.call ∷ shift_numbers line.event
 numbers_of (OfTimer timer number label entry) = timer ∷ number ∷ label.lane ∷ label.call ∷ entry_numbers entry
 numbers_of (OfLook timer number look) = timer ∷ number ∷ look.label.lane ∷ look.label.call ∷ told_numbers look.reply
 numbers_of (OfObject object number label entry) = object ∷ number ∷ label.lane ∷ label.call ∷ object_entry_numbers entry

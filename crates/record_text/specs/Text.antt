@@ -5,6 +5,9 @@ use Rattle.clock_model.specs.declared.write.Write.{Write}
 use Rattle.clock_model.specs.declared.write.Write.TheVariants as writes
 use Rattle.record_text.specs.declared.record.Label.{Label}
 use Rattle.record_text.specs.declared.record.ClockLine.{ClockLine}
+use Rattle.record_text.specs.declared.record.BaseLine.{BaseLine}
+use Rattle.seq_timer.specs.declared.standing.BaseEvent.{BaseEvent}
+use Rattle.seq_timer.specs.declared.standing.BaseEvent.TheVariants as shifts
 use Rattle.seq_timer.specs.declared.event.EventBy.{EventBy}
 use Rattle.seq_timer.specs.declared.event.EventBy.TheVariants as events
 use Rattle.seq_timer.specs.declared.event.Reply.{Reply}
@@ -30,10 +33,12 @@ use Rattle.record_text.specs.declared.version.Version.TheVariants as versions
 use Rattle.record_text.specs.Replies.{answer_of_accept, answer_of_read, answer_of_settime}
 use Rattle.record_text.specs.Words.{clock_word, mode_word, version_word}
 
--- a line of a record's text, with the numbers that it begins with: of a write, of a timer or an object and its entry, of a lane and its call
+-- a line of a record's text, with the numbers that it begins with: of a write; of a base, a timer or an object, and its entry; of a lane and
+-- its call
 pub data RecordLine : Type 0 where
   Heading : RecordLine
   OfClock : (number : ℕ) (written : ClockLine) → RecordLine
+  OfBase : (base number : ℕ) (line : BaseLine) → RecordLine
   OfTimer : (timer number : ℕ) (label : Label) (entry : Entry) → RecordLine
   OfLook : (timer number : ℕ) (look : Look) → RecordLine
   OfObject : (object number : ℕ) (label : Label) (entry : ObjectEntry) → RecordLine
@@ -53,6 +58,10 @@ lines_in_lists lines first list xss = numbered (λ l xs. numbered (lines l) firs
 -- the lines of the clock's writes, numbered on from a number
 abbrev pub clock_lines : ℕ → List ClockLine → List RecordLine
 clock_lines number ws = numbered (λ n w. OfClock n w ∷ []) number ws
+
+-- the lines of the bases, numbered on from a number; the entries of each are numbered from 1
+abbrev pub base_lines : ℕ → List (List BaseLine) → List RecordLine
+base_lines base lists = lines_in_lists (λ b number line. OfBase b number line ∷ []) 1 base lists
 
 -- the line of an entry, and after it those of what callbacks were told there
 abbrev pub entry_and_looks : ℕ → ℕ → TimerLine → List RecordLine
@@ -74,9 +83,13 @@ object_lines object oss = lines_in_lists object_entry_and_skips 1 object oss
 abbrev pub lane_lines : ℕ → List (List Answer) → List RecordLine
 lane_lines lane lanes = lines_in_lists (λ l call answer. OfCall l call answer ∷ []) 0 lane lanes
 
+-- the lines of a record from those of the timers on
+abbrev pub lines_from_timers : RunRecord → List RecordLine
+lines_from_timers r = timer_lines 0 r.timers ++ (object_lines 0 r.objects ++ (lane_lines 0 r.answers ++ End ∷ []))
+
 -- the lines of a record
 abbrev pub record_lines : RunRecord → List RecordLine
-record_lines r = Heading ∷ (clock_lines 1 r.clock ++ (timer_lines 0 r.timers ++ (object_lines 0 r.objects ++ (lane_lines 0 r.answers ++ End ∷ []))))
+record_lines r = Heading ∷ (clock_lines 1 r.clock ++ (base_lines 0 r.bases ++ lines_from_timers r))
 
 -- 1 where a test holds, else 0
 abbrev pub flag : Bool → List ℕ
@@ -93,6 +106,11 @@ abbrev pub write_ns : Write → ℕ
 write_ns (writes.Advance by) = by
 write_ns (writes.Set to) = to
 write_ns (writes.Suspend by) = by
+
+-- the words of what happened to a base
+abbrev pub shift_words : BaseEvent → List (List ℕ)
+shift_words (shifts.Offline heir) = codes "offline" ∷ decimal heir ∷ []
+shift_words shifts.Online = codes "online" ∷ []
 
 -- whether a callback asked for a restart
 abbrev pub restart_word : Bool → List ℕ
@@ -199,6 +217,18 @@ object_answer_words answers.Again = codes "again" ∷ []
 object_answer_words (answers.Readable ready reading stamp) = codes "readable" ∷ flag ready ∷ decimal reading ∷ decimal stamp ∷ []
 object_answer_words other = []
 
+-- the words of an answer to a call that takes a base off line or on line again, and of another those of an object's call
+abbrev pub shift_answer_words : Answer → List (List ℕ)
+shift_answer_words (answers.Offline moved stamp) = codes "off" ∷ decimal moved ∷ decimal stamp ∷ []
+shift_answer_words (answers.OfflineBusy moved timer generation) = codes "busy" ∷ decimal moved ∷ decimal timer ∷ decimal generation ∷ []
+shift_answer_words (answers.OfflineMore moved) = codes "more" ∷ decimal moved ∷ []
+shift_answer_words (answers.OfflineSpent moved timer stamp) = codes "spent" ∷ decimal moved ∷ decimal timer ∷ decimal stamp ∷ []
+shift_answer_words (answers.Already stamp) = codes "already" ∷ decimal stamp ∷ []
+shift_answer_words (answers.HeirOffline stamp) = codes "heiroff" ∷ decimal stamp ∷ []
+shift_answer_words (answers.BaseSpent stamp) = codes "basespent" ∷ decimal stamp ∷ []
+shift_answer_words (answers.Online stamp) = codes "on" ∷ decimal stamp ∷ []
+shift_answer_words other = object_answer_words other
+
 -- the words of an answer
 abbrev pub answer_words : Answer → List (List ℕ)
 answer_words (answers.Started generation base was_armed) = codes "started" ∷ decimal generation ∷ decimal base ∷ flag was_armed ∷ []
@@ -215,7 +245,7 @@ answer_words (answers.Busy reading fired timer generation) =
 answer_words (answers.Clock stamp) = codes "clock" ∷ decimal stamp ∷ []
 answer_words (answers.Range would_be) = codes "range" ∷ decimal would_be ∷ []
 answer_words answers.ClockSpent = codes "clockspent" ∷ []
-answer_words other = object_answer_words other
+answer_words other = shift_answer_words other
 
 -- the words of an entry of a call that arms an expired timer again, and none of another
 abbrev pub rearming_words : ObjectEntry → List (List ℕ)
@@ -237,6 +267,8 @@ line_words version Heading = codes "record" ∷ version_word version ∷ []
 line_words version (OfClock number w) =
     codes "clock" ∷ decimal number ∷ decimal w.label.lane ∷ decimal w.label.call ∷ write_name w.write ∷ decimal
     (write_ns w.write) ∷ decimal w.mono ∷ decimal w.real ∷ decimal w.boot ∷ decimal w.changes ∷ []
+line_words version (OfBase base number line) =
+    codes "base" ∷ decimal base ∷ decimal number ∷ decimal line.label.lane ∷ decimal line.label.call ∷ shift_words line.event
 line_words version (OfTimer timer number label entry) =
     codes "timer" ∷ decimal timer ∷ decimal number ∷ decimal label.lane ∷ decimal label.call ∷ entry_words version entry
 line_words version (OfLook timer number look) =

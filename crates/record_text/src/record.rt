@@ -5,7 +5,7 @@ ghost use Rattle.record_text.specs.Replies.{answer_of_accept, answer_of_read, an
 use crate::item_list::ItemList;
 use crate::version::Version;
 use clock_model::Write;
-use seq_timer::{EventBy, Reply};
+use seq_timer::{BaseEvent, EventBy, Reply};
 
 /// The call that made a line: its lane, and its place among that lane's calls, from 0.
 #[derive(Clone, Copy, Debug, PartialEq, Eq)]
@@ -23,6 +23,13 @@ pub struct ClockLine {
     pub real: u64,
     pub boot: u64,
     pub changes: u64,
+}
+
+/// An entry of a base's history: it was taken off line, or is on line again.
+#[derive(Clone, Copy, Debug, PartialEq, Eq)]
+pub struct BaseLine {
+    pub label: Label,
+    pub event: BaseEvent,
 }
 
 /// An entry of a timer's history as its line shows it: the event, which names its reading by the stamp, and its reply. Of version 1 a line shows
@@ -285,14 +292,52 @@ pub enum Answer {
         reading: u64,
         stamp: u64,
     },
+    /// The base is off line, and so many timers were moved to its heir.
+    Offline {
+        moved: u64,
+        stamp: u64,
+    },
+    /// The function of this timer runs on the base, so no more timers were moved.
+    OfflineBusy {
+        moved: u64,
+        timer: u32,
+        generation: u64,
+    },
+    /// As many timers were moved as the call may move, and some are left.
+    OfflineMore {
+        moved: u64,
+    },
+    /// The timer that is next to be moved has so many entries that it isn't moved.
+    OfflineSpent {
+        moved: u64,
+        timer: u32,
+        stamp: u64,
+    },
+    /// The base is off line, or on line, as the call would have it.
+    Already {
+        stamp: u64,
+    },
+    /// The base that would take the timers is off line itself.
+    HeirOffline {
+        stamp: u64,
+    },
+    /// The base has so many entries that it isn't taken off line any more.
+    BaseSpent {
+        stamp: u64,
+    },
+    /// The base is on line.
+    Online {
+        stamp: u64,
+    },
 }
 
-/// What a run leaves: the clock's writes, each timer's history, each object's history, and each lane's answers. There is
-/// a list of objects' lines for each timer, which stays empty for a raw timer. Its text goes by its version.
+/// What a run leaves: the clock's writes, each base's history, each timer's history, each object's history, and each lane's answers.
+/// There is a list of objects' lines for each timer, which stays empty for a raw timer. Its text goes by its version.
 #[derive(Drop)]
 pub struct RunRecord {
     pub version: Version,
     pub clock: ItemList<ClockLine>,
+    pub bases: ItemList<ItemList<BaseLine>>,
     pub timers: ItemList<ItemList<TimerLine>>,
     pub objects: ItemList<ItemList<ObjectLine>>,
     pub answers: ItemList<ItemList<Answer>>,

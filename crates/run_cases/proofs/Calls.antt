@@ -15,11 +15,12 @@ use Rattle.run_history.specs.Told.{object_called, object_stamp_in, object_steps_
 use Rattle.run_history.specs.Histories.{clock_labels, lines_of_timer}
 use Rattle.run_history.specs.Objects.{lines_of_object}
 use Rattle.run_history.specs.Order.{CallInRound, NeverFall}
-use Rattle.run_history.specs.Calls.{Does}
+use Rattle.run_history.specs.Calls.{AllKeepExpiries, Does}
 use Rattle.run_history.specs.Witnesses.{Witness, labels}
 use Rattle.run_history.specs.Fits.{FitsLane}
 use Rattle.run_history.specs.Traces.{all_entered, HasTraced, own_moves}
-use Rattle.run_history.specs.Truths.{AreTrue, IsClaimSpan, AnswerHolds}
+use Rattle.run_history.specs.Truths.{AreTrue, IsClaimSpan, AnswerHolds, WasOffLine}
+use Rattle.run_history.proofs.OthersMade.{keep_none}
 use Rattle.run_cases.proofs.Witnesses.{Along, everywhere, each_list}
 use Rattle.run_cases.proofs.Tests.{all_true, are_made, are_plain, plain_pass, is_point, never_fall, IsPast, made_past, other, point_passes, steps_pass, upto}
 
@@ -45,7 +46,9 @@ is_placed w c clock moves =
 -- what else makes a call fit; the lane had seen so many entries of each object before it, and has seen so many after it
 pub record IsRight (w : Witness) (c : Label) (call : Call) (answer : Answer) (before after : ℕ) : Type 0 where
   pub traced : HasTraced w c (w.traces c).actions
-  pub does : Does w.script (w.traces c).at call answer (w.traces c).fired (w.traces c).actions
+  pub does : Does (WasOffLine w (w.traces c).first (w.traces c).last) w.script (w.traces c).at call answer (w.traces c).fired (w.traces c).moved
+      (w.traces c).actions
+  pub keeps : AllKeepExpiries w.script w.run call (w.traces c).moved
   pub truth : AreTrue w c (w.traces c).first (w.traces c).first [] (w.traces c).actions (w.traces c).last
   pub expiries : AllByRecursion (λ f. IsClaimSpan w f f.body) (w.traces c).fired
   pub seen : AnswerHolds w (w.traces c).first (w.traces c).last c (w.traces c).at (w.traces c).actions call answer
@@ -90,6 +93,7 @@ lane_fits w lane index clock moves objects (p ∷ ps) (a ∷ more) placed right 
       record {
         traced = right.1.traced;
         does = right.1.does;
+        keeps = right.1.keeps;
         reading = point_passes w.script c 0 t.at (clock_labels w.run) times.0;
         begins = point_passes w.script c 0 t.first (labels w) ends.0;
         ends = point_passes w.script c (length (all_entered t.actions)) t.last (labels w) ends.1;
@@ -129,19 +133,20 @@ is_said w c call before after =
     && (is_on (length w.run.objects) (object_called call) && nat_le before after)
 
 -- law: so a call is right
-pub right : {w : Witness} {c : Label} {call : Call} {answer : Answer} {before after : ℕ} → is_said w c call before after ≡ true
+pub right_moving : {w : Witness} {c : Label} {call : Call} {answer : Answer} {before after : ℕ} → is_said w c call before after ≡ true
     → own (λ line. line.label) (λ line. line.write) c 1 w.run.clock ≡ wrote (w.traces c).actions
     → own_moves c w.moves ≡ all_entered (w.traces c).actions
     → Along (λ t. own_looks c 1 (lines_of_timer w.run t) ≡ looked t (w.traces c).actions) 0 w.run.timers
     → Along (λ i. own (λ line. line.label) (λ line. line.entry) c 1 (lines_of_object w.run i) ≡ made i (w.traces c).actions) 0 w.run.objects
     → Along (λ i. NeverFall before (object_steps_on i call answer (w.traces c).actions) after) 0 w.run.objects
-    → Does w.script (w.traces c).at call answer (w.traces c).fired (w.traces c).actions
+    → Does (WasOffLine w (w.traces c).first (w.traces c).last) w.script (w.traces c).at call answer (w.traces c).fired (w.traces c).moved (w.traces c).actions
+    → AllKeepExpiries w.script w.run call (w.traces c).moved
     → (are_plain w c (w.traces c).first [] (w.traces c).actions (w.traces c).last ≡ true)
     ⊎ AreTrue w c (w.traces c).first (w.traces c).first [] (w.traces c).actions (w.traces c).last
     → AllByRecursion (λ f. IsClaimSpan w f f.body) (w.traces c).fired
     → AnswerHolds w (w.traces c).first (w.traces c).last c (w.traces c).at (w.traces c).actions call answer
     → IsRight w c call answer before after
-right {w} {c} {call} {answer} {before} {after} said clock timers looks objects steps does truth expiries seen =
+right_moving {w} {c} {call} {answer} {before} {after} said clock moves looks objects steps does keeps truth expiries seen =
     let r = w.run in
     let ds = (w.traces c).actions in
     let parts = and_parts (list_all is_unrefused r.objects && are_made (length r.timers) (length r.objects) ds)
@@ -152,7 +157,7 @@ right {w} {c} {call} {answer} {before} {after} said clock timers looks objects s
     record {
       traced = record {
         clock = clock;
-        timers = timers;
+        moves = moves;
         looks = everywhere (λ t. own_looks c 1 (lines_of_timer r t) ≡ looked t ds) r.timers looks (λ t more.
             ap (own_looks c 1) (get_or_past r.timers t [] more) ∙ sym ((past t).looked more));
         objects = everywhere (λ i. own (λ line. line.label) (λ line. line.entry) c 1 (lines_of_object r i) ≡ made i ds) r.objects objects (λ i more.
@@ -163,6 +168,7 @@ right {w} {c} {call} {answer} {before} {after} said clock timers looks objects s
             (subst (IsPermutation []) (sym (past i).skipped) (IsPermutation-refl []));
       };
       does = does;
+      keeps = keeps;
       truth = ⊎_elim (plain_pass w c (w.traces c).first (w.traces c).first [] ds (w.traces c).last) (λ is. is) truth;
       expiries = expiries;
       seen = seen;
@@ -171,3 +177,24 @@ right {w} {c} {call} {answer} {before} {after} said clock timers looks objects s
           (subst (λ ns. NeverFall before ns after) (sym (no_stamps (length r.objects) i (object_called call) (object_stamp_in answer) called.0 more))
           (upto before after called.1)));
     }
+
+-- law: the same of a call that moved no timer off a base
+pub right : {w : Witness} {c : Label} {call : Call} {answer : Answer} {before after : ℕ}
+    → (nat_eq (length (w.traces c).moved) 0 && is_said w c call before after) ≡ true
+    → own (λ line. line.label) (λ line. line.write) c 1 w.run.clock ≡ wrote (w.traces c).actions
+    → own_moves c w.moves ≡ all_entered (w.traces c).actions
+    → Along (λ t. own_looks c 1 (lines_of_timer w.run t) ≡ looked t (w.traces c).actions) 0 w.run.timers
+    → Along (λ i. own (λ line. line.label) (λ line. line.entry) c 1 (lines_of_object w.run i) ≡ made i (w.traces c).actions) 0 w.run.objects
+    → Along (λ i. NeverFall before (object_steps_on i call answer (w.traces c).actions) after) 0 w.run.objects
+    → Does (WasOffLine w (w.traces c).first (w.traces c).last) w.script (w.traces c).at call answer (w.traces c).fired (w.traces c).moved (w.traces c).actions
+    → (are_plain w c (w.traces c).first [] (w.traces c).actions (w.traces c).last ≡ true)
+    ⊎ AreTrue w c (w.traces c).first (w.traces c).first [] (w.traces c).actions (w.traces c).last
+    → AllByRecursion (λ f. IsClaimSpan w f f.body) (w.traces c).fired
+    → AnswerHolds w (w.traces c).first (w.traces c).last c (w.traces c).at (w.traces c).actions call answer
+    → IsRight w c call answer before after
+right {w} {c} {call} {answer} {before} {after} said clock moves looks objects steps does truth expiries seen =
+    let moved = (w.traces c).moved in
+    let parts = and_parts (nat_eq (length moved) 0) (is_said w c call before after) said in
+    right_moving parts.1 clock moves looks objects steps does
+    (subst (AllKeepExpiries w.script w.run call) (sym (nil_from_length moved (eqb-true (length moved) 0 parts.0))) (keep_none w.script w.run call))
+    truth expiries seen

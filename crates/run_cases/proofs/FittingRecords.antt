@@ -1,5 +1,5 @@
 -- The records that fit: a witness for each, and what makes it fit.
-use Rattle.std.proofs.Common.{◌≡◌, ℕ, true, false, [], ◌∷◌, List, None, Some, get_or, arith, refl, inl, inr}
+use Rattle.std.proofs.Common.{◌≡◌, ℕ, true, false, [], ◌∷◌, List, None, get_or, arith, refl, inl, inr}
 use Rattle.ktime.specs.Times.{passed}
 use Rattle.ktime.specs.declared.clock_id.ClockId.{ClockId}
 use Rattle.ktime.specs.declared.clock_id.ClockId.TheVariants as clocks
@@ -23,7 +23,7 @@ use Rattle.run_history.specs.Fits.{Fits}
 use Rattle.run_cases.specs.Fitting.{accept_entry, accepted_record, accepted_script, beside, beside_script, cancelled_record, expired_lines, idle_record, idle_script, kept_start, late_record, moved_record, moved_script, moved_start, rearming_start, none_entry, running_record, set_entry, told_record, told_script, trigger_entry, early_record, early_script, waiting_record, waiting_script, contexts_record, contexts_script}
 use Rattle.run_cases.specs.Lines.{at, slack_entry, start, cancel_entry, out_entry}
 use Rattle.run_cases.proofs.Calls.{are_placed, IsRight, right}
-use Rattle.run_cases.proofs.Witnesses.{armed_as, armed_by, witness_by, did, done_by, fired, next, none_then, stopped_by, ran, step, three, two}
+use Rattle.run_cases.proofs.Witnesses.{armed_as, armed_by, witness_by, did, done_by, fired, next, none_then, stays, stopped_by, ran, step, three, two}
 use Rattle.run_cases.proofs.Small.{fits_by}
 use Rattle.run_cases.proofs.Tests.{le, lt, point_passes}
 
@@ -43,13 +43,14 @@ idle_fits = fits_by idle_witness (record {
   passed = refl;
   writes = (record { counted = lt refl; timely = le refl }, record { mono = refl; real = refl; boot = refl; changes = refl }, tt);
   all = (refl, tt);
+  bases = (refl, tt);
   history = two (step refl (inr refl, inl (lt refl)) refl tt)
       (two (step refl (refl, refl, refl, refl, le refl) refl (refl, refl)) (two (step refl refl refl tt) tt));
   object_histories = (refl, tt);
   object_spans = (tt, tt);
   placed = (refl, tt);
   calls = two (
-      next 0 (right refl refl refl (refl, tt) (refl, tt) (le refl, tt) (armed_by 1 100, refl, refl, refl, refl, tt) (inl refl) tt tt)
+      next 0 (right refl refl refl (refl, tt) (refl, tt) (le refl, tt) (armed_by 1 100, refl, refl, refl, refl, stays refl refl refl) (inl refl) tt tt)
       (next 0 (right refl refl refl (refl, tt) (refl, tt) (le refl, tt) refl (inl refl) tt tt)
       (next 0 (right refl refl refl (refl, tt) (refl, tt) (le refl, tt)
       (record { one_reading = refl; claimed = refl; done = refl; contexts = (refl, tt); bodies = ((refl, refl), tt) }, lt refl)
@@ -81,12 +82,13 @@ told_fits = fits_by told_witness (record {
   passed = refl;
   writes = tt;
   all = (refl, tt);
+  bases = (refl, tt);
   history = at_once;
   object_histories = (refl, tt);
   object_spans = (tt, tt);
   placed = (refl, tt);
   calls = two (
-      next 0 (right refl refl refl (refl, tt) (refl, tt) (le refl, tt) (armed_by 1 0, refl, refl, refl, refl, tt) (inl refl) tt tt)
+      next 0 (right refl refl refl (refl, tt) (refl, tt) (le refl, tt) (armed_by 1 0, refl, refl, refl, refl, stays refl refl refl) (inl refl) tt tt)
       (next 0 (right refl refl refl (refl, tt) (refl, tt) (le refl, tt)
       (record { one_reading = refl; claimed = refl; done = refl; contexts = (refl, tt); bodies = (((2, refl), refl), tt) }, refl)
       (inr (
@@ -119,20 +121,46 @@ moved_fits = fits_by moved_witness (record {
   passed = refl;
   writes = tt;
   all = (refl, tt);
+  bases = (refl, (refl, tt));
   history = two (step refl (inr refl, inl (lt refl)) refl tt) (two (step refl (refl, refl, refl, refl, le refl) refl (refl, refl))
       (two (step refl (inl refl, inl (lt refl)) refl tt) (two (step refl refl refl tt)
-      (two (step refl (refl, refl, (λ e. omega (arith, e)), lt refl) refl (lt refl)) (two (step refl (inr refl, inl (lt refl)) refl tt) tt)))));
+      (two (step refl (refl, (λ e. omega (arith, e)), refl) refl (lt refl)) (two (step refl (inr refl, inl (lt refl)) refl tt) tt)))));
   object_histories = (refl, tt);
   object_spans = (tt, tt);
   placed = (refl, tt);
   calls = two (
-      next 0 (right refl refl refl (refl, tt) (refl, tt) (le refl, tt) (armed_by 1 0, refl, refl, refl, refl, tt) (inl refl) tt tt)
-      (next 0 (right refl refl refl (refl, tt) (refl, tt) (le refl, tt)
-      (record { one_reading = refl; claimed = refl; done = refl; contexts = (refl, tt); bodies = ((inl (armed_by 3 50, refl), refl), tt) }, refl)
+      next 0 (right refl refl refl (refl, tt) (refl, tt) (le refl, tt) (armed_by 1 0, refl, refl, refl, refl, stays refl refl refl) (inl refl) tt tt)
+      (next 0 (right refl refl refl (refl, tt) (refl, tt) (le refl, tt) (
+        record {
+          one_reading = refl;
+          claimed = refl;
+          done = refl;
+          contexts = (refl, tt);
+          bodies = (
+            (
+              inl (
+                record
+                    (armed_by 3 50) { asked = 1 },
+                refl,
+                stays refl refl refl,
+              ),
+              refl,
+            ),
+            tt,
+          );
+        },
+        refl,
+      )
       (inl refl) (tt, tt) tt)
       (next 0 (right refl refl refl (refl, tt) (refl, tt) (le refl, tt) refl (inl refl) tt (record { stamp = refl; holds = refl }))
-      (next 0 (right refl refl refl (refl, tt) (refl, tt) (le refl, tt)
-      (record (armed_as 6 1 70 70) { out = Some (5, true) }, refl, refl, refl, refl, refl) (inl refl) tt tt) tt)))
+      (next 0 (right refl refl refl (refl, tt) (refl, tt) (le refl, tt) (
+        record (armed_as 6 1 70 70) { outs = record { base = 1; number = 5; was_armed = true } ∷ [] },
+        refl,
+        refl,
+        refl,
+        refl,
+        record { below = le refl; next = (refl, tt); way = (([], refl), refl, tt) },
+      ) (inl refl) tt tt) tt)))
       ) tt;
 })
 
@@ -155,12 +183,13 @@ cancelled_fits = fits_by cancelled_witness (record {
   passed = refl;
   writes = tt;
   all = (refl, tt);
+  bases = (refl, tt);
   history = two (step refl (inr refl, inl (lt refl)) refl tt) (two (step refl (refl, refl, refl) refl tt) tt);
   object_histories = (refl, tt);
   object_spans = (tt, tt);
   placed = (refl, (refl, tt));
   calls = two (
-      next 0 (right refl refl refl (refl, tt) (refl, tt) (le refl, tt) (armed_by 1 0, refl, refl, refl, refl, tt) (inl refl) tt tt)
+      next 0 (right refl refl refl (refl, tt) (refl, tt) (le refl, tt) (armed_by 1 0, refl, refl, refl, refl, stays refl refl refl) (inl refl) tt tt)
       (next 0 (right refl refl refl (refl, tt) (refl, tt) (le refl, tt) (2, refl) (inl refl) tt tt) tt)
       ) (two (
       next 0 (right refl refl refl (refl, tt) (refl, tt) (le refl, tt)
@@ -183,12 +212,14 @@ expired_fits told moment placed cancel = fits_by (expired_witness told moment) (
   passed = refl;
   writes = tt;
   all = (refl, tt);
+  bases = (refl, tt);
   history = at_once;
   object_histories = (refl, tt);
   object_spans = (tt, tt);
   placed = (placed, (refl, tt));
   calls = two (
-      next 0 (right refl refl refl (refl, tt) (refl, tt) (le refl, tt) (armed_by 1 0, refl, refl, refl, refl, tt) (inl refl) tt tt) (next 0 cancel tt)
+      next 0 (right refl refl refl (refl, tt) (refl, tt) (le refl, tt) (armed_by 1 0, refl, refl, refl, refl, stays refl refl refl) (inl refl) tt tt)
+      (next 0 cancel tt)
       ) (two (
       next 0 (right refl refl refl (refl, tt) (refl, tt) (le refl, tt)
       (record { one_reading = refl; claimed = refl; done = refl; contexts = (refl, tt); bodies = ((refl, refl), tt) }, lt refl) (inl refl) (tt, tt)
@@ -231,6 +262,7 @@ accepted_fits = fits_by accepted_witness (record {
   writes = three (record { counted = lt refl; timely = le refl }) (record { mono = refl; real = refl; boot = refl; changes = refl })
       (three (record { counted = lt refl; timely = le refl }) (record { mono = refl; real = refl; boot = refl; changes = refl }) tt);
   all = (refl, tt);
+  bases = (refl, tt);
   history = two (step refl (inr refl, inl (lt refl)) refl tt) (two (step refl (refl, refl, refl, refl, le refl) refl (refl, refl))
       (two (step refl refl refl tt) (two (step refl (inr refl, inl (lt refl)) refl tt) tt)));
   object_histories = two (two (refl, (refl, (refl, (refl, tt)))) (three (lt refl, refl, le refl, le refl, (λ e. absurd (cc), λ e. absurd (cc))) refl
@@ -244,7 +276,7 @@ accepted_fits = fits_by accepted_witness (record {
         arm = armings.Generation 1;
         start = Entered 0 1 (start modes.Abs 100 100) ∷ [];
         number = 1;
-        arms = (armed_by 1 100, refl, refl, tt);
+        arms = (armed_by 1 100, refl, refl, stays refl refl refl);
         done = refl;
       }) (inr (0, le refl, tt, (1, le refl, (point_passes _ _ _ _ _ refl, (refl, (refl, refl, λ e. refl)), refl), le refl))) tt
       (record { armed = refl; running = refl; moving = refl }))
@@ -260,7 +292,7 @@ accepted_fits = fits_by accepted_witness (record {
         start = Entered 0 4 rearming_start ∷ [];
         number = 3;
         timely = le refl;
-        arms = (armed_by 4 140, refl, refl, tt);
+        arms = (armed_by 4 140, refl, refl, stays refl refl refl);
         done = refl;
       }) (inr (3, le refl, tt, (4, le refl, (point_passes _ _ _ _ _ refl, (refl, (refl, refl, λ e. refl)), refl), le refl))) tt tt)
       (next 4 (right refl refl refl (refl, tt) (refl, tt) ((le refl, le refl), tt)
@@ -285,6 +317,7 @@ early_fits = fits_by early_witness (record {
   passed = refl;
   writes = tt;
   all = (refl, tt);
+  bases = (refl, tt);
   history = two (step refl (inr refl, inl (lt refl)) refl tt)
       (two (step refl (refl, refl, refl, refl, le refl) refl (refl, refl)) (two (step refl refl refl tt) tt));
   object_histories = (refl, tt);
@@ -292,7 +325,7 @@ early_fits = fits_by early_witness (record {
   placed = (refl, tt);
   calls = two (
       next 0 (right refl refl refl (refl, tt) (refl, tt) (le refl, tt)
-      (armed_as 1 0 0 100, refl, refl, refl, refl, tt) (inl refl) tt tt)
+      (armed_as 1 0 0 100, refl, refl, refl, refl, stays refl refl refl) (inl refl) tt tt)
       (next 0 (right refl refl refl (refl, tt) (refl, tt) (le refl, tt)
       (record { one_reading = refl; claimed = refl; done = refl; contexts = (refl, tt); bodies = ((refl, refl), tt) }, lt refl)
       (inl refl) (tt, tt) (done_by early_witness contexts.Hard 0 0 3 refl refl (refl, tt) (λ clock. (refl, tt)))) tt)
@@ -328,15 +361,16 @@ waiting_fits = fits_by waiting_witness (record {
   passed = refl;
   writes = tt;
   all = (refl, (refl, tt));
+  bases = (refl, tt);
   history = two (step refl (inr refl, inl (lt refl)) refl tt) (two (step refl (inr refl, inl (lt refl)) refl tt) tt);
   object_histories = (refl, (refl, tt));
   object_spans = (tt, (tt, tt));
   placed = (refl, tt);
   calls = two (
       next 0 (right refl refl refl (refl, (refl, tt)) (refl, (refl, tt)) (le refl, (le refl, tt))
-      (armed_as 1 0 0 100, refl, refl, refl, refl, tt) (inl refl) tt tt)
+      (armed_as 1 0 0 100, refl, refl, refl, refl, stays refl refl refl) (inl refl) tt tt)
       (next 0 (right refl refl refl (refl, (refl, tt)) (refl, (refl, tt)) (le refl, (le refl, tt))
-      (armed_by 1 50, refl, refl, refl, refl, tt) (inl refl) tt tt)
+      (armed_by 1 50, refl, refl, refl, refl, stays refl refl refl) (inl refl) tt tt)
       (next 0 (right refl refl refl (refl, (refl, tt)) (refl, (refl, tt)) (le refl, (le refl, tt))
       (record { one_reading = refl; claimed = refl; done = refl; contexts = tt; bodies = tt }, lt refl)
       (inl refl) tt (stopped_by waiting_witness contexts.Hard 0 0 2 refl refl (refl, (refl, tt)) waiting_stopped)) tt))
@@ -359,6 +393,7 @@ contexts_fit = fits_by contexts_witness (record {
   passed = refl;
   writes = tt;
   all = (refl, (refl, tt));
+  bases = (refl, tt);
   history = two (step refl (inr refl, inl (lt refl)) refl tt) (two (step refl (inr refl, inl (lt refl)) refl tt)
       (two (step refl (refl, refl, refl, refl, le refl) refl (refl, refl))
       (two (step refl refl refl tt) (two (step refl (refl, refl, refl, refl, le refl) refl (refl, refl)) (two (step refl refl refl tt) tt)))));
@@ -367,9 +402,9 @@ contexts_fit = fits_by contexts_witness (record {
   placed = (refl, tt);
   calls = two (
       next 0 (right refl refl refl (refl, (refl, tt)) (refl, (refl, tt)) (le refl, (le refl, tt))
-      (armed_by 1 0, refl, refl, refl, refl, tt) (inl refl) tt tt)
+      (armed_by 1 0, refl, refl, refl, refl, stays refl refl refl) (inl refl) tt tt)
       (next 0 (right refl refl refl (refl, (refl, tt)) (refl, (refl, tt)) (le refl, (le refl, tt))
-      (armed_by 1 0, refl, refl, refl, refl, tt) (inl refl) tt tt)
+      (armed_by 1 0, refl, refl, refl, refl, stays refl refl refl) (inl refl) tt tt)
       (next 0 (right refl refl refl (refl, (refl, tt)) (refl, (refl, tt)) (le refl, (le refl, tt))
       (record { one_reading = refl; claimed = refl; done = refl; contexts = (refl, tt); bodies = ((refl, refl), tt) }, lt refl)
       (inl refl) (tt, tt) (done_by contexts_witness contexts.Hard 0 0 4 refl refl (refl, (refl, tt)) (λ clock. (refl, (refl, tt)))))

@@ -1,6 +1,7 @@
 pub mod Calls
 pub mod Witnesses
 pub mod FittingRecords
+pub mod OffLine
 pub mod Orders
 pub mod Settimes
 pub mod Small

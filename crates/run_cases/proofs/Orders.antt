@@ -1,20 +1,20 @@
 -- What a record that fits has: a witness of its script, and, where calls in order made its entries, one order of them alone.
-use Rattle.std.proofs.Common.{◌≡◌, ◌<◌, ◌≤◌, ◌&&◌, ℕ, zero, suc, Bool, true, false, if◌then◌else◌, nat_eq, nat_lt, List, [], ◌∷◌, Some, length, map, take, drop, arith, refl, sym, ap, ◌∙◌, subst}
+use Rattle.std.proofs.Common.{◌≡◌, ◌<◌, ◌≤◌, ◌⊎◌, ◌&&◌, ℕ, zero, suc, Bool, true, false, if◌then◌else◌, List, [], ◌∷◌, Some, length, map, take, drop, arith, refl, sym, ap, ◌∙◌, subst, inl, inr}
 use Rattle.std.specs.List.{AllByRecursion, list_all, slice_get}
 use Rattle.std.proofs.Math.Logic.{⊎_elim}
-use Rattle.std.proofs.lemmas.Bool.{and_parts, cases_eq, eq-eqb, false≢true, ne_eqb}
-use Rattle.std.proofs.lemmas.List.{get_or_past}
+use Rattle.std.proofs.lemmas.Bool.{and_parts, cases_Bool, false≢true}
 use Rattle.std.proofs.lemmas.Option.{same_Some}
 use Rattle.record_text.specs.declared.record.Label.{Label}
 use Rattle.record_text.specs.declared.record.RunRecord.{RunRecord}
 use Rattle.script_text.specs.declared.script.Script.{Script}
 use Rattle.run_history.specs.Actions.{also}
-use Rattle.run_history.specs.Histories.{lines_of_timer}
 use Rattle.run_history.specs.Order.{is_before, IsInOrder}
-use Rattle.run_history.specs.Witnesses.{Witness, Move, moves_from, moves_on, Trace}
+use Rattle.run_history.specs.Witnesses.{BasesList, Witness, is_owner, lines_at, Move, moves_from, moves_on, Owner, owner_of, TimersList, Trace}
 use Rattle.run_history.specs.Fits.{Fits, FitsIn}
-use Rattle.run_cases.proofs.Witnesses.{Along, everywhere, moves_by, none_on}
-use Rattle.run_cases.proofs.Tests.{all_true, other}
+use Rattle.run_history.proofs.Owners.{other_owner, owner_is, owner_itself, same_owner}
+use Rattle.run_cases.proofs.Witnesses.{Along, timers_moves}
+use Rattle.run_cases.proofs.Small.{each_owner, is_list}
+use Rattle.run_cases.proofs.Tests.{all_true}
 
 -- a witness of this script and this record
 abbrev pub witness_with : Script → RunRecord → List Move → (Label → Trace) → (ℕ → ℕ → ℕ × ℕ) → Witness
@@ -34,16 +34,16 @@ opened s r fits =
 
 -- ---- places
 
--- where a timer's move stands in the order
-pub found : (t k : ℕ) (ms : List Move) (m : Move) → slice_get (moves_on t ms) k ≡ Some m → (p : ℕ) × (slice_get ms p ≡ Some m)
-found t k [] m at = absurd (cc)
-found t k (x ∷ ms) m at =
-    elim (nat_eq x.timer t) as (λ b. slice_get (also b x (moves_on t ms)) k ≡ Some m → (p : ℕ) × (slice_get (x ∷ ms) p ≡ Some m)) [
-      | true ↦ λ at. here k at (λ k at. found t k ms m at)
-      | false ↦ λ at. let f = found t k ms m at in (suc f.0, f.1)
+-- where a list's move stands in the order
+pub found : (o : Owner) (k : ℕ) (ms : List Move) (m : Move) → slice_get (moves_on o ms) k ≡ Some m → (p : ℕ) × (slice_get ms p ≡ Some m)
+found o k [] m at = absurd (cc)
+found o k (x ∷ ms) m at =
+    elim (is_owner (owner_of x.shown) o) as (λ b. slice_get (also b x (moves_on o ms)) k ≡ Some m → (p : ℕ) × (slice_get (x ∷ ms) p ≡ Some m)) [
+      | true ↦ λ at. here k at (λ k at. found o k ms m at)
+      | false ↦ λ at. let f = found o k ms m at in (suc f.0, f.1)
     ] at
   where
-    here : (k : ℕ) → slice_get (x ∷ moves_on t ms) k ≡ Some m → ((k : ℕ) → slice_get (moves_on t ms) k ≡ Some m → (p : ℕ) × (slice_get ms p ≡ Some m))
+    here : (k : ℕ) → slice_get (x ∷ moves_on o ms) k ≡ Some m → ((k : ℕ) → slice_get (moves_on o ms) k ≡ Some m → (p : ℕ) × (slice_get ms p ≡ Some m))
         → (p : ℕ) × (slice_get (x ∷ ms) p ≡ Some m)
     here zero at further = (0, at)
     here (suc k) at further = let f = further k at in (suc f.0, f.1)
@@ -63,84 +63,103 @@ at_late P zero (suc p) (y ∷ xs) x all at more = at_late P zero p xs x all.1 at
 at_late P (suc n) zero (y ∷ xs) x all at more = absurd (omega (arith, more))
 at_late P (suc n) (suc p) (y ∷ xs) x all at more = at_late P n p xs x all at (omega (arith, more))
 
+-- two lists are one or not
+cases_owner : (a b : Owner) → (a ≡ b) ⊎ (a ≡ b → ⊥)
+cases_owner a b = ⊎_elim (λ same. inl (same_owner a b same)) (λ differ. inr (other_owner a b differ)) (cases_Bool (is_owner a b))
+
+owner_else : (a b : Owner) → (a ≡ b → ⊥) → is_owner a b ≡ false
+owner_else a b differ = ⊎_elim (λ same. absurd (differ (same_owner a b same))) (λ not. not) (cases_Bool (is_owner a b))
+
 -- ---- entries of calls that are over before the next begins have one order
 
--- of two of these moves, of different timers, the first one's call is over before the other's begins
+-- of two of these moves, of different lists, the first one's call is over before the other's begins
 abbrev pub are_apart : Script → List Move → Bool
 are_apart s [] = true
-are_apart s (n ∷ ns) = list_all (λ m. if nat_eq m.timer n.timer then true else is_before s n.line.label m.line.label) ns && are_apart s ns
+are_apart s (n ∷ ns) = list_all (λ m. if is_owner (owner_of m.shown) (owner_of n.shown) then true else is_before s n.label m.label) ns && are_apart s ns
 
--- a fact of all moves is one of a timer's first
-first_on : (P : Move → Type 0) (t : ℕ) (ms rest : List Move) (m : Move) → AllByRecursion P ms → moves_on t ms ≡ m ∷ rest → P m
-first_on P t [] rest m all is = absurd (cc)
-first_on P t (x ∷ ms) rest m all is = elim (nat_eq x.timer t) as (λ b. also b x (moves_on t ms) ≡ m ∷ rest → P m) [
+-- a fact of all moves is one of a list's first
+first_on : (P : Move → Type 0) (o : Owner) (ms rest : List Move) (m : Move) → AllByRecursion P ms → moves_on o ms ≡ m ∷ rest → P m
+first_on P o [] rest m all is = absurd (cc)
+first_on P o (x ∷ ms) rest m all is = elim (is_owner (owner_of x.shown) o) as (λ b. also b x (moves_on o ms) ≡ m ∷ rest → P m) [
   | true ↦ λ is. let same : x ≡ m = cc in subst P same all.0
-  | false ↦ λ is. first_on P t ms rest m all.1 is
+  | false ↦ λ is. first_on P o ms rest m all.1 is
 ] is
 
-own_first : (m : Move) (ms : List Move) → moves_on m.timer (m ∷ ms) ≡ m ∷ moves_on m.timer ms
-own_first m ms = ap (λ b. also b m (moves_on m.timer ms)) (eq-eqb m.timer m.timer refl)
+own_first : (m : Move) (ms : List Move) → moves_on (owner_of m.shown) (m ∷ ms) ≡ m ∷ moves_on (owner_of m.shown) ms
+own_first m ms = ap (λ b. also b m (moves_on (owner_of m.shown) ms)) (owner_itself (owner_of m.shown))
 
-of_labels : (P : Label → Type 0) (ms : List Move) → AllByRecursion P (map (λ m. m.line.label) ms) → AllByRecursion (λ m. P m.line.label) ms
+of_labels : (P : Label → Type 0) (ms : List Move) → AllByRecursion P (map (λ m. m.label) ms) → AllByRecursion (λ m. P m.label) ms
 of_labels P [] all = tt
 of_labels P (m ∷ ms) all = (all.0, of_labels P ms all.1)
 
 -- law: two orders of the same entries are one, where both are in order and one is of calls apart
-pub one_order : (s : Script) (ms ns : List Move) → ((t : ℕ) → moves_on t ms ≡ moves_on t ns) → IsInOrder s (map (λ m. m.line.label) ms)
+pub one_order : (s : Script) (ms ns : List Move) → ((o : Owner) → moves_on o ms ≡ moves_on o ns) → IsInOrder s (map (λ m. m.label) ms)
     → are_apart s ns ≡ true → ms ≡ ns
 one_order s [] [] same order apart = refl
-one_order s [] (n ∷ ns) same order apart = absurd (let is = same n.timer ∙ own_first n ns in cc)
-one_order s (m ∷ ms) [] same order apart = absurd (let is = sym (same m.timer) ∙ own_first m ms in cc)
+one_order s [] (n ∷ ns) same order apart = absurd (let is = same (owner_of n.shown) ∙ own_first n ns in cc)
+one_order s (m ∷ ms) [] same order apart = absurd (let is = sym (same (owner_of m.shown)) ∙ own_first m ms in cc)
 one_order s (m ∷ ms) (n ∷ ns) same order apart =
-    let parts = and_parts (list_all (λ x. if nat_eq x.timer n.timer then true else is_before s n.line.label x.line.label) ns)
+    let parts = and_parts (list_all (λ x. if is_owner (owner_of x.shown) (owner_of n.shown) then true else is_before s n.label x.label) ns)
     (are_apart s ns) apart in
-    ⊎_elim (λ one. equal one (λ same. one_order s ms ns same order.1 parts.1)) (λ differ. absurd (crossed differ parts.0)) (cases_eq m.timer n.timer)
+    ⊎_elim (λ one. equal one (λ same. one_order s ms ns same order.1 parts.1)) (λ differ. absurd (crossed differ parts.0)) (cases_owner (owner_of m.shown)
+    (owner_of n.shown))
   where
-    -- heads of one timer are the same
-    equal : m.timer ≡ n.timer → (((t : ℕ) → moves_on t ms ≡ moves_on t ns) → ms ≡ ns) → m ∷ ms ≡ n ∷ ns
+    -- heads of one list are the same
+    equal : owner_of m.shown ≡ owner_of n.shown → (((o : Owner) → moves_on o ms ≡ moves_on o ns) → ms ≡ ns) → m ∷ ms ≡ n ∷ ns
     equal one rest =
-        let on : m ∷ moves_on m.timer ms ≡ n ∷ moves_on m.timer ns =
-        sym (own_first m ms) ∙ same m.timer ∙ ap (λ b. also b n (moves_on m.timer ns)) (eq-eqb n.timer m.timer (sym one)) in
+        let on : m ∷ moves_on (owner_of m.shown) ms ≡ n ∷ moves_on (owner_of m.shown) ns =
+        sym (own_first m ms) ∙ same (owner_of m.shown) ∙ ap (λ b. also b n (moves_on (owner_of m.shown) ns)) (owner_is (owner_of n.shown) (owner_of m.shown)
+        (sym one)) in
         let head : m ≡ n = cc in
-        ap (λ x. x ∷ ms) head ∙ ap (λ xs. n ∷ xs) (rest (λ t. tails t head))
+        ap (λ x. x ∷ ms) head ∙ ap (λ xs. n ∷ xs) (rest (λ o. tails o head))
       where
-        tails : (t : ℕ) → m ≡ n → moves_on t ms ≡ moves_on t ns
-        tails t head = less (nat_eq n.timer t) (ap (λ (x : Move). also (nat_eq x.timer t) x (moves_on t ms)) (sym head) ∙ same t)
+        tails : (o : Owner) → m ≡ n → moves_on o ms ≡ moves_on o ns
+        tails o head = less (is_owner (owner_of n.shown) o) (ap (λ (x : Move). also (is_owner (owner_of x.shown) o) x (moves_on o ms)) (sym head) ∙ same o)
           where
-            less : (b : Bool) → also b n (moves_on t ms) ≡ also b n (moves_on t ns) → moves_on t ms ≡ moves_on t ns
+            less : (b : Bool) → also b n (moves_on o ms) ≡ also b n (moves_on o ns) → moves_on o ms ≡ moves_on o ns
             less true e = cc
             less false e = e
 
-    -- heads of two timers are in no order
-    crossed : (m.timer ≡ n.timer → ⊥) → list_all (λ x. if nat_eq x.timer n.timer then true else is_before s n.line.label x.line.label) ns ≡ true → ⊥
+    -- heads of two lists are in no order
+    crossed : (owner_of m.shown ≡ owner_of n.shown → ⊥) → list_all (λ x. if is_owner (owner_of x.shown)
+        (owner_of n.shown) then true else is_before s n.label x.label) ns ≡ true → ⊥
     crossed differ test =
-        let later : moves_on n.timer ms ≡ n ∷ moves_on n.timer ns =
-        ap (λ b. also b m (moves_on n.timer ms)) (sym (ne_eqb m.timer n.timer differ)) ∙ same n.timer ∙ own_first n ns in
-        let other : moves_on m.timer ns ≡ m ∷ moves_on m.timer ms =
-        ap (λ b. also b n (moves_on m.timer ns)) (sym (ne_eqb n.timer m.timer (λ e. differ (sym e)))) ∙ sym (same m.timer) ∙ own_first m ms in
-        let not_before : is_before s n.line.label m.line.label ≡ false =
-        first_on (λ x. is_before s x.line.label m.line.label ≡ false) n.timer ms (moves_on n.timer ns) n
-        (of_labels (λ y. is_before s y m.line.label ≡ false) ms order.0) later in
-        let before : (if nat_eq m.timer n.timer then true else is_before s n.line.label m.line.label) ≡ true =
-        first_on (λ x. (if nat_eq x.timer n.timer then true else is_before s n.line.label x.line.label) ≡ true) m.timer ns (moves_on m.timer ms) m
-        (all_true (λ x. (if nat_eq x.timer n.timer then true else is_before s n.line.label x.line.label) ≡ true)
-        (λ x. if nat_eq x.timer n.timer then true else is_before s n.line.label x.line.label) (λ x e. e) ns test) other in
-        false≢true (sym not_before ∙ subst (λ b. (if b then true else is_before s n.line.label m.line.label) ≡ true)
-        (ne_eqb m.timer n.timer differ) before)
+        let later : moves_on (owner_of n.shown) ms ≡ n ∷ moves_on (owner_of n.shown) ns =
+        ap (λ b. also b m (moves_on (owner_of n.shown) ms)) (sym (owner_else (owner_of m.shown) (owner_of n.shown) differ)) ∙ same (owner_of n.shown)
+        ∙ own_first n ns in
+        let other : moves_on (owner_of m.shown) ns ≡ m ∷ moves_on (owner_of m.shown) ms =
+        ap (λ b. also b n (moves_on (owner_of m.shown) ns)) (sym (owner_else (owner_of n.shown) (owner_of m.shown) (λ e. differ (sym e))))
+        ∙ sym (same (owner_of m.shown)) ∙ own_first m ms in
+        let not_before : is_before s n.label m.label ≡ false =
+        first_on (λ x. is_before s x.label m.label ≡ false) (owner_of n.shown) ms (moves_on (owner_of n.shown) ns) n
+        (of_labels (λ y. is_before s y m.label ≡ false) ms order.0) later in
+        let before : (if is_owner (owner_of m.shown) (owner_of n.shown) then true else is_before s n.label m.label) ≡ true =
+        first_on (λ x. (if is_owner (owner_of x.shown) (owner_of n.shown) then true else is_before s n.label x.label) ≡ true) (owner_of m.shown) ns
+        (moves_on (owner_of m.shown) ms) m
+        (all_true (λ x. (if is_owner (owner_of x.shown) (owner_of n.shown) then true else is_before s n.label x.label) ≡ true)
+        (λ x. if is_owner (owner_of x.shown) (owner_of n.shown) then true else is_before s n.label x.label) (λ x e. e) ns test) other in
+        false≢true (sym not_before ∙ subst (λ b. (if b then true else is_before s n.label m.label) ≡ true)
+        (owner_else (owner_of m.shown) (owner_of n.shown) differ) before)
 
 -- the record of a script whose entries have one order has a witness in that order
-pub in_one_order : (s : Script) (r : RunRecord) (order : List ℕ) → list_all (λ m. nat_lt m.timer (length r.timers)) (moves_by r [] order) ≡ true
-    → Along (λ t. moves_on t (moves_by r [] order) ≡ moves_from t 0 (lines_of_timer r t)) 0 r.timers → are_apart s (moves_by r [] order) ≡ true
-    → Fits s r → (traces : Label → Trace) × (spans : ℕ → ℕ → ℕ × ℕ) × FitsIn (witness_with s r (moves_by r [] order) traces spans)
-in_one_order s r order there all apart fits =
+pub in_one_order_of : (s : Script) (r : RunRecord) (ns : List Move)
+    → list_all (λ m. is_list (length r.timers) (length r.bases) (owner_of m.shown)) ns ≡ true
+    → Along (λ t. moves_on (TimersList t) ns ≡ moves_from 0 (lines_at r (TimersList t))) 0 r.timers
+    → Along (λ b. moves_on (BasesList b) ns ≡ moves_from 0 (lines_at r (BasesList b))) 0 r.bases → are_apart s ns ≡ true
+    → Fits s r → (traces : Label → Trace) × (spans : ℕ → ℕ → ℕ × ℕ) × FitsIn (witness_with s r ns traces spans)
+in_one_order_of s r ns there all bases apart fits =
     let o = opened s r fits in
-    let each : (t : ℕ) → moves_on t (moves_by r [] order) ≡ moves_from t 0 (lines_of_timer r t) =
-    everywhere (λ t. moves_on t (moves_by r [] order) ≡ moves_from t 0 (lines_of_timer r t)) r.timers all (λ t past.
-    none_on t (moves_by r [] order) (all_true (λ m. nat_eq m.timer t ≡ false) (λ m. nat_lt m.timer (length r.timers))
-    (λ m less. other m.timer (length r.timers) t less past) (moves_by r [] order) there)
-    ∙ ap (moves_from t 0) (sym (get_or_past r.timers t [] past))) in (
+    let each = each_owner r ns there all bases in (
       o.1,
       o.2,
-      subst (λ ms. FitsIn (witness_with s r ms o.1 o.2))
-          (one_order s o.0 (moves_by r [] order) (λ t. o.3.history.all t ∙ sym (each t)) o.3.order apart) o.3,
+      subst (λ ms. FitsIn (witness_with s r ms o.1 o.2)) (one_order s o.0 ns (λ x. o.3.history.all x ∙ sym (each x)) o.3.order apart) o.3,
     )
+
+-- the same, where all entries are timers' and there is one base
+pub in_one_order : (s : Script) (r : RunRecord) (order : List ℕ)
+    → list_all (λ m. is_list (length r.timers) (length r.bases) (owner_of m.shown)) (timers_moves r order) ≡ true
+    → Along (λ t. moves_on (TimersList t) (timers_moves r order) ≡ moves_from 0 (lines_at r (TimersList t))) 0 r.timers
+    → are_apart s (timers_moves r order) ≡ true
+    → Along (λ b. moves_on (BasesList b) (timers_moves r order) ≡ moves_from 0 (lines_at r (BasesList b))) 0 r.bases
+    → Fits s r → (traces : Label → Trace) × (spans : ℕ → ℕ → ℕ × ℕ) × FitsIn (witness_with s r (timers_moves r order) traces spans)
+in_one_order s r order there all apart bases fits = in_one_order_of s r (timers_moves r order) there all bases apart fits

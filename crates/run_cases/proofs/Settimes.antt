@@ -14,11 +14,11 @@ use Rattle.record_text.specs.declared.record.ObjectEntry.TheVariants as object_e
 use Rattle.record_text.specs.declared.record.ObjectEntry.{ObjectEntry}
 use Rattle.record_text.specs.declared.record.SettimeReply.TheVariants as settings
 use Rattle.script_text.specs.declared.script.Call.TheVariants as calls
-use Rattle.run_history.specs.Actions.{Action, also, Entered, Looked, Made, made, own, Skipped, Wrote}
+use Rattle.run_history.specs.Actions.{Action, also, Entered, Looked, Made, made, own, Shifted, Skipped, Wrote}
 use Rattle.run_history.specs.ObjectCalls.{cancels, nanoseconds_of}
 use Rattle.run_history.specs.Objects.{lines_of_object}
 use Rattle.run_history.specs.Order.{made_by}
-use Rattle.run_history.specs.Witnesses.{Witness, labels, timer_along}
+use Rattle.run_history.specs.Witnesses.{OfTimer, Shown, Witness, labels, timer_along}
 use Rattle.run_history.specs.Fits.{FitsCall, Seen}
 use Rattle.run_history.specs.Traces.{all_entered, own_moves}
 use Rattle.run_history.specs.Truths.{ButOfCancel, DisarmedFirst}
@@ -26,13 +26,16 @@ use Rattle.run_history.proofs.Actions.{all_entered-append, made-append}
 use Rattle.run_history.proofs.EachTimer.{heads, true_at}
 
 -- what began with a start had found the timer idle
-pub idle_first : (w : Witness) (t : ℕ) (actions : List Action) (first u number : ℕ) (entry : Entry) (rest : List (ℕ × (ℕ × Entry)))
-    → (entry.event ≡ events.Cancel → ⊥) → (u, (number, entry)) ∷ rest ≡ all_entered actions
+pub idle_first : (w : Witness) (t : ℕ) (actions : List Action) (first u number : ℕ) (entry : Entry) (rest : List (ℕ × Shown))
+    → (entry.event ≡ events.Cancel → ⊥) → (number, OfTimer u entry) ∷ rest ≡ all_entered actions
     → DisarmedFirst w t actions first → IsIdle (timer_along w first t)
 idle_first w t [] first u number entry rest other is idle = idle
 idle_first w t (Wrote n write ∷ ds) first u number entry rest other is idle = idle
 idle_first w t (Entered v n e ∷ ds) first u number entry rest other is idle =
-    by_event e.event (ap (λ (x : ℕ × (ℕ × Entry)). x.1.1.event) (heads (u, (number, entry)) (v, (n, e)) rest (all_entered ds) is)) idle
+    let first : OfTimer u entry ≡ OfTimer v e =
+    ap (λ (x : ℕ × Shown). x.1) (heads (number, OfTimer u entry) (n, OfTimer v e) rest (all_entered ds) is) in
+    let same : entry ≡ e = cc in
+    by_event e.event (ap (λ (x : Entry). x.event) same) idle
   where
     by_event : (event : EventBy ℕ) → entry.event ≡ event → ButOfCancel event (IsIdle (timer_along w first t)) → IsIdle (timer_along w first t)
     by_event events.Cancel same idle = absurd (other same)
@@ -40,6 +43,7 @@ idle_first w t (Entered v n e ∷ ds) first u number entry rest other is idle =
 idle_first w t (Looked v n look ∷ ds) first u number entry rest other is idle = idle
 idle_first w t (Made v n e ∷ ds) first u number entry rest other is idle = idle
 idle_first w t (Skipped v n generation ∷ ds) first u number entry rest other is idle = idle
+idle_first w t (Shifted b n event ∷ ds) first u number entry rest other is idle = idle
 
 last_is : {X : Type 0} (x y : X) (xs : List X) → x ∷ [] ≡ xs ++ y ∷ [] → x ≡ y
 last_is x y [] is = cc
@@ -76,5 +80,5 @@ settime_span {w} {c} {flags} {left} {old} {value} {interval} t number entry fits
       small = there.1.0.within.small;
       many = there.1.0.so_many ∙ ap length (sym (append-nil (all_entered mid)) ∙ sym (all_entered-append mid (Made t m.number e ∷ []))
           ∙ ap all_entered (sym split)
-          ∙ sym fits.traced.timers);
+          ∙ sym fits.traced.moves);
     }

@@ -6,6 +6,7 @@ use Rattle.std.proofs.lemmas.List.{get_or_past, length-map, nil_from_length}
 use Rattle.clock_model.specs.Clocks.{at_stamp}
 use Rattle.seq_timer.specs.Systems.{IsSystemHistory}
 use Rattle.record_text.specs.declared.record.ObjectLine.{ObjectLine}
+use Rattle.record_text.specs.declared.record.RunRecord.{RunRecord}
 use Rattle.record_text.specs.declared.record.TimerLine.{TimerLine}
 use Rattle.seq_timer.specs.declared.context.Context.TheVariants as contexts
 use Rattle.script_text.specs.declared.script.Callback.TheVariants as callbacks
@@ -13,11 +14,11 @@ use Rattle.script_text.specs.declared.script.Kind.TheVariants as kinds
 use Rattle.script_text.specs.declared.script.LaneCall.{LaneCall}
 use Rattle.script_text.specs.declared.script.Round.{Round}
 use Rattle.script_text.specs.declared.script.Script.{Script}
-use Rattle.run_history.specs.Histories.{answers_of, AreWrites, clock_labels, lines_of_timer}
+use Rattle.run_history.specs.Histories.{answers_of, AreWrites, clock_labels}
 use Rattle.script_text.specs.Declarations.{declareds_of, terms_of, kind_of}
 use Rattle.run_history.specs.Objects.{IsLegalObject, lines_of_object}
 use Rattle.run_history.specs.Order.{AreUnder, calls_of, IsInOrder, IsLabel}
-use Rattle.run_history.specs.Witnesses.{Witness, entries_in, labels, Move, moves_from, moves_on}
+use Rattle.run_history.specs.Witnesses.{BasesList, Witness, entries_in, is_owner, labels, line_of_base, line_of_timer, lines_at, Move, moves_from, moves_on, Owner, owner_of, TimersList}
 use Rattle.run_history.specs.Fits.{AreBehind, AreSkipsUnder, Fits, FitsIn, FitsLane, unseen}
 use Rattle.run_cases.proofs.Calls.{AreRight, are_placed, is_unrefused, lane_fits}
 use Rattle.run_cases.proofs.Witnesses.{Along, everywhere, each_list, none_on, no_calls}
@@ -45,17 +46,22 @@ is_under s line = are_calls s (map (λ look. look.label) line.looks) && are_sort
 abbrev pub are_under : Witness → Bool
 are_under w = list_all (λ lines. list_all (is_under w.script) lines) w.run.timers && list_all is_unrefused w.run.objects
 
--- no move is of a timer, and no call of a lane, that isn't there
+-- a list is one of so many timers, or of so many bases
+abbrev pub is_list : ℕ → ℕ → Owner → Bool
+is_list timers bases (TimersList t) = nat_lt t timers
+is_list timers bases (BasesList b) = nat_lt b bases
+
+-- no move is of a timer or a base, and no call of a lane, that isn't there
 abbrev pub are_there : Witness → Bool
 are_there w =
-    list_all (λ m. nat_lt m.timer (length w.run.timers)) w.moves
+    list_all (λ m. is_list (length w.run.timers) (length w.run.bases) (owner_of m.shown)) w.moves
     && list_all (λ round. list_all (λ c. nat_lt c.lane (length w.run.answers)) round.calls) w.script.rounds
 
--- there are lists for each timer, each object and each lane
+-- there are lists for each timer, each object, each lane and each base
 abbrev pub are_sized : Witness → Bool
 are_sized w =
     (nat_eq (length w.run.timers) (length w.script.timers) && nat_eq (length w.run.objects) (length w.script.timers))
-    && nat_eq (length w.run.answers) w.script.lanes
+    && (nat_eq (length w.run.answers) w.script.lanes && nat_eq (length w.run.bases) w.script.bases)
 
 -- all these tests
 abbrev pub is_passed : Witness → Bool
@@ -66,7 +72,8 @@ pub record IsSmall (w : Witness) : Type 0 where
   pub version : w.run.version ≡ w.script.version
   pub passed : is_passed w ≡ true
   pub writes : AreWrites (at_stamp 0) w.run.clock
-  pub all : Along (λ t. moves_on t w.moves ≡ moves_from t 0 (lines_of_timer w.run t)) 0 w.run.timers
+  pub all : Along (λ t. moves_on (TimersList t) w.moves ≡ moves_from 0 (lines_at w.run (TimersList t))) 0 w.run.timers
+  pub bases : Along (λ b. moves_on (BasesList b) w.moves ≡ moves_from 0 (lines_at w.run (BasesList b))) 0 w.run.bases
   pub history : IsSystemHistory w.script.bases (declareds_of w.script) (terms_of w.script) (entries_in w)
   pub object_histories : Along (λ i. IsLegalObject w.script w.run i (kind_of w.script i)) 0 w.script.timers
   pub object_spans : Along (λ i. AreBehind (w.spans i) 1 0 (lines_of_object w.run i)) 0 w.run.objects
@@ -83,6 +90,33 @@ none_skipped s line e = subst (λ skips. AreSkipsUnder s (map (λ skip. skip.lab
     (sym (nil_from_length line.skips (eqb-true (length line.skips) 0 e)))
     (record { calls = tt; in_order = tt })
 
+-- no move is of a list that isn't there
+not_timer : (timers bases t : ℕ) (o : Owner) → timers ≤ t → is_list timers bases o ≡ true → is_owner o (TimersList t) ≡ false
+not_timer timers bases t (TimersList u) past less = other u timers t less past
+not_timer timers bases t (BasesList b) past less = refl
+
+not_base : (timers bases b : ℕ) (o : Owner) → bases ≤ b → is_list timers bases o ≡ true → is_owner o (BasesList b) ≡ false
+not_base timers bases b (TimersList u) past less = refl
+not_base timers bases b (BasesList c) past less = other c bases b less past
+
+-- law: so each list's moves are its lines
+pub each_owner : (r : RunRecord) (ms : List Move) → list_all (λ m. is_list (length r.timers) (length r.bases) (owner_of m.shown)) ms ≡ true
+    → Along (λ t. moves_on (TimersList t) ms ≡ moves_from 0 (lines_at r (TimersList t))) 0 r.timers
+    → Along (λ b. moves_on (BasesList b) ms ≡ moves_from 0 (lines_at r (BasesList b))) 0 r.bases
+    → (o : Owner) → moves_on o ms ≡ moves_from 0 (lines_at r o)
+each_owner r ms there all bases (TimersList t) =
+    everywhere (λ t. moves_on (TimersList t) ms ≡ moves_from 0 (lines_at r (TimersList t))) r.timers all (λ t past.
+    none_on (TimersList t) ms (all_true (λ m. is_owner (owner_of m.shown) (TimersList t) ≡ false)
+    (λ m. is_list (length r.timers) (length r.bases) (owner_of m.shown))
+    (λ m less. not_timer (length r.timers) (length r.bases) t (owner_of m.shown) past less) ms there)
+    ∙ ap (λ lines. moves_from 0 (map (line_of_timer t) lines)) (sym (get_or_past r.timers t [] past))) t
+each_owner r ms there all bases (BasesList b) =
+    everywhere (λ b. moves_on (BasesList b) ms ≡ moves_from 0 (lines_at r (BasesList b))) r.bases bases (λ b past.
+    none_on (BasesList b) ms (all_true (λ m. is_owner (owner_of m.shown) (BasesList b) ≡ false)
+    (λ m. is_list (length r.timers) (length r.bases) (owner_of m.shown))
+    (λ m less. not_base (length r.timers) (length r.bases) b (owner_of m.shown) past less) ms there)
+    ∙ ap (λ lines. moves_from 0 (map (line_of_base b) lines)) (sym (get_or_past r.bases b [] past))) b
+
 small_fits : (w : Witness) → IsSmall w → FitsIn w
 small_fits w small =
     let s = w.script in
@@ -95,7 +129,8 @@ small_fits w small =
     let along = and_parts (are_called w) (are_ordered w) tests.0 in
     let within = and_parts (are_under w) (are_there w) tests.1 in
     let sized = and_parts (nat_eq (length r.timers) (length s.timers) && nat_eq (length r.objects) (length s.timers))
-    (nat_eq (length r.answers) s.lanes) passed.0 in
+    (nat_eq (length r.answers) s.lanes && nat_eq (length r.bases) s.bases) passed.0 in
+    let more_sized = and_parts (nat_eq (length r.answers) s.lanes) (nat_eq (length r.bases) s.bases) sized.1 in
     let each_sized = and_parts (nat_eq (length r.timers) (length s.timers)) (nat_eq (length r.objects) (length s.timers)) sized.0 in
     let objects : length r.objects ≡ length s.timers = eqb-true (length r.objects) (length s.timers) each_sized.1 in
     let called = and_parts (are_calls s (clock_labels r) && are_calls s (labels w)) (list_all of_calls r.objects) along.0 in
@@ -103,17 +138,18 @@ small_fits w small =
     let ordered = and_parts (are_in_order s (clock_labels r) && are_in_order s (labels w)) (list_all of_order r.objects) along.1 in
     let ordered_by = and_parts (are_in_order s (clock_labels r)) (are_in_order s (labels w)) ordered.0 in
     let under = and_parts (list_all of_looks r.timers) (list_all is_unrefused r.objects) within.0 in
-    let of_moves = λ (m : Move). nat_lt m.timer (length r.timers) in
+    let of_moves = λ (m : Move). is_list (length r.timers) (length r.bases) (owner_of m.shown) in
     let of_lanes = λ (c : LaneCall). nat_lt c.lane (length r.answers) in
     let of_rounds = λ (round : Round). list_all of_lanes round.calls in
     let there = and_parts (list_all of_moves w.moves) (list_all of_rounds s.rounds) within.1 in
     record {
       version = small.version;
+      bases = eqb-true (length r.bases) s.bases more_sized.1;
       timers = eqb-true (length r.timers) (length s.timers) each_sized.0;
       objects = objects;
-      lanes = eqb-true (length r.answers) s.lanes sized.1;
+      lanes = eqb-true (length r.answers) s.lanes more_sized.0;
       clock_calls = calls_pass s (clock_labels r) called_by.0;
-      timer_calls = calls_pass s (labels w) called_by.1;
+      move_calls = calls_pass s (labels w) called_by.1;
       looks = each_list (AllByRecursion (λ line. AreUnder s (map (λ look. look.label) line.looks))) r.timers tt
           (all_true (AllByRecursion (λ line. AreUnder s (map (λ look. look.label) line.looks))) of_looks
           (λ lines e. all_true (λ line. AreUnder s (map (λ look. look.label) line.looks)) (is_under s) (under_passes s) lines e) r.timers under.0);
@@ -127,10 +163,7 @@ small_fits w small =
           r.objects under.1);
       writes = small.writes;
       history = record {
-        all = everywhere (λ t. moves_on t w.moves ≡ moves_from t 0 (lines_of_timer r t)) r.timers small.all (λ t past.
-            none_on t w.moves (all_true (λ m. nat_eq m.timer t ≡ false) of_moves
-            (λ m less. other m.timer (length r.timers) t less past) w.moves there.0)
-            ∙ ap (moves_from t 0) (sym (get_or_past r.timers t [] past)));
+        all = each_owner r w.moves there.0 small.all small.bases;
         history = small.history;
       };
       object_histories = everywhere (λ i. IsLegalObject s r i (kind_of s i)) s.timers small.object_histories (λ i past.

@@ -7,7 +7,7 @@ use Rattle.seq_timer.specs.declared.event.EventBy.{EventBy}
 use Rattle.seq_timer.specs.declared.event.EventBy.TheVariants as events
 use Rattle.record_text.specs.declared.record.Label.{Label}
 use Rattle.script_text.specs.declared.script.Script.{Script}
-use Rattle.run_history.specs.Actions.{Action, also, Entered, Looked, looked, Made, made, numbers_of_object, Skipped, skipped, Wrote}
+use Rattle.run_history.specs.Actions.{Action, also, Entered, Looked, looked, Made, made, numbers_of_object, Shifted, Skipped, skipped, Wrote}
 use Rattle.run_history.specs.Order.{AreSorted, calls_of, is_before, is_label, is_lower, IsInOrder, IsLabel, IsPoint, made_by, NeverFall}
 use Rattle.run_history.specs.Witnesses.{Witness, labels}
 use Rattle.run_history.specs.Traces.{all_entered}
@@ -109,7 +109,7 @@ own_place c made n [] = n
 own_place c zero n (x ∷ xs) = if is_label c x then n else own_place c zero (n + 1) xs
 own_place c (suc made) n (x ∷ xs) = own_place c (if is_label c x then made else suc made) (n + 1) xs
 
--- the call only wrote the clock and made entries of timers, each claim at a moment of its own
+-- the call only wrote the clock and made entries of timers and bases, each claim at a moment of its own
 abbrev pub are_plain : Witness → Label → ℕ → List Action → List Action → ℕ → Bool
 are_plain w c from before [] last = nat_le from last
 are_plain w c from before (Wrote number write ∷ ds) last = nat_le from from && are_plain w c from (before ++ Wrote number write ∷ []) ds last
@@ -120,6 +120,8 @@ are_plain w c from before (Entered t number entry ∷ ds) last =
 are_plain w c from before (Looked t number look ∷ ds) last = false
 are_plain w c from before (Made i number entry ∷ ds) last = false
 are_plain w c from before (Skipped i number generation ∷ ds) last = false
+are_plain w c from before (Shifted base number event ∷ ds) last =
+    nat_le from from && are_plain w c from (before ++ Shifted base number event ∷ []) ds last
 
 of_claim : {P : Type 0} (event : EventBy ℕ) → P → OfClaim event P
 of_claim (events.Claim base reading) is = is
@@ -146,6 +148,9 @@ plain_pass w c first from before (Entered t number entry ∷ ds) last e =
 plain_pass w c first from before (Looked t number look ∷ ds) last e = absurd (cc)
 plain_pass w c first from before (Made i number entry ∷ ds) last e = absurd (cc)
 plain_pass w c first from before (Skipped i number generation ∷ ds) last e = absurd (cc)
+plain_pass w c first from before (Shifted base number event ∷ ds) last e =
+    let parts = and_parts (nat_le from from) (are_plain w c from (before ++ Shifted base number event ∷ []) ds last) e in
+    (from, upto from from parts.0, tt, plain_pass w c first from (before ++ Shifted base number event ∷ []) ds last parts.1)
 
 -- ---- what a call did, of timers and objects that are there
 
@@ -161,6 +166,7 @@ are_made timers objects (Entered t number entry ∷ ds) = are_made timers object
 are_made timers objects (Looked t number look ∷ ds) = nat_lt t timers && are_made timers objects ds
 are_made timers objects (Made i number entry ∷ ds) = nat_lt i objects && are_made timers objects ds
 are_made timers objects (Skipped i number generation ∷ ds) = false
+are_made timers objects (Shifted base number event ∷ ds) = are_made timers objects ds
 
 -- so past them there is nothing
 pub record IsPast (timers objects i : ℕ) (ds : List Action) : Type 0 where
@@ -193,3 +199,5 @@ made_past timers objects i (Made j number entry ∷ ds) e =
       skipped = rest.skipped;
     }
 made_past timers objects i (Skipped j number generation ∷ ds) e = absurd (cc)
+made_past timers objects i (Shifted base number event ∷ ds) e =
+    let rest = made_past timers objects i ds e in record { looked = rest.looked; made = rest.made; numbers = rest.numbers; skipped = rest.skipped }

@@ -1,14 +1,19 @@
 -- Small witnesses, given by lists: short words for them, facts of all numbers by the places of lists, and timers that are not there.
-use Rattle.std.proofs.Common.{◌≡◌, ◌≤◌, ℕ, ◌+◌, zero, suc, Bool, true, false, nat_eq, nat_lt, None, List, [], ◌∷◌, ◌++◌, if◌then◌else◌, filter, flat_map, length, map, take, get_or, arith, refl, sym, ap, ◌∙◌, subst, inl}
+use Rattle.std.proofs.Common.{◌≡◌, ◌≤◌, ℕ, ◌+◌, zero, suc, Bool, true, false, ◌&&◌, not, is_some, nat_eq, nat_le, nat_lt, None, Option, Some, List, [], ◌∷◌, ◌++◌, if◌then◌else◌, filter, flat_map, length, map, take, get_or, arith, refl, sym, ap, ◌∙◌, subst, inl}
 use Rattle.std.specs.List.{AllByRecursion, list_all}
-use Rattle.std.proofs.lemmas.List.{get_or_past, length-map}
+use Rattle.std.proofs.lemmas.Bool.{and_parts}
+use Rattle.std.proofs.lemmas.List.{get_or_past, length-map, take-map}
 use Rattle.ktime.specs.declared.clock_id.ClockId.{ClockId}
 use Rattle.ktime.specs.declared.clock_id.ClockId.TheVariants as clocks
 use Rattle.seq_timer.specs.declared.context.Context.{Context}
 use Rattle.seq_timer.specs.declared.context.Context.TheVariants as contexts
 use Rattle.seq_timer.specs.Histories.{after_all}
 use Rattle.seq_timer.specs.Steps.{Needs, Timer, opening, reply_to}
-use Rattle.seq_timer.specs.Systems.{entries_of, FitsBase, first_system, IsSystemStep, System, next_on, openings}
+use Rattle.seq_timer.specs.Effects.{NeedsOfBases, effect}
+use Rattle.seq_timer.specs.Events.{Event}
+use Rattle.seq_timer.specs.declared.event.EventBy.TheVariants as events
+use Rattle.seq_timer.specs.declared.standing.Standing.{Standing}
+use Rattle.seq_timer.specs.Systems.{BeginsInTurn, FindsOnLine, entries_of, first_system, IsSystemStep, System, next_on, openings}
 use Rattle.seq_timer.specs.Tables.{in_context, is_kept_on, IsStopped, no_timer, runs_on, seen_in, timer_at}
 use Rattle.seq_timer.specs.declared.system.TimerEntry.{TimerEntry}
 use Rattle.seq_timer.proofs.Systems.{after_entries-entries_of}
@@ -19,45 +24,49 @@ use Rattle.script_text.specs.declared.script.LaneCall.{LaneCall}
 use Rattle.script_text.specs.declared.script.Round.{Round}
 use Rattle.script_text.specs.declared.script.Script.{Script}
 use Rattle.run_history.specs.Actions.{Action, also}
-use Rattle.run_history.specs.Histories.{entry_shown, lines_of_timer, reading_at}
+use Rattle.run_history.specs.Histories.{reading_at}
 use Rattle.script_text.specs.Declarations.{declared_as, declareds_of, terms_of}
 use Rattle.run_history.specs.Order.{calls_from}
-use Rattle.run_history.specs.Starts.{Arming}
+use Rattle.run_history.specs.Starts.{Arming, IsArming, IsJustBefore, IsSentBy, first_number}
 use Rattle.run_history.specs.Calls.{fires}
-use Rattle.run_history.specs.Witnesses.{Witness, entries_in, entry_of_move, Fired, Move, moves_on, system_along, timer_along, Trace}
-use Rattle.run_history.specs.Receipts.{no_line}
+use Rattle.run_history.specs.Witnesses.{Witness, entries_in, entry_of_move, Fired, is_owner, Move, moves_on, OfBase, OfTimer, Owner, owner_of, Shown, system_along, timer_along, TimersList, Trace}
+use Rattle.run_history.specs.Receipts.{move_at}
 use Rattle.run_history.specs.Truths.{IsDone}
-use Rattle.run_cases.proofs.Tests.{all_true, lt, other}
+use Rattle.run_history.proofs.OwnParts.{entries_on, own_entry}
+use Rattle.run_cases.proofs.Tests.{all_true, le, lt, other}
 
 -- ---- a witness by lists
 
--- how many of these are the number
-abbrev pub times : ℕ → List ℕ → ℕ
-times t ts = length (filter (λ x. nat_eq x t) ts)
+-- how many of these are the list
+abbrev pub times : Owner → List Owner → ℕ
+times o os = length (filter (λ x. is_owner x o) os)
 
--- the moves of a record, where its timers' entries follow one another so; these were before
-abbrev pub moves_by : RunRecord → List ℕ → List ℕ → List Move
+-- the moves of a record, where the entries of its lists follow one another so; these were before
+abbrev pub moves_by : RunRecord → List Owner → List Owner → List Move
 moves_by r done [] = []
-moves_by r done (t ∷ ts) =
-    record { timer = t; before = times t done; line = get_or (lines_of_timer r t) (times t done) no_line } ∷ moves_by r (t ∷ done) ts
+moves_by r done (o ∷ os) = move_at r o (times o done) ∷ moves_by r (o ∷ done) os
+
+-- the same, where all entries are timers'
+abbrev pub timers_moves : RunRecord → List ℕ → List Move
+timers_moves r order = moves_by r [] (map TimersList order)
 
 -- what a call did with this reading, from one moment to another
 abbrev pub did : ℕ → List Action → ℕ → ℕ → Trace
-did reading actions first last = record { at = reading; fired = []; actions = actions; first = first; last = last }
+did reading actions first last = record { at = reading; fired = []; moved = []; actions = actions; first = first; last = last }
 
 -- what an expiry run did
 abbrev pub ran : ℕ → ℕ → List Fired → ℕ → ℕ → Trace
-ran base reading each first last = record { at = reading; fired = each; actions = flat_map (fires base reading) each; first = first; last = last }
+ran base reading each first last = record { at = reading; fired = each; moved = []; actions = flat_map (fires base reading) each; first = first; last = last }
 
 -- a callback that did these things, and by which the timer wasn't armed again
 abbrev pub fired : ℕ → ℕ → List Action → ℕ → Bool → Fired
 fired claim generation body finish restart =
     record { timer = 0; claim = claim; generation = generation; body = body; finish = finish; restart = restart; restarted = restarts.No }
 
--- the witness of a script and a record, where timers' entries follow one another so, each lane's calls did these things, and objects' entries have
+-- the witness of a script and a record, where entries of lists follow one another so, each lane's calls did these things, and objects' entries have
 -- such spans
-abbrev pub witness_by : Script → RunRecord → List ℕ → List (List Trace) → (ℕ → ℕ → ℕ × ℕ) → Witness
-witness_by s r order traces spans = record {
+abbrev pub witness_along : Script → RunRecord → List Owner → List (List Trace) → (ℕ → ℕ → ℕ × ℕ) → Witness
+witness_along s r order traces spans = record {
   script = s;
   run = r;
   moves = moves_by r [] order;
@@ -65,11 +74,16 @@ witness_by s r order traces spans = record {
   spans = spans;
 }
 
+-- the same, where all entries are timers'
+abbrev pub witness_by : Script → RunRecord → List ℕ → List (List Trace) → (ℕ → ℕ → ℕ × ℕ) → Witness
+witness_by s r order traces spans = witness_along s r (map TimersList order) traces spans
+
 -- a start with one entry, of this number, which puts the timer on a base with these expiries
 abbrev pub armed_as : ℕ → ℕ → ℕ → ℕ → Arming
 armed_as number base soft expires = record {
-  out = None;
+  outs = [];
   number = number;
+  asked = base;
   placement = record { base = base; clock = clocks.Monotonic; soft = soft; expires = expires };
   was_armed = false;
 }
@@ -88,11 +102,47 @@ three a b c = (a, b, c)
 pub next : {P Q : ℕ → Type 0} (n : ℕ) → P n → Q n → (k : ℕ) × P k × Q k
 next n p q = (n, p, q)
 
--- an entry may come next
-pub step : {bases count : ℕ} {w : System} {e : TimerEntry} → nat_lt e.timer count ≡ true → Needs (w.timers e.timer) e.event
-    → e.reply ≡ reply_to (w.timers e.timer) e.event → FitsBase bases (w.bases (w.timers e.timer).base) e.timer (w.timers e.timer) e.event
+-- a start that makes one entry, on the base that is asked for, is made so
+pub stays : {Reached : ℕ → ℕ → Type 0} {limit base : ℕ} {a : Arming} → nat_le a.number limit ≡ true → a.outs ≡ [] → base ≡ a.asked
+    → IsArming Reached limit base a
+stays {Reached} {limit} {base} {a} below none same = record {
+  below = subst (λ outs. first_number outs a.number ≤ limit) (sym none) (le below);
+  next = subst (λ outs. IsJustBefore outs a.number) (sym none) tt;
+  way = subst (λ outs. IsSentBy Reached base (map (λ out. out.base) outs) a.asked) (sym none) ([], same);
+}
+
+-- whether an event finds its base on line, where it needs that
+abbrev pub finds : Standing → Event → Bool
+finds s (events.Out base) = true
+finds s (events.Start asked) = not (is_some s.heir)
+finds s events.Cancel = true
+finds s (events.Claim base reading) = true
+finds s (events.Forward reading interval) = true
+finds s (events.Finish restart) = true
+
+finds_pass : (s : Standing) (event : Event) → finds s event ≡ true → FindsOnLine s event
+finds_pass s (events.Out base) e = tt
+finds_pass s (events.Start asked) e = by_heir s.heir e
+  where
+    by_heir : (heir : Option ℕ) → not (is_some heir) ≡ true → heir ≡ None
+    by_heir None e = refl
+    by_heir (Some heir) e = absurd (cc)
+finds_pass s events.Cancel e = tt
+finds_pass s (events.Claim base reading) e = tt
+finds_pass s (events.Forward reading interval) e = tt
+finds_pass s (events.Finish restart) e = tt
+
+-- an entry of a timer may come next
+pub step : {bases count : ℕ} {w : System} {e : TimerEntry}
+    → (nat_lt e.timer count && finds (w.bases (w.timers e.timer).base).standing e.event) ≡ true → Needs (w.timers e.timer) e.event
+    → e.reply ≡ reply_to (w.timers e.timer) e.event
+    → NeedsOfBases (BeginsInTurn (w.bases (w.timers e.timer).base) e.timer (w.timers e.timer)) bases (effect (w.timers e.timer) e.event).function
+    (effect (w.timers e.timer) e.event).sent
     → IsSystemStep bases count w e
-step there needs reply base = record { within = lt there; needs = needs; reply = reply; base = base }
+step {w = w} {e = e} there needs reply base =
+    let b = w.bases (w.timers e.timer).base in
+    let parts = and_parts (nat_lt e.timer _) (finds b.standing e.event) there in
+    record { within = lt parts.0; needs = needs; reply = reply; base = record { needs = base; online = finds_pass b.standing e.event parts.1 } }
 
 -- ---- facts of all numbers
 
@@ -125,10 +175,10 @@ each_list P [] none all n = none
 each_list P (xs ∷ table) none all zero = all.0
 each_list P (xs ∷ table) none all (suc n) = each_list P table none all.1 n
 
--- moves of other timers are none of this one
-pub none_on : (t : ℕ) (ms : List Move) → AllByRecursion (λ m. nat_eq m.timer t ≡ false) ms → moves_on t ms ≡ []
-none_on t [] none = refl
-none_on t (m ∷ ms) none = ap (λ b. also b m (moves_on t ms)) none.0 ∙ none_on t ms none.1
+-- moves of other lists are none of this one
+pub none_on : (o : Owner) (ms : List Move) → AllByRecursion (λ m. is_owner (owner_of m.shown) o ≡ false) ms → moves_on o ms ≡ []
+none_on o [] none = refl
+none_on o (m ∷ ms) none = ap (λ b. also b m (moves_on o ms)) none.0 ∙ none_on o ms none.1
 
 none_of : (lane : ℕ) (cs : List LaneCall) → AllByRecursion (λ c. nat_eq c.lane lane ≡ false) cs → filter (λ c. nat_eq c.lane lane) cs ≡ []
 none_of lane [] none = refl
@@ -145,26 +195,46 @@ no_calls lane round (r ∷ rs) none =
 
 -- ---- where nothing is left to do
 
--- a timer that isn't there has no entry
-none_at : (clock : List ClockLine) (t n : ℕ) (ms : List Move) → AllByRecursion (λ m. nat_eq m.timer t ≡ false) ms
-    → entries_of t (take n (map (entry_of_move clock) ms)) ≡ []
-none_at clock t zero [] none = refl
-none_at clock t (suc n) [] none = refl
-none_at clock t zero (m ∷ ms) none = refl
-none_at clock t (suc n) (m ∷ ms) none =
-    let rest = entries_of t (take n (map (entry_of_move clock) ms)) in
-    ap (λ b. if b then entry_shown clock m.line.entry ∷ rest else rest) none.0 ∙ none_at clock t n ms none.1
+-- what is shown is of a timer below this number, or of a base
+abbrev pub is_timer_below : ℕ → Shown → Bool
+is_timer_below n (OfTimer t entry) = nat_lt t n
+is_timer_below n (OfBase b event) = true
 
-absent_then : (w : Witness) (n t : ℕ) → list_all (λ m. nat_lt m.timer (length w.script.timers)) w.moves ≡ true → length w.script.timers ≤ t
+no_timers_past : (n t : ℕ) (shown : Shown) → n ≤ t → is_timer_below n shown ≡ true → is_owner (owner_of shown) (TimersList t) ≡ false
+no_timers_past n t (OfTimer u entry) past less = other u n t less past
+no_timers_past n t (OfBase b event) past less = refl
+
+-- a timer that isn't there has no entry
+none_at : (clock : List ClockLine) (t n : ℕ) (ms : List Move) → AllByRecursion (λ m. is_owner (owner_of m.shown) (TimersList t) ≡ false) ms
+    → entries_of t (take n (map (entry_of_move clock) ms)) ≡ []
+none_at clock t n ms none =
+    ap (entries_of t) (take-map (entry_of_move clock) n ms) ∙ entries_on clock t (take n ms)
+    ∙ ap (map (own_entry clock)) (none_on (TimersList t) (take n ms) (each_taken n ms none))
+  where
+    each_taken : (n : ℕ) (ms : List Move) → AllByRecursion (λ m. is_owner (owner_of m.shown) (TimersList t) ≡ false) ms
+        → AllByRecursion (λ m. is_owner (owner_of m.shown) (TimersList t) ≡ false) (take n ms)
+    each_taken zero [] none = tt
+    each_taken (suc n) [] none = tt
+    each_taken zero (m ∷ ms) none = tt
+    each_taken (suc n) (m ∷ ms) none = (none.0, each_taken n ms none.1)
+
+absent_then : (w : Witness) (n t : ℕ) → list_all (λ m. is_timer_below (length w.script.timers) m.shown) w.moves ≡ true → length w.script.timers ≤ t
     → timer_along w n t ≡ no_timer
 absent_then w n t there past =
     let opened = openings (declareds_of w.script) (terms_of w.script) in
     after_entries-entries_of (first_system opened) t (take n (entries_in w))
     ∙ ap (after_all (timer_at opened t)) (none_at w.run.clock t n w.moves
-    (all_true (λ m. nat_eq m.timer t ≡ false) (λ m. nat_lt m.timer (length w.script.timers))
-    (λ m less. other m.timer (length w.script.timers) t less past) w.moves there))
+    (all_true (λ m. is_owner (owner_of m.shown) (TimersList t) ≡ false) (λ m. is_timer_below (length w.script.timers) m.shown)
+    (λ m less. no_timers_past (length w.script.timers) t m.shown past less) w.moves there))
     ∙ get_or_past opened t no_timer (subst (λ k. k ≤ t) (sym (length-map (declareds_of w.script) (λ declared. opening declared (terms_of w.script))
     ∙ length-map w.script.timers declared_as)) past)
+
+-- what is said of no timer, and of none that is there, is said of none
+pub none_along : (w : Witness) (n : ℕ) (f : Timer → Bool) → f no_timer ≡ false
+    → list_all (λ m. is_timer_below (length w.script.timers) m.shown) w.moves ≡ true
+    → Along (λ t. f (timer_along w n t) ≡ false) 0 w.script.timers → (t : ℕ) → f (timer_along w n t) ≡ false
+none_along w n f none there each =
+    everywhere (λ t. f (timer_along w n t) ≡ false) w.script.timers each (λ t past. ap f (absent_then w n t there past) ∙ none)
 
 no_timer_seen : (x : Context) → seen_in x no_timer ≡ no_timer
 no_timer_seen contexts.Hard = refl
@@ -172,13 +242,13 @@ no_timer_seen contexts.Soft = refl
 
 -- what is said of no timer, and of none that is there, as a context sees them, is said of none
 pub none_then : (w : Witness) (x : Context) (n : ℕ) (f : Timer → Bool) → f no_timer ≡ false
-    → list_all (λ m. nat_lt m.timer (length w.script.timers)) w.moves ≡ true
+    → list_all (λ m. is_timer_below (length w.script.timers) m.shown) w.moves ≡ true
     → Along (λ t. f (in_context x (timer_along w n) t) ≡ false) 0 w.script.timers → (t : ℕ) → f (in_context x (timer_along w n) t) ≡ false
 none_then w x n f none there each = everywhere (λ t. f (in_context x (timer_along w n) t) ≡ false) w.script.timers each
     (λ t past. ap (λ timer. f (seen_in x timer)) (absent_then w n t there past) ∙ ap f (no_timer_seen x) ∙ none)
 
 -- nothing is left to do on a base, where no function of a timer that is there runs, none comes first, and the base is stopped
-pub stopped_by : (w : Witness) (x : Context) (reading base n : ℕ) → list_all (λ m. nat_lt m.timer (length w.script.timers)) w.moves ≡ true
+pub stopped_by : (w : Witness) (x : Context) (reading base n : ℕ) → list_all (λ m. is_timer_below (length w.script.timers) m.shown) w.moves ≡ true
     → next_on x ((system_along w n).bases base) (reading_at w.run.clock reading) ≡ None
     → Along (λ t. runs_on base (in_context x (timer_along w n) t) ≡ false) 0 w.script.timers
     → ((clock : ClockId) → IsStopped (in_context x (timer_along w n)) base (reading_at w.run.clock reading) clock) → IsDone w x reading base n
@@ -186,7 +256,7 @@ stopped_by w x reading base n there first free stopped =
     record { free = none_then w x n (runs_on base) refl there free; first = first; stopped = stopped }
 
 -- the same, where no timer that is there is kept on the base
-pub done_by : (w : Witness) (x : Context) (reading base n : ℕ) → list_all (λ m. nat_lt m.timer (length w.script.timers)) w.moves ≡ true
+pub done_by : (w : Witness) (x : Context) (reading base n : ℕ) → list_all (λ m. is_timer_below (length w.script.timers) m.shown) w.moves ≡ true
     → next_on x ((system_along w n).bases base) (reading_at w.run.clock reading) ≡ None
     → Along (λ t. runs_on base (in_context x (timer_along w n) t) ≡ false) 0 w.script.timers
     → ((clock : ClockId) → Along (λ t. is_kept_on base clock (in_context x (timer_along w n) t) ≡ false) 0 w.script.timers)

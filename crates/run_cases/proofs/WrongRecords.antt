@@ -23,7 +23,7 @@ use Rattle.run_history.specs.Histories.{reading_at, timer_after}
 use Rattle.script_text.specs.Declarations.{declared_of, declareds_of, terms_of, kind_of}
 use Rattle.run_history.specs.Order.{is_before, IsPoint, made_by}
 use Rattle.run_history.specs.Calls.{fires, IsBody, IsTrigger}
-use Rattle.run_history.specs.Witnesses.{labels, Move, timer_along, entries_in, Witness, Trace, Fired}
+use Rattle.run_history.specs.Witnesses.{labels, Move, OfTimer, Shown, TimersList, timer_along, entries_in, Witness, Trace, Fired}
 use Rattle.run_history.specs.Fits.{Fits}
 use Rattle.run_history.specs.Traces.{all_entered}
 use Rattle.run_history.specs.Truths.{IsDone, IsClaimSpan}
@@ -31,10 +31,10 @@ use Rattle.run_history.proofs.EachTimer.{heads}
 use Rattle.run_history.proofs.Lists.{at_map}
 use Rattle.run_history.proofs.Expires.{claim_of, finish_of}
 use Rattle.run_history.proofs.OwnPoints.{declared_then, same_then, seen, seen_rises, stamp_then, turn_at}
-use Rattle.run_cases.specs.Lines.{at, line, claim_entry}
+use Rattle.run_cases.specs.Lines.{at, claim_entry}
 use Rattle.run_cases.specs.Fitting.{waiting_script}
 use Rattle.run_cases.specs.Wrong.{both_record, both_script, tie_record, tie_script, due_record, due_script, uncancelled_record, uncancelled_script, crossed_record, crossed_script, set_entry_of, settimes_record, settimes_script, soon_record, soon_script, past_record, missed_record, missed_script, astray_record, astray_script, versions_record, versions_script}
-use Rattle.run_cases.proofs.Witnesses.{moves_by}
+use Rattle.run_cases.proofs.Witnesses.{timers_moves}
 use Rattle.run_cases.proofs.Tests.{upto}
 use Rattle.run_cases.proofs.Orders.{at_early, at_late, witness_with, found, opened, in_one_order}
 use Rattle.run_cases.proofs.Settimes.{idle_first, settime_span}
@@ -43,7 +43,7 @@ use Rattle.run_cases.proofs.Settimes.{idle_first, settime_span}
 
 -- the claim that lane 1 makes
 abbrev claim : Move
-claim = record { timer = 1; before = 1; line = line 1 1 (claim_entry 0 0 1) }
+claim = record { before = 1; label = at 1 1; shown = OfTimer 1 (claim_entry 0 0 1) }
 
 -- law: it does not fit
 pub both_dont_fit : Fits both_script both_record → ⊥
@@ -55,9 +55,9 @@ both_dont_fit fits =
     let three = (f.calls 1).2.2.1 in
     let a = (o.1 (at 1 0)).last in
     let b = (o.1 (at 1 2)).last in
-    let place = found 1 1 w.moves claim (ap (λ ms. slice_get ms 1) (f.history.all 1)) in
+    let place = found (TimersList 1) 1 w.moves claim (ap (λ ms. slice_get ms 1) (f.history.all (TimersList 1))) in
     let p = place.0 in
-    let label : slice_get (labels w) p ≡ Some (at 1 1) = at_map (λ (m : Move). m.line.label) w.moves p claim place.1 in
+    let label : slice_get (labels w) p ≡ Some (at 1 1) = at_map (λ (m : Move). m.label) w.moves p claim place.1 in
     -- the claim stands between the two looks
     let behind : a ≤ p = ⊎_elim
     (λ (less : p < a). absurd (false≢true (sym
@@ -80,7 +80,7 @@ both_dont_fit fits =
     let hard : (t : ℕ) → (timer_along w p t).declared ≡ declared_of both_script t = declared_then w f.history f.timers p in
     let idle : runs_on 0 (seen_in contexts.Hard (timer_along w p 0)) ≡ false =
     subst (λ d. runs_on 0 (seen_in d.context (timer_along w p 0)) ≡ false) (hard 1)
-    ((turn_at w f.history f.timers p claim 0 0 place.1 refl).idle 0) in
+    ((turn_at w f.history f.timers p 1 claim (claim_entry 0 0 1) 0 0 place.1 refl refl).idle 0) in
     false≢true (sym idle
     ∙ ap (λ (d : Declared). runs_on 0 (if is_context contexts.Hard d.context then timer_along w p 0 else no_timer)) (hard 0) ∙ runs)
 
@@ -90,17 +90,17 @@ both_dont_fit fits =
 pub tie_doesnt_fit : Fits tie_script tie_record → ⊥
 unfolding after_entry changed
 tie_doesnt_fit fits =
-    let o = in_one_order tie_script tie_record (0 ∷ 1 ∷ 1 ∷ 1 ∷ 0 ∷ 0 ∷ []) refl (refl, (refl, tt)) refl fits in
-    let w = witness_with tie_script tie_record (moves_by tie_record [] (0 ∷ 1 ∷ 1 ∷ 1 ∷ 0 ∷ 0 ∷ [])) o.0 o.1 in
+    let o = in_one_order tie_script tie_record (0 ∷ 1 ∷ 1 ∷ 1 ∷ 0 ∷ 0 ∷ []) refl (refl, (refl, tt)) refl (refl, tt) fits in
+    let w = witness_with tie_script tie_record (timers_moves tie_record (0 ∷ 1 ∷ 1 ∷ 1 ∷ 0 ∷ 0 ∷ [])) o.0 o.1 in
     -- at the third place, where the second timer is claimed
-    let wrong : 2 < 1 = (turn_at w o.2.history o.2.timers 2 _ 0 1 refl refl).ties 0 (λ e. omega (arith, e)) refl refl in
+    let wrong : 2 < 1 = (turn_at w o.2.history o.2.timers 2 1 _ (claim_entry 0 1 1) 0 1 refl refl refl).ties 0 (λ e. omega (arith, e)) refl refl in
     omega (arith, wrong)
 
 -- ---- an expiry run has nothing left to do, though at each moment one timer or the other was due
 
 -- the one order: the first timer is started, the second is, and the first is cancelled
 abbrev due_witness : (Label → Trace) → (ℕ → ℕ → ℕ × ℕ) → Witness
-due_witness traces spans = witness_with due_script due_record (moves_by due_record [] (0 ∷ 1 ∷ 0 ∷ [])) traces spans
+due_witness traces spans = witness_with due_script due_record (timers_moves due_record (0 ∷ 1 ∷ 0 ∷ [])) traces spans
 
 -- a base is stopped for the monotonic clock, as the hard context's timers stand after so many entries of a witness
 abbrev IsStoppedHard : Witness → ℕ → ℕ → Type 0
@@ -129,7 +129,7 @@ one_is_due traces spans (suc (suc (suc (suc n)))) made point stopped = omega (ar
 -- law: it does not fit
 pub due_doesnt_fit : Fits due_script due_record → ⊥
 due_doesnt_fit fits =
-    let o = in_one_order due_script due_record (0 ∷ 1 ∷ 0 ∷ []) refl (refl, (refl, tt)) refl fits in
+    let o = in_one_order due_script due_record (0 ∷ 1 ∷ 0 ∷ []) refl (refl, (refl, tt)) refl (refl, tt) fits in
     let call = (o.2.calls 1).1 in
     let done : IsDone (due_witness o.0 o.1) contexts.Hard 0 0 (o.0 (at 1 0)).last =
     subst (λ k. IsDone (due_witness o.0 o.1) contexts.Hard k 0 (o.0 (at 1 0)).last) (sym call.does.0.one_reading) call.seen in
@@ -139,7 +139,7 @@ due_doesnt_fit fits =
 
 -- the one order: both starts
 abbrev uncancelled_witness : (Label → Trace) → (ℕ → ℕ → ℕ × ℕ) → Witness
-uncancelled_witness traces spans = witness_with uncancelled_script uncancelled_record (moves_by uncancelled_record [] (0 ∷ 0 ∷ [])) traces spans
+uncancelled_witness traces spans = witness_with uncancelled_script uncancelled_record (timers_moves uncancelled_record (0 ∷ 0 ∷ [])) traces spans
 
 -- where the second settime begins the timer is armed by the first
 armed_there : (traces : Label → Trace) (spans : ℕ → ℕ → ℕ × ℕ) (n : ℕ)
@@ -154,16 +154,16 @@ armed_there traces spans (suc (suc (suc n))) point idle = omega (arith, point.wi
 -- law: it does not fit
 pub uncancelled_doesnt_fit : Fits uncancelled_script uncancelled_record → ⊥
 uncancelled_doesnt_fit fits =
-    let o = in_one_order uncancelled_script uncancelled_record (0 ∷ 0 ∷ []) refl (refl, tt) refl fits in
+    let o = in_one_order uncancelled_script uncancelled_record (0 ∷ 0 ∷ []) refl (refl, tt) refl (refl, tt) fits in
     let call = (o.2.calls 0).2.1 in
     armed_there o.0 o.1 (o.0 (at 0 1)).first call.begins
-    (idle_first (uncancelled_witness o.0 o.1) 0 (o.0 (at 0 1)).actions (o.0 (at 0 1)).first _ _ _ _ (λ is. cc) call.traced.timers call.seen)
+    (idle_first (uncancelled_witness o.0 o.1) 0 (o.0 (at 0 1)).actions (o.0 (at 0 1)).first _ _ _ _ (λ is. cc) call.traced.moves call.seen)
 
 -- ---- a settime's start stands behind the claim of an expiry, but its entry stands before that expiry's
 
 -- the one order: the start, the claim, the finish, the start
 abbrev crossed_witness : (Label → Trace) → (ℕ → ℕ → ℕ × ℕ) → Witness
-crossed_witness traces spans = witness_with crossed_script crossed_record (moves_by crossed_record [] (0 ∷ 0 ∷ 0 ∷ 0 ∷ [])) traces spans
+crossed_witness traces spans = witness_with crossed_script crossed_record (timers_moves crossed_record (0 ∷ 0 ∷ 0 ∷ 0 ∷ [])) traces spans
 
 -- the settime ended behind the fourth entry, which is its start
 set_there : (traces : Label → Trace) (spans : ℕ → ℕ → ℕ × ℕ) (n : ℕ) → n ≤ 4 → made_by (at 0 2) (take n (labels (crossed_witness traces spans))) ≡ 1
@@ -193,28 +193,30 @@ module _ (w : Witness) (base reading claim number : ℕ) (entry : ObjectEntry) w
       of_body : Fired → List Action → List Action
       of_body f body = Entered f.timer f.claim (claim_of base reading f) ∷ (body ++ Entered f.timer f.finish (finish_of f) ∷ []) ++ []
 
-  one_span : (fired : List Fired) (claimed : Entry) (rest : List (ℕ × (ℕ × Entry))) → length fired ≡ 1
-      → (0, (claim, claimed)) ∷ rest ≡ all_entered (flat_map (fires base reading) fired)
+  one_span : (Reached : ℕ → ℕ → Type 0) (fired : List Fired) (claimed : Entry) (rest : List (ℕ × Shown)) → length fired ≡ 1
+      → (claim, OfTimer 0 claimed) ∷ rest ≡ all_entered (flat_map (fires base reading) fired)
       → (number, entry) ∷ [] ≡ made 0 (flat_map (fires base reading) fired)
-      → AllByRecursion (λ f. IsBody (kind_of crossed_script f.timer) reading f) fired → AllByRecursion (λ f. IsClaimSpan w f f.body) fired
+      → AllByRecursion (λ f. IsBody Reached crossed_script.limit (kind_of crossed_script f.timer) reading f) fired
+      → AllByRecursion (λ f. IsClaimSpan w f f.body) fired
       → (w.spans 0 number).0 + 1 ≡ claim
-  one_span [] claimed rest one entered its bodies spans = absurd (cc)
-  one_span (f ∷ g ∷ fs) claimed rest one entered its bodies spans = absurd (cc)
-  one_span (f ∷ []) claimed rest one entered its bodies spans =
-      let first = heads (0, (claim, claimed)) (f.timer, (f.claim, claim_of base reading f)) rest _ entered in
-      let timer : f.timer ≡ 0 = sym (ap (λ (x : ℕ × (ℕ × Entry)). x.0) first) in
-      claimed_span f timer (sym (ap (λ (x : ℕ × (ℕ × Entry)). x.1.0) first))
-      (subst (λ t. IsBody (kind_of crossed_script t) reading f) timer bodies.0) its spans.0
+  one_span Reached [] claimed rest one entered its bodies spans = absurd (cc)
+  one_span Reached (f ∷ g ∷ fs) claimed rest one entered its bodies spans = absurd (cc)
+  one_span Reached (f ∷ []) claimed rest one entered its bodies spans =
+      let first = heads (claim, OfTimer 0 claimed) (f.claim, OfTimer f.timer (claim_of base reading f)) rest _ entered in
+      let shown : OfTimer 0 claimed ≡ OfTimer f.timer (claim_of base reading f) = ap (λ (x : ℕ × Shown). x.1) first in
+      let timer : f.timer ≡ 0 = cc in
+      claimed_span f timer (sym (ap (λ (x : ℕ × Shown). x.0) first))
+      (subst (λ t. IsBody Reached crossed_script.limit (kind_of crossed_script t) reading f) timer bodies.0) its spans.0
 
 -- law: it does not fit
 pub crossed_doesnt_fit : Fits crossed_script crossed_record → ⊥
 crossed_doesnt_fit fits =
-    let o = in_one_order crossed_script crossed_record (0 ∷ 0 ∷ 0 ∷ 0 ∷ []) refl (refl, tt) refl fits in
+    let o = in_one_order crossed_script crossed_record (0 ∷ 0 ∷ 0 ∷ 0 ∷ []) refl (refl, tt) refl (refl, tt) fits in
     let w = crossed_witness o.0 o.1 in
     let t = o.0 (at 1 0) in
     let run = (o.2.calls 1).1 in
     let settime = settime_span {w = w} {c = at 0 2} 0 2 (set_entry_of 50 1 4 1) (o.2.calls 0).2.2.1 refl in
-    let expiry = one_span w 0 t.at 2 3 (object_entries.Trigger 1 1 false) t.fired _ _ run.does.1 (run.traced.timers ∙ ap all_entered run.does.0.done)
+    let expiry = one_span w 0 t.at 2 3 (object_entries.Trigger 1 1 false) _ t.fired _ _ run.does.1 (run.traced.moves ∙ ap all_entered run.does.0.done)
     (run.traced.objects 0 ∙ ap (made 0) run.does.0.done) run.does.0.bodies run.expiries in
     let behind = (o.2.object_spans 0).2.2.0 in
     omega (arith, behind, settime.high, expiry, set_there o.0 o.1 settime.end settime.small settime.many)
@@ -223,7 +225,7 @@ crossed_doesnt_fit fits =
 
 -- the one order: the first settime's start, the other's cancel and start
 abbrev settimes_witness : (Label → Trace) → (ℕ → ℕ → ℕ × ℕ) → Witness
-settimes_witness traces spans = witness_with settimes_script settimes_record (moves_by settimes_record [] (0 ∷ 0 ∷ 0 ∷ [])) traces spans
+settimes_witness traces spans = witness_with settimes_script settimes_record (timers_moves settimes_record (0 ∷ 0 ∷ 0 ∷ [])) traces spans
 
 -- lane 0 began before its own start, which is the first entry; lane 1 ended behind the third
 begins_there : (traces : Label → Trace) (spans : ℕ → ℕ → ℕ × ℕ) (n : ℕ) → made_by (at 0 0) (take n (labels (settimes_witness traces spans))) ≡ 0
@@ -244,7 +246,7 @@ ends_there traces spans (suc (suc (suc (suc n)))) small many = absurd (omega (ar
 -- law: it does not fit
 pub settimes_dont_fit : Fits settimes_script settimes_record → ⊥
 settimes_dont_fit fits =
-    let o = in_one_order settimes_script settimes_record (0 ∷ 0 ∷ 0 ∷ []) refl (refl, tt) refl fits in
+    let o = in_one_order settimes_script settimes_record (0 ∷ 0 ∷ 0 ∷ []) refl (refl, tt) refl (refl, tt) fits in
     let w = settimes_witness o.0 o.1 in
     let zero_call = (o.2.calls 0).1 in
     let one_call = (o.2.calls 1).1 in
@@ -266,9 +268,9 @@ settimes_dont_fit fits =
 pub soon_doesnt_fit : Fits soon_script soon_record → ⊥
 unfolding after_entry changed
 soon_doesnt_fit fits =
-    let o = in_one_order soon_script soon_record (0 ∷ 0 ∷ 0 ∷ []) refl (refl, tt) refl fits in
-    let w = witness_with soon_script soon_record (moves_by soon_record [] (0 ∷ 0 ∷ 0 ∷ [])) o.0 o.1 in
-    let due : false ≡ true = (turn_at w o.2.history o.2.timers 1 _ 0 0 refl refl).next.due in
+    let o = in_one_order soon_script soon_record (0 ∷ 0 ∷ 0 ∷ []) refl (refl, tt) refl (refl, tt) fits in
+    let w = witness_with soon_script soon_record (timers_moves soon_record (0 ∷ 0 ∷ 0 ∷ [])) o.0 o.1 in
+    let due : false ≡ true = (turn_at w o.2.history o.2.timers 1 0 _ (claim_entry 0 0 1) 0 0 refl refl refl).next.due in
     false≢true due
 
 -- ---- a claim looks past the timer with the earliest hard expiry, whose soft one isn't reached, to a timer whose soft one is
@@ -277,17 +279,17 @@ soon_doesnt_fit fits =
 pub past_doesnt_fit : Fits waiting_script past_record → ⊥
 unfolding after_entry changed
 past_doesnt_fit fits =
-    let o = in_one_order waiting_script past_record (0 ∷ 1 ∷ 0 ∷ 0 ∷ []) refl (refl, (refl, tt)) refl fits in
-    let w = witness_with waiting_script past_record (moves_by past_record [] (0 ∷ 1 ∷ 0 ∷ 0 ∷ [])) o.0 o.1 in
+    let o = in_one_order waiting_script past_record (0 ∷ 1 ∷ 0 ∷ 0 ∷ []) refl (refl, (refl, tt)) refl (refl, tt) fits in
+    let w = witness_with waiting_script past_record (timers_moves past_record (0 ∷ 1 ∷ 0 ∷ 0 ∷ [])) o.0 o.1 in
     -- at the third place, where the first timer is claimed, the second one's expiry is earlier
-    let smaller : true ≡ false = (turn_at w o.2.history o.2.timers 2 _ 0 0 refl refl).next.smaller 1 in
+    let smaller : true ≡ false = (turn_at w o.2.history o.2.timers 2 0 _ (claim_entry 0 0 1) 0 0 refl refl refl).next.smaller 1 in
     false≢true (sym smaller)
 
 -- ---- nothing was left to do, though a timer's hard expiry was reached
 
 -- the one order: the start
 abbrev missed_witness : (Label → Trace) → (ℕ → ℕ → ℕ × ℕ) → Witness
-missed_witness traces spans = witness_with missed_script missed_record (moves_by missed_record [] (0 ∷ [])) traces spans
+missed_witness traces spans = witness_with missed_script missed_record (timers_moves missed_record (0 ∷ [])) traces spans
 
 one_is_missed : (traces : Label → Trace) (spans : ℕ → ℕ → ℕ × ℕ) (n made : ℕ)
     → IsPoint missed_script (at 0 2) made n (labels (missed_witness traces spans)) → IsStoppedHard (missed_witness traces spans) 1 n → ⊥
@@ -299,7 +301,7 @@ one_is_missed traces spans (suc (suc n)) made point stopped = omega (arith, poin
 -- law: it does not fit
 pub missed_doesnt_fit : Fits missed_script missed_record → ⊥
 missed_doesnt_fit fits =
-    let o = in_one_order missed_script missed_record (0 ∷ []) refl (refl, tt) refl fits in
+    let o = in_one_order missed_script missed_record (0 ∷ []) refl (refl, tt) refl (refl, tt) fits in
     let call = (o.2.calls 0).2.2.1 in
     let done : IsDone (missed_witness o.0 o.1) contexts.Hard 1 0 (o.0 (at 0 2)).last =
     subst (λ k. IsDone (missed_witness o.0 o.1) contexts.Hard k 0 (o.0 (at 0 2)).last) (sym call.does.0.one_reading) call.seen in

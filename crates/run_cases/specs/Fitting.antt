@@ -4,6 +4,7 @@ use Rattle.ktime.specs.declared.mode.Mode.TheVariants as modes
 use Rattle.clock_model.specs.declared.write.Write.TheVariants as writes
 use Rattle.record_text.specs.declared.record.AcceptReply.TheVariants as acceptances
 use Rattle.seq_timer.specs.declared.context.Context.TheVariants as contexts
+use Rattle.seq_timer.specs.declared.standing.BaseEvent.TheVariants as shifts
 use Rattle.record_text.specs.declared.record.Answer.TheVariants as answers
 use Rattle.record_text.specs.declared.record.Answer.{Answer}
 use Rattle.record_text.specs.declared.record.Armed.TheVariants as armings
@@ -19,7 +20,7 @@ use Rattle.script_text.specs.declared.script.Call.TheVariants as calls
 use Rattle.script_text.specs.declared.script.Callback.TheVariants as callbacks
 use Rattle.script_text.specs.declared.script.Kind.TheVariants as kinds
 use Rattle.script_text.specs.declared.script.Script.{Script}
-use Rattle.run_cases.specs.Lines.{at, by, case_object_line, case_script, case_start, claim_lines, hard_expire, hard_raw, line, case_start_entry, raw_record, case_record_in, case_script_in, slack_entry, slack_start, start, cancel_entry, claim_entry, finish_entry, out_entry}
+use Rattle.run_cases.specs.Lines.{at, base_line, by, case_object_line, case_script, case_start, claim_lines, hard_expire, hard_raw, line, off_line_record, case_start_entry, raw_record, case_record_in, case_script_in, slack_entry, slack_start, start, cancel_entry, claim_entry, finish_entry, out_entry}
 
 -- ---- a timer is started, expires, is cancelled when it is idle, and is looked at
 
@@ -94,9 +95,11 @@ moved_start = case_start_entry modes.Rel 70 0 1 1 70 false
 
 -- its record
 abbrev pub moved_record : RunRecord
-moved_record = raw_record [] ((line 0 0 (start modes.Abs 0 0) ∷ line 0 1 (claim_entry 0 0 1) ∷ line 0 1 kept_start
+moved_record = record (raw_record [] ((line 0 0 (start modes.Abs 0 0) ∷ line 0 1 (claim_entry 0 0 1) ∷ line 0 1 kept_start
     ∷ line 0 1 (finish_entry true 1) ∷ line 0 3 (out_entry 1 true) ∷ line 0 3 moved_start ∷ []) ∷ [])
-    ((answers.Started 1 0 false ∷ answers.More 0 (0 ∷ []) ∷ answers.Peek 4 0 true false false ∷ answers.Started 6 1 true ∷ []) ∷ [])
+    ((answers.Started 1 0 false ∷ answers.More 0 (0 ∷ []) ∷ answers.Peek 4 0 true false false ∷ answers.Started 6 1 true ∷ []) ∷ [])) {
+      bases = [] ∷ [] ∷ [];
+    }
 
 -- ---- a POSIX timer is set, expires, and has its signal accepted, which arms it again; a second acceptance finds none
 
@@ -132,6 +135,7 @@ accepted_record = record {
   version = versions.One;
   clock = record { label = at 0 1; write = writes.Advance 100; mono = 100; real = 100; boot = 100; changes = 0 }
       ∷ record { label = at 0 3; write = writes.Advance 35; mono = 135; real = 135; boot = 135; changes = 0 } ∷ [];
+  bases = [] ∷ [];
   timers = (line 0 0 (start modes.Abs 100 100) ∷ line 0 2 (claim_entry 0 1 1) ∷ line 0 2 (finish_entry false 1)
       ∷ line 0 4 rearming_start ∷ []) ∷ [];
   objects = (case_object_line 0 0 set_entry ∷ case_object_line 0 2 trigger_entry ∷ case_object_line 0 4 accept_entry
@@ -162,6 +166,24 @@ waiting_script = case_script_in versions.Two 1 1 (hard_raw callbacks.Once ∷ ha
 abbrev pub waiting_record : RunRecord
 waiting_record = case_record_in versions.Two [] ((line 0 0 (slack_entry 0 100) ∷ []) ∷ (line 0 1 (start modes.Abs 50 50) ∷ []) ∷ [])
     ((answers.Started 1 0 false ∷ answers.Started 1 0 false ∷ answers.Done 0 [] ∷ []) ∷ [])
+
+-- ---- a base is taken off line, which moves its timer to the heir; a start that asks for the base goes there; and the base is on line again
+
+-- the script
+abbrev pub heir_script : Script
+heir_script = case_script_in versions.Two 2 1 (hard_raw callbacks.Once ∷ []) ((by 0 (case_start 0 modes.Abs 100 1) ∷ by 0 (calls.Offline 1 0 4)
+    ∷ by 0 (case_start 0 modes.Abs 200 1) ∷ by 0 (calls.Online 1) ∷ []) ∷ [])
+
+-- the timer's lines: it is sent to base 1 and started there, moved to base 0, and started there again
+abbrev pub heir_lines : List TimerLine
+heir_lines = line 0 0 (out_entry 1 false) ∷ line 0 0 (case_start_entry modes.Abs 100 0 1 1 100 false)
+    ∷ line 0 1 (out_entry 0 true) ∷ line 0 1 (case_start_entry modes.Keep 100 0 0 0 100 false)
+    ∷ line 0 2 (case_start_entry modes.Abs 200 0 0 0 200 true) ∷ []
+
+-- its record
+abbrev pub heir_record : RunRecord
+heir_record = off_line_record ([] ∷ (base_line 1 (shifts.Offline 0) ∷ base_line 3 shifts.Online ∷ []) ∷ []) (heir_lines ∷ [])
+    (answers.Started 2 1 false ∷ answers.Offline 1 1 ∷ answers.Started 5 0 true ∷ answers.Online 2 ∷ [])
 
 -- ---- a hard and a soft expiry run on one base, each of which fires its own timer
 

@@ -5,6 +5,7 @@ use Rattle.ktime.specs.declared.mode.Mode.{Mode}
 use Rattle.ktime.specs.declared.mode.Mode.TheVariants as modes
 use Rattle.seq_timer.specs.declared.context.Context.TheVariants as contexts
 use Rattle.record_text.specs.declared.record.Answer.{Answer}
+use Rattle.record_text.specs.declared.record.BaseLine.{BaseLine}
 use Rattle.record_text.specs.declared.record.ClockLine.{ClockLine}
 use Rattle.seq_timer.specs.declared.event.EventBy.TheVariants as events
 use Rattle.seq_timer.specs.declared.event.Reply.TheVariants as replies
@@ -13,6 +14,7 @@ use Rattle.record_text.specs.declared.record.Label.{Label}
 use Rattle.record_text.specs.declared.record.ObjectEntry.{ObjectEntry}
 use Rattle.record_text.specs.declared.record.ObjectLine.{ObjectLine}
 use Rattle.seq_timer.specs.declared.event.Restarted.TheVariants as restarts
+use Rattle.seq_timer.specs.declared.standing.BaseEvent.{BaseEvent}
 use Rattle.record_text.specs.declared.record.RunRecord.{RunRecord}
 use Rattle.record_text.specs.declared.record.TimerLine.{TimerLine}
 use Rattle.record_text.specs.declared.version.Version.{Version}
@@ -108,11 +110,27 @@ slack_entry ns slack = record {
 abbrev pub claim_lines : ℕ → ℕ → List TimerLine
 claim_lines lane call = line lane call (claim_entry 0 0 1) ∷ line lane call (finish_entry false 1) ∷ []
 
--- a record of a version of timers by themselves, which has no objects
+-- an entry of a base that a call of lane 0 made
+abbrev pub base_line : ℕ → BaseEvent → BaseLine
+base_line call event = record { label = at 0 call; event = event }
+
+-- a record of version 2 of timers by themselves, which has no objects, with these entries of bases, and in which no time passes
+abbrev pub off_line_record : List (List BaseLine) → List (List TimerLine) → List Answer → RunRecord
+off_line_record bases timers answers = record {
+  version = versions.Two;
+  clock = [];
+  bases = bases;
+  timers = timers;
+  objects = map (λ lines. []) timers;
+  answers = answers ∷ [];
+}
+
+-- a record of a version of timers by themselves, which has no objects, on one base that stays on line
 abbrev pub case_record_in : Version → List ClockLine → List (List TimerLine) → List (List Answer) → RunRecord
 case_record_in version clock timers answers = record {
   version = version;
   clock = clock;
+  bases = [] ∷ [];
   timers = timers;
   objects = map (λ lines. []) timers;
   answers = answers;

@@ -1,8 +1,9 @@
 -- Scripts, each with a record that doesn't fit it, though each timer's lines by themselves are a history in all but one of them.
-use Rattle.std.specs.Prelude.{ℕ, Bool, true, false, List, [], ◌∷◌}
+use Rattle.std.specs.Prelude.{ℕ, Bool, true, false, List, [], ◌∷◌, ◌++◌, map}
 use Rattle.ktime.specs.declared.mode.Mode.TheVariants as modes
 use Rattle.clock_model.specs.declared.write.Write.TheVariants as writes
 use Rattle.seq_timer.specs.declared.context.Context.TheVariants as contexts
+use Rattle.seq_timer.specs.declared.standing.BaseEvent.TheVariants as shifts
 use Rattle.record_text.specs.declared.record.Answer.TheVariants as answers
 use Rattle.record_text.specs.declared.record.Armed.TheVariants as armings
 use Rattle.record_text.specs.declared.record.Entry.{Entry}
@@ -18,7 +19,7 @@ use Rattle.script_text.specs.declared.script.Callback.TheVariants as callbacks
 use Rattle.script_text.specs.declared.script.Kind.TheVariants as kinds
 use Rattle.script_text.specs.declared.script.Kind.{Kind}
 use Rattle.script_text.specs.declared.script.Script.{Script}
-use Rattle.run_cases.specs.Lines.{at, by, case_object_line, case_script, case_start, claim_lines, hard_expire, hard_raw, line, case_start_entry, raw_record, case_record_in, case_script_in, slack_entry, slack_start, start, cancel_entry, claim_entry, finish_entry}
+use Rattle.run_cases.specs.Lines.{at, base_line, by, case_object_line, case_script, case_start, claim_lines, hard_expire, hard_raw, line, off_line_record, out_entry, case_start_entry, raw_record, case_record_in, case_script_in, slack_entry, slack_start, start, cancel_entry, claim_entry, finish_entry}
 
 -- two timers whose callbacks do nothing
 abbrev pub two_timers : List Kind
@@ -90,6 +91,7 @@ abbrev pub uncancelled_record : RunRecord
 uncancelled_record = record {
   version = versions.One;
   clock = [];
+  bases = [] ∷ [];
   timers = (line 0 0 (set_start 100 0 false) ∷ line 0 1 (set_start 200 0 true) ∷ []) ∷ [];
   objects = (case_object_line 0 0 (set_entry_of 100 0 1 0) ∷ case_object_line 0 1 (set_entry_of 200 0 2 100) ∷ []) ∷ [];
   answers = (answers.Old 0 0 ∷ answers.Old 100 0 ∷ []) ∷ [];
@@ -107,6 +109,7 @@ abbrev pub crossed_record : RunRecord
 crossed_record = record {
   version = versions.One;
   clock = record { label = at 0 1; write = writes.Advance 1; mono = 1; real = 1; boot = 1; changes = 0 } ∷ [];
+  bases = [] ∷ [];
   timers = (line 0 0 (set_start 1 0 false) ∷ line 1 0 (claim_entry 0 1 1) ∷ line 1 0 (finish_entry false 1)
       ∷ line 0 2 (set_start 50 1 false) ∷ []) ∷ [];
   objects = (case_object_line 0 0 (set_entry_of 1 0 1 0) ∷ case_object_line 0 2 (set_entry_of 50 1 4 1)
@@ -125,6 +128,7 @@ abbrev pub settimes_record : RunRecord
 settimes_record = record {
   version = versions.One;
   clock = [];
+  bases = [] ∷ [];
   timers = (line 0 0 (set_start 100 0 false) ∷ line 1 0 (cancel_entry 1) ∷ line 1 0 (set_start 200 0 false) ∷ []) ∷ [];
   objects = (case_object_line 1 0 (set_entry_of 200 0 3 0) ∷ case_object_line 0 0 (set_entry_of 100 0 1 200) ∷ []) ∷ [];
   answers = (answers.Old 200 0 ∷ []) ∷ (answers.Old 0 0 ∷ []) ∷ [];
@@ -181,3 +185,53 @@ versions_script = case_script_in versions.Two 1 1 [] []
 -- a record that breaks it
 abbrev pub versions_record : RunRecord
 versions_record = raw_record [] [] ([] ∷ [])
+
+-- ---- bases that go off line
+
+-- a script of version 2 of one timer on two bases, and these calls of one lane
+abbrev pub two_bases : List Call → Script
+two_bases calls = case_script_in versions.Two 2 1 (hard_raw callbacks.Once ∷ []) (map (by 0) calls ∷ [])
+
+-- the lines of a timer that a call sends to base 1 and starts there
+abbrev pub lines_there : ℕ → List TimerLine
+lines_there call = line 0 call (out_entry 1 false) ∷ line 0 call (case_start_entry modes.Abs 100 0 1 1 100 false) ∷ []
+
+-- ---- a start leaves its timer on a base that is off line
+
+-- the script
+abbrev pub stranded_script : Script
+stranded_script = two_bases (calls.Offline 1 0 4 ∷ case_start 0 modes.Abs 100 1 ∷ [])
+
+-- a record that breaks it
+abbrev pub stranded_record : RunRecord
+stranded_record = off_line_record ([] ∷ (base_line 0 (shifts.Offline 0) ∷ []) ∷ []) (lines_there 1 ∷ [])
+    (answers.Offline 0 1 ∷ answers.Started 2 1 false ∷ [])
+
+-- ---- a base goes off line with a timer armed on it
+
+-- the script
+abbrev pub left_script : Script
+left_script = two_bases (case_start 0 modes.Abs 100 1 ∷ calls.Offline 1 0 4 ∷ [])
+
+-- a record that breaks it
+abbrev pub left_record : RunRecord
+left_record = off_line_record ([] ∷ (base_line 1 (shifts.Offline 0) ∷ []) ∷ []) (lines_there 0 ∷ [])
+    (answers.Started 2 1 false ∷ answers.Offline 0 1 ∷ [])
+
+-- ---- a timer that is moved off a base gets another expiry: the same script
+
+-- a record that breaks it
+abbrev pub early_move_record : RunRecord
+early_move_record = off_line_record ([] ∷ (base_line 1 (shifts.Offline 0) ∷ []) ∷ [])
+    ((lines_there 0 ++ line 0 1 (out_entry 0 true) ∷ line 0 1 (case_start_entry modes.Keep 90 0 0 0 90 false) ∷ []) ∷ [])
+    (answers.Started 2 1 false ∷ answers.Offline 1 1 ∷ [])
+
+-- ---- a call answers that a base is on line again, and the base has no such entry
+
+-- the script
+abbrev pub silent_script : Script
+silent_script = two_bases (calls.Offline 1 0 4 ∷ calls.Online 1 ∷ [])
+
+-- a record that breaks it
+abbrev pub silent_record : RunRecord
+silent_record = off_line_record ([] ∷ (base_line 0 (shifts.Offline 0) ∷ []) ∷ []) ([] ∷ []) (answers.Offline 0 1 ∷ answers.Online 2 ∷ [])

@@ -51,3 +51,9 @@ pub fn a_due_timer_waits_behind_an_earlier_one()
 pub fn each_expiry_run_fires_its_own_timer()
     ensures { Fits fitting.contexts_script fitting.contexts_record }
 {}
+
+/// A base is taken off line, which moves its timer to the heir; a start that asks for the base goes to the heir; then the base is on line again.
+#[tactic(auto, using(crate::proofs::OffLine::heir_fits))]
+pub fn a_start_goes_to_the_heir()
+    ensures { Fits fitting.heir_script fitting.heir_record }
+{}

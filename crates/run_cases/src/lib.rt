@@ -6,14 +6,15 @@ mod wrong;
 
 pub use fitting::{
     a_callback_is_told_that_it_runs, a_cancel_beside_an_expiry,
-    a_due_timer_waits_behind_an_earlier_one, a_soft_expiry_is_enough,
+    a_due_timer_waits_behind_an_earlier_one, a_soft_expiry_is_enough, a_start_goes_to_the_heir,
     a_start_while_running_and_one_to_another_base, an_accepted_signal_arms_a_timer_again,
     an_expiry_and_an_idle_cancel, each_expiry_run_fires_its_own_timer,
 };
 pub use wrong::{
-    a_hard_run_claims_no_soft_timer, a_record_is_of_its_scripts_version, a_settime_cancels_first,
+    a_base_comes_on_line_by_an_entry, a_base_goes_off_line_empty, a_hard_run_claims_no_soft_timer,
+    a_moved_timer_keeps_its_expiry, a_record_is_of_its_scripts_version, a_settime_cancels_first,
     an_expiry_run_is_done_at_one_moment, entries_of_objects_and_timers_dont_cross,
     equal_expiries_are_claimed_in_turn, no_claim_looks_past_the_first_timer,
-    no_hard_expiry_is_missed, no_timer_expires_before_its_soft_expiry,
-    two_functions_never_run_at_once_on_a_base,
+    no_hard_expiry_is_missed, no_start_ends_on_a_base_off_line,
+    no_timer_expires_before_its_soft_expiry, two_functions_never_run_at_once_on_a_base,
 };

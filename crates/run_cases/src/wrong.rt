@@ -63,3 +63,27 @@ pub fn a_hard_run_claims_no_soft_timer()
 pub fn a_record_is_of_its_scripts_version()
     ensures { Fits wrong.versions_script wrong.versions_record → ⊥ }
 {}
+
+/// A start doesn't leave its timer on a base that is off line.
+#[tactic(auto, using(crate::proofs::OffLine::stranded_doesnt_fit))]
+pub fn no_start_ends_on_a_base_off_line()
+    ensures { Fits wrong.stranded_script wrong.stranded_record → ⊥ }
+{}
+
+/// A base doesn't go off line with a timer armed on it.
+#[tactic(auto, using(crate::proofs::OffLine::left_doesnt_fit))]
+pub fn a_base_goes_off_line_empty()
+    ensures { Fits wrong.left_script wrong.left_record → ⊥ }
+{}
+
+/// A timer that is moved off a base keeps its expiry.
+#[tactic(auto, using(crate::proofs::OffLine::early_move_doesnt_fit))]
+pub fn a_moved_timer_keeps_its_expiry()
+    ensures { Fits wrong.left_script wrong.early_move_record → ⊥ }
+{}
+
+/// A base isn't on line again without an entry that says so.
+#[tactic(auto, using(crate::proofs::OffLine::silent_doesnt_fit))]
+pub fn a_base_comes_on_line_by_an_entry()
+    ensures { Fits wrong.silent_script wrong.silent_record → ⊥ }
+{}

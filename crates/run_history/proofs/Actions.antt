@@ -1,15 +1,17 @@
 -- What a call did, of one list, in two parts.
 use Rattle.std.proofs.Common.{◌≡◌, ℕ, true, false, nat_eq, List, [], ◌∷◌, ◌++◌, refl, ap}
-use Rattle.run_history.specs.Actions.{Action, also, Entered, Looked, Made, made, Skipped, Wrote}
+use Rattle.run_history.specs.Actions.{Action, also, Entered, Looked, Made, made, Shifted, Skipped, Wrote}
 use Rattle.run_history.specs.Traces.{all_entered}
+use Rattle.run_history.specs.Witnesses.{OfBase, OfTimer}
 
 pub all_entered-append : (ds es : List Action) → all_entered (ds ++ es) ≡ all_entered ds ++ all_entered es
 all_entered-append [] es = refl
 all_entered-append (Wrote number write ∷ ds) es = all_entered-append ds es
-all_entered-append (Entered timer number entry ∷ ds) es = ap (λ xs. (timer, (number, entry)) ∷ xs) (all_entered-append ds es)
+all_entered-append (Entered timer number entry ∷ ds) es = ap (λ xs. (number, OfTimer timer entry) ∷ xs) (all_entered-append ds es)
 all_entered-append (Looked timer number reply ∷ ds) es = all_entered-append ds es
 all_entered-append (Made i number entry ∷ ds) es = all_entered-append ds es
 all_entered-append (Skipped i number generation ∷ ds) es = all_entered-append ds es
+all_entered-append (Shifted base number event ∷ ds) es = ap (λ xs. (number, OfBase base event) ∷ xs) (all_entered-append ds es)
 
 pub made-append : (i : ℕ) (ds es : List Action) → made i (ds ++ es) ≡ made i ds ++ made i es
 made-append i [] es = refl
@@ -22,3 +24,4 @@ made-append i (Made j number entry ∷ ds) es =
       | false ↦ made-append i ds es
     ]
 made-append i (Skipped j number generation ∷ ds) es = made-append i ds es
+made-append i (Shifted base number event ∷ ds) es = made-append i ds es

@@ -15,7 +15,7 @@ use Rattle.seq_timer.specs.declared.context.Declared.{Declared}
 use Rattle.seq_timer.specs.Halves.{running_on}
 use Rattle.seq_timer.specs.Steps.{Timer, opening}
 use Rattle.seq_timer.proofs.Contents.{seen_else, seen_here}
-use Rattle.seq_timer.specs.Tables.{IsNextDue, in_context, is_context, no_declared, no_timer, runs_on, seen_in}
+use Rattle.seq_timer.specs.Tables.{IsNextDue, in_context, is_armed_on, is_context, no_declared, no_timer, runs_on, seen_in}
 use Rattle.seq_timer.proofs.Alike.{next_due-alike, seen-alike, stopped-alike, unlimited}
 use Rattle.record_text.specs.declared.record.Answer.{Answer}
 use Rattle.record_text.specs.declared.record.Answer.TheVariants as answers
@@ -32,15 +32,16 @@ use Rattle.run_history.specs.Told.{observed}
 use Rattle.run_history.specs.Histories.{answers_of, reading_at, timer_after}
 use Rattle.script_text.specs.Declarations.{declared_of, terms_of}
 use Rattle.run_history.specs.Order.{CallInRound, calls_of, is_before, is_label, IsInOrder, IsLabel, IsWithin, made_by, round_of}
-use Rattle.run_history.specs.Witnesses.{Witness, labels, Move, timer_along}
-use Rattle.run_history.specs.EachTimer.{HasTimers, FitsTimers, TookNextDue, WasRefused, WasSo, WasTold}
+use Rattle.run_history.specs.Witnesses.{Witness, Move, OfTimer, Shown, labels, owner_of, timer_along}
+use Rattle.run_history.specs.EachTimer.{HasTimers, FitsTimers, IsOwnPoint, TookNextDue, WasRefused, WasSo, WasTold}
 use Rattle.run_history.specs.Fits.{Fits, FitsCall, FitsIn, FitsLane, Seen, unseen}
 use Rattle.run_history.specs.Traces.{all_entered, own_moves}
-use Rattle.run_history.specs.Truths.{AreTrue, IsMoment, AnswerHolds, IsTrue, Saw, SawRefusal}
+use Rattle.run_history.specs.Truths.{AreTrue, IsMoment, AnswerHolds, IsTrue, Saw, SawRefusal, WasOffLine}
 use Rattle.run_history.proofs.Actions.{all_entered-append}
 use Rattle.run_history.proofs.Labels.{same_label}
 use Rattle.run_history.proofs.Lists.{all_at, at_map, each_drop, each_take}
 use Rattle.run_history.proofs.OwnParts.{count_moves}
+use Rattle.run_history.proofs.Reached.{does_wider}
 use Rattle.run_history.proofs.OwnPoints.{before_then, declared_then, entered_then, labels_each, legal_each, order_each, point_then, same_then, saw_then, seen, stamp_then, turn_at}
 
 -- a function runs on a base
@@ -77,12 +78,12 @@ none_seen base contexts.Soft limit = refl
 -- ---- where an entry of a call stands in the order
 
 -- an entry of the call stands here, behind those that it had made
-pub record Stands (c : Label) (ms : List Move) (before : List (ℕ × (ℕ × Entry))) (e : ℕ × (ℕ × Entry)) : Type 0 where
+pub record Stands (c : Label) (ms : List Move) (before : List (ℕ × Shown)) (e : ℕ × Shown) : Type 0 where
   pub place : ℕ
   pub move : Move
   pub there : slice_get ms place ≡ Some move
-  pub label : move.line.label ≡ c
-  pub is : (move.timer, (move.before + 1, move.line.entry)) ≡ e
+  pub label : move.label ≡ c
+  pub is : (move.before + 1, move.shown) ≡ e
   pub own : own_moves c (take place ms) ≡ before
 
 -- lists that are the same begin with the same
@@ -92,16 +93,13 @@ heads x y xs ys e = cc
 tails : {X : Type 0} (x y : X) (xs ys : List X) → x ∷ xs ≡ y ∷ ys → xs ≡ ys
 tails x y xs ys e = cc
 
-shape : Move → ℕ × (ℕ × Entry)
-shape m = (m.timer, (m.before + 1, m.line.entry))
-
 -- law: each entry that a call made stands somewhere, behind those that it made before
-pub stands : (c : Label) (ms : List Move) (before rest : List (ℕ × (ℕ × Entry))) (e : ℕ × (ℕ × Entry)) → own_moves c ms ≡ before ++ e ∷ rest
+pub stands : (c : Label) (ms : List Move) (before rest : List (ℕ × Shown)) (e : ℕ × Shown) → own_moves c ms ≡ before ++ e ∷ rest
     → Stands c ms before e
 stands c [] [] rest e own = absurd (cc)
 stands c [] (b ∷ before) rest e own = absurd (cc)
 stands c (m ∷ ms) before rest e own =
-    elim (is_label c m.line.label) as (λ b. is_label c m.line.label ≡ b → also b (m.timer, (m.before + 1, m.line.entry)) (own_moves c ms) ≡ before ++ e ∷ rest
+    elim (is_label c m.label) as (λ b. is_label c m.label ≡ b → also b (m.before + 1, m.shown) (own_moves c ms) ≡ before ++ e ∷ rest
     → Stands c (m ∷ ms) before e) [
       | true ↦ λ is own. here before is own (λ early own. stands c ms early rest e own)
       | false ↦ λ is own. let s = stands c ms before rest e own in record {
@@ -110,21 +108,21 @@ stands c (m ∷ ms) before rest e own =
         there = s.there;
         label = s.label;
         is = s.is;
-        own = ap (λ b. also b (m.timer, (m.before + 1, m.line.entry)) (own_moves c (take s.place ms))) is ∙ s.own;
+        own = ap (λ b. also b (m.before + 1, m.shown) (own_moves c (take s.place ms))) is ∙ s.own;
       }
     ] refl own
   where
-    here : (before : List (ℕ × (ℕ × Entry))) → is_label c m.line.label ≡ true → (m.timer, (m.before + 1, m.line.entry)) ∷ own_moves c ms ≡ before ++ e ∷ rest
-        → ((early : List (ℕ × (ℕ × Entry))) → own_moves c ms ≡ early ++ e ∷ rest → Stands c ms early e) → Stands c (m ∷ ms) before e
-    here [] is own further = record { place = 0; move = m; there = refl; label = same_label c m.line.label is; is = heads _ _ _ _ own; own = refl }
+    here : (before : List (ℕ × Shown)) → is_label c m.label ≡ true → (m.before + 1, m.shown) ∷ own_moves c ms ≡ before ++ e ∷ rest
+        → ((early : List (ℕ × Shown)) → own_moves c ms ≡ early ++ e ∷ rest → Stands c ms early e) → Stands c (m ∷ ms) before e
+    here [] is own further = record { place = 0; move = m; there = refl; label = same_label c m.label is; is = heads _ _ _ _ own; own = refl }
     here (b ∷ before) is own further = let s = further before (tails _ _ _ _ own) in record {
       place = suc s.place;
       move = s.move;
       there = s.there;
       label = s.label;
       is = s.is;
-      own = ap (λ t. also t (m.timer, (m.before + 1, m.line.entry)) (own_moves c (take s.place ms))) is
-          ∙ ap (λ xs. (m.timer, (m.before + 1, m.line.entry)) ∷ xs) s.own ∙ ap (λ x. x ∷ before) (heads _ _ _ _ own);
+      own = ap (λ t. also t (m.before + 1, m.shown) (own_moves c (take s.place ms))) is
+          ∙ ap (λ xs. (m.before + 1, m.shown) ∷ xs) s.own ∙ ap (λ x. x ∷ before) (heads _ _ _ _ own);
     }
 
 not_before_itself : (s : Script) (c : Label) → is_before s c c ≡ false
@@ -183,36 +181,34 @@ module _ (w : Witness) (f : FitsIn w) where
   claim_then c before rest t number base reading reply own_are =
       let claim : Entry = record { event = events.Claim base reading; reply = reply } in
       let e = Entered t number claim in
-      let s = stands c w.moves (all_entered before) (all_entered rest) (t, (number, claim))
+      let s = stands c w.moves (all_entered before) (all_entered rest) (number, OfTimer t claim)
       (own_are ∙ all_entered-append before (e ∷ rest)) in
       let p = s.place in
       let m = s.move in
       let clock = w.run.clock in
-      let timer_is : m.timer ≡ t = ap (λ (x : ℕ × (ℕ × Entry)). x.0) s.is in
-      let event_is : m.line.entry.event ≡ events.Claim base reading = ap (λ (x : ℕ × (ℕ × Entry)). x.1.1.event) s.is in
-      let label : slice_get (labels w) p ≡ Some c = at_map (λ (m : Move). m.line.label) w.moves p m s.there ∙ ap (λ l. Some l) s.label in
+      let shown : m.shown ≡ OfTimer t claim = ap (λ (x : ℕ × Shown). x.1) s.is in
+      let label : slice_get (labels w) p ≡ Some c = at_map (λ (m : Move). m.label) w.moves p m s.there ∙ ap (λ l. Some l) s.label in
       let moment : IsMoment w c before p = record {
         within = within_at w.script c (labels w) p f.order label;
-        so_many = ap (made_by c) (take-map (λ (m : Move). m.line.label) p w.moves) ∙ count_moves c (take p w.moves) ∙ ap length s.own;
+        so_many = ap (made_by c) (take-map (λ (m : Move). m.label) p w.moves) ∙ count_moves c (take p w.moves) ∙ ap length s.own;
       } in
-      let turn = turn_at w f.history f.timers p m base reading s.there event_is in
-      let context : (timer_along w p m.timer).declared.context ≡ (declared_of w.script t).context =
-      ap (λ (d : Declared). d.context) (declared_then w f.history f.timers p m.timer ∙ ap (declared_of w.script) timer_is) in
+      let turn = turn_at w f.history f.timers p t m claim base reading s.there shown refl in
+      let context : (timer_along w p t).declared.context ≡ (declared_of w.script t).context =
+      ap (λ (d : Declared). d.context) (declared_then w f.history f.timers p t) in
       let x : Context = (declared_of w.script t).context in
       let next : IsNextDue (in_context x (timer_along w p)) base (reading_at clock reading) t =
-      subst (IsNextDue (in_context x (timer_along w p)) base (reading_at clock reading)) timer_is
-      (subst (λ y. IsNextDue (in_context y (timer_along w p)) base (reading_at clock reading) m.timer) context turn.next) in
+      subst (λ y. IsNextDue (in_context y (timer_along w p)) base (reading_at clock reading) t) context turn.next in
       let idle : (u : ℕ) → runs_on base (seen_in x (timer_along w p u)) ≡ false =
       λ u. subst (λ y. runs_on base (seen_in y (timer_along w p u)) ≡ false) context (turn.idle u) in
       let same = same_then w f.history f.timers in
       record {
         seen = seen w p;
         points = λ u. point_then w f.history f.timers c before (e ∷ rest) p u own_are moment;
-        claimed = ap (λ u. seen w p u + 1) (sym timer_is) ∙ ap (λ n. n + 1) (before_then w f.history f.timers p m s.there)
-            ∙ ap (λ (x : ℕ × (ℕ × Entry)). x.1.0) s.is;
+        claimed = ap (λ n. n + 1) (before_then w f.history f.timers p t m s.there (ap owner_of shown)) ∙ ap (λ (x : ℕ × Shown). x.0) s.is;
         free = λ u. sym (same (λ k. runs_on base (seen_in x k)) (none_seen base x (terms_of w.script)) p u) ∙ idle u;
         next = next_due-alike (in_context x (timer_along w p)) (in_context x (λ u. timer_after w.script w.run u (seen w p u)))
-            (λ u. seen-alike x (timer_along w p u) (timer_after w.script w.run u (seen w p u)) (same_then w f.history f.timers unlimited refl p u)) base (reading_at clock reading) t next;
+            (λ u. seen-alike x (timer_along w p u) (timer_after w.script w.run u (seen w p u)) (same_then w f.history f.timers unlimited refl p u)) base
+            (reading_at clock reading) t next;
       }
 
   module _ (c : Label) (at first last : ℕ) (actions : List Action) (own_are : own_moves c w.moves ≡ all_entered actions)
@@ -254,6 +250,29 @@ module _ (w : Witness) (f : FitsIn w) where
         let so = was_so t (timer_along w last t).stamp (observations.Running generation) (record { stamp = refl; holds = runs.1 }) in
         (ap (λ (d : Declared). d.context) (sym (declared_then w f.history f.timers last t)) ∙ runs.0, ((timer_along w last t).stamp, so, on))
     told_then (calls.Settime t flags value interval) (answers.Unarmed stamp) is = refused t stamp is.1
+    told_then (calls.Offline base heir budget) (answers.Offline moved stamp) is = record {
+      seen = seen w last;
+      points = λ u. point_then w f.history f.timers c actions [] last u all_own ends;
+      unused = record {
+        unarmed = λ u. sym (same_then w f.history f.timers (is_armed_on base) refl last u) ∙ is.unarmed u;
+        idle = λ u. sym (same_then w f.history f.timers (runs_on base) refl last u) ∙ is.idle u;
+      };
+    }
+    told_then (calls.Offline base heir budget) (answers.OfflineBusy moved t generation) is =
+        let runs = running_there base (timer_along w last t) generation is in
+        let on : (timer_after w.script w.run t (timer_along w last t).stamp).base ≡ base =
+        ap (λ k. (timer_after w.script w.run t k).base) (stamp_then w f.history f.timers last t)
+        ∙ sym (same_then w f.history f.timers (λ x. x.base) refl last t) ∙ runs.1 in
+        let so = was_so t (timer_along w last t).stamp (observations.Running generation) (record { stamp = refl; holds = runs.0 }) in
+        ((timer_along w last t).stamp, so, on)
+    told_then (calls.Offline base heir budget) (answers.OfflineSpent moved t stamp) is =
+        let same : seen w last t ≡ stamp = sym (stamp_then w f.history f.timers last t) ∙ is.1.stamp in
+        record {
+          point = subst (IsOwnPoint w.script w.run c actions t) same (point_then w f.history f.timers c actions [] last t all_own ends);
+          armed = subst (λ k. is_armed_on base (timer_after w.script w.run t k) ≡ true) same
+              (sym (same_then w f.history f.timers (is_armed_on base) refl last t) ∙ is.1.armed);
+          full = is.1.full;
+        }
     told_then call answer is = tt
 
   knows_from : (c : Label) (call : Call) (answer : Answer) (before after : Seen) → FitsCall w c call answer before after
@@ -264,17 +283,20 @@ module _ (w : Witness) (f : FitsIn w) where
         at = t.at;
         fired = t.fired;
         actions = t.actions;
-        does = fits.does;
+        moved = t.moved;
+        does = does_wider (WasOffLine w t.first t.last) (λ base heir. Unit {0})
+            (λ base heir was. tt) w.script t.at call answer t.fired t.moved t.actions fits.does;
+        keeps = fits.keeps;
         reading = fits.reading;
-        entered = λ u. entered_then w f.history f.timers c t.actions u fits.traced.timers;
+        entered = λ u. entered_then w f.history f.timers c t.actions u fits.traced.moves;
         looked = fits.traced.looks;
         looks = λ early rest u number look is.
             let true_there = true_at w c t.first t.first [] t.actions early (Looked u number look) rest t.last fits.truth is in
-            saw_then w f.history f.timers c early (Looked u number look ∷ rest) true_there.0 u number (observed look) (fits.traced.timers ∙ ap all_entered is)
+            saw_then w f.history f.timers c early (Looked u number look ∷ rest) true_there.0 u number (observed look) (fits.traced.moves ∙ ap all_entered is)
             true_there.1.0 true_there.1.1;
         claims = λ early rest u number base reading reply is.
-            claim_then c early rest u number base reading reply (fits.traced.timers ∙ ap all_entered is);
-        told = told_then c t.at t.first t.last t.actions fits.traced.timers fits.ends call answer fits.seen;
+            claim_then c early rest u number base reading reply (fits.traced.moves ∙ ap all_entered is);
+        told = told_then c t.at t.first t.last t.actions fits.traced.moves fits.ends call answer fits.seen;
       }
 
   each_answered : (lane index : ℕ) (before : Seen) (ps : List CallInRound) (given : List Answer) → FitsLane w lane index before ps given
@@ -307,7 +329,7 @@ module _ (w : Witness) (f : FitsIn w) where
   has_timers : HasTimers w.script w.run
   has_timers = record {
     histories = legal_each w f.history f.timers;
-    labels = λ t. labels_each w f.history f.timers (IsLabel w.script) t f.timer_calls;
+    labels = λ t. labels_each w f.history f.timers (IsLabel w.script) t f.move_calls;
     order = λ t. order_each w f.history f.timers t f.order;
     answered = λ lane. each_answered lane 0 unseen (calls_of w.script lane) (answers_of w.run lane) (f.calls lane);
     calls = λ lane index p answer at_p at_a.

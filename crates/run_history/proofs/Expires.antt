@@ -8,7 +8,7 @@ use Rattle.ktime.specs.declared.mode.Mode.TheVariants as modes
 use Rattle.seq_timer.specs.declared.context.Context.{Context}
 use Rattle.seq_timer.specs.Halves.{running_on}
 use Rattle.seq_timer.specs.Tables.{in_context}
-use Rattle.seq_timer.specs.declared.system.TimerEntry.{TimerEntry}
+use Rattle.seq_timer.specs.declared.system.SystemEntry.{SystemEntry}
 use Rattle.record_text.specs.declared.record.Answer.TheVariants as answers
 use Rattle.record_text.specs.declared.record.Answer.{Answer}
 use Rattle.record_text.specs.declared.record.CallbackReply.TheVariants as told
@@ -28,16 +28,17 @@ use Rattle.script_text.specs.declared.script.Callback.{Callback}
 use Rattle.script_text.specs.declared.script.Kind.TheVariants as kinds
 use Rattle.script_text.specs.declared.script.Kind.{Kind}
 use Rattle.run_history.specs.Calls.{Does, fires, IsBody, IsCallback, IsExpiryRun, IsTrigger}
-use Rattle.run_history.specs.Witnesses.{Witness, Fired, timer_along, Trace}
+use Rattle.run_history.specs.Witnesses.{Witness, Fired, OfTimer, timer_along, Trace}
 use Rattle.run_history.specs.Fits.{FitsCall, Seen}
 use Rattle.run_history.specs.Receipts.{PlacedEntry, receipt}
 use Rattle.run_history.specs.Rounds.{Spans}
 use Rattle.run_history.specs.Traces.{all_entered}
-use Rattle.run_history.specs.Truths.{AreTrue, IsClaimSpan, IsDone, IsMoment, AnswerHolds, Saw, SawFull}
+use Rattle.run_history.specs.Truths.{AreTrue, IsClaimSpan, IsDone, IsMoment, AnswerHolds, Saw, SawFull, WasOffLine}
 use Rattle.run_history.proofs.Actions.{all_entered-append}
 use Rattle.run_history.proofs.Kept.{call_made_whole, IsKept, moment_of, Stops}
 use Rattle.run_history.proofs.Known.{AreMade, made-append, made_wider, none_made, stops_between}
 use Rattle.run_history.proofs.OthersMade.{start_true}
+use Rattle.run_history.proofs.Reached.{body_wider, was_wider}
 
 -- ---- truths in turn
 
@@ -80,7 +81,8 @@ ReplyHolds w c before acted (Skipped i number generation ∷ []) = SawFull w c b
 ReplyHolds w c before acted ds = Unit
 
 -- one callback of an expiry run, from one number of entries that its pass had seen to another
-pub record Ran (w : Witness) (c : Label) (order : List TimerEntry) (context : Context) (base at : ℕ) (before : List Action) (f : Fired) (from to : ℕ) : Type 0 where
+pub record Ran (w : Witness) (c : Label) (order : List SystemEntry) (context : Context) (base at : ℕ) (before : List Action) (f : Fired)
+    (from to : ℕ) : Type 0 where
   -- that number after the claim, and where the callback's look held or after the callback
   pub claimed : ℕ
   pub acted : ℕ
@@ -92,19 +94,20 @@ pub record Ran (w : Witness) (c : Label) (order : List TimerEntry) (context : Co
   pub goes_on : claimed ≤ acted
   pub ends : acted ≤ to
   pub claim_made : AreMade order from claimed (claim ∷ [])
-  pub claim_is : receipt claim ≡ (f.timer, (f.claim, claim_of base at f))
+  pub claim_is : receipt claim ≡ (f.claim, OfTimer f.timer (claim_of base at f))
   pub body_made : AreMade order claimed acted body
   pub body_is : map receipt body ≡ all_entered f.body
   pub finish_made : AreMade order acted to (finish ∷ [])
-  pub finish_is : receipt finish ≡ (f.timer, (f.finish, finish_of f))
-  -- the timer is of the run's context; the callback is as the timer declares it, what it was told holds, and an expiry's span is the claim
+  pub finish_is : receipt finish ≡ (f.finish, OfTimer f.timer (finish_of f))
+  -- the timer is of the run's context; the callback is as the timer declares it, by bases that were off line meanwhile; what it was told holds, and an
+  -- expiry's span is the claim
   pub own : (declared_of w.script f.timer).context ≡ context
-  pub kind : IsBody (kind_of w.script f.timer) at f
+  pub kind : IsBody (WasOffLine w from to) w.script.limit (kind_of w.script f.timer) at f
   pub holds : ReplyHolds w c (with_claim base at f before) acted f.body
   pub span : IsClaimSpan w f f.body
 
 -- its receipts
-abbrev pub notes_of : {w : Witness} {c : Label} {order : List TimerEntry} {context : Context} {base at : ℕ} {before : List Action} {f : Fired} {from to : ℕ}
+abbrev pub notes_of : {w : Witness} {c : Label} {order : List SystemEntry} {context : Context} {base at : ℕ} {before : List Action} {f : Fired} {from to : ℕ}
     → Ran w c order context base at before f from to → List PlacedEntry
 notes_of ran = ran.claim ∷ ran.body ++ ran.finish ∷ []
 
@@ -112,7 +115,7 @@ no_notes : (xs : List PlacedEntry) → map receipt xs ≡ [] → xs ≡ []
 no_notes [] is = refl
 no_notes (x ∷ xs) is = absurd (cc)
 
-module _ {w : Witness} {c : Label} {order : List TimerEntry} {context : Context} {base at : ℕ} {before : List Action} {f : Fired} {from to : ℕ}
+module _ {w : Witness} {c : Label} {order : List SystemEntry} {context : Context} {base at : ℕ} {before : List Action} {f : Fired} {from to : ℕ}
     (ran : Ran w c order context base at before f from to) where
   forward : from ≤ to
   forward = omega (arith, ran.rise, ran.goes_on, ran.ends)
@@ -126,16 +129,16 @@ module _ {w : Witness} {c : Label} {order : List TimerEntry} {context : Context}
   notes_are : map receipt (notes_of ran) ≡ all_entered (fires base at f)
   notes_are =
       ap (λ x. x ∷ map receipt (ran.body ++ ran.finish ∷ [])) ran.claim_is
-      ∙ ap (λ xs. (f.timer, (f.claim, claim_of base at f)) ∷ xs) (map-append receipt ran.body (ran.finish ∷ [])
+      ∙ ap (λ xs. (f.claim, OfTimer f.timer (claim_of base at f)) ∷ xs) (map-append receipt ran.body (ran.finish ∷ [])
       ∙ ap (λ xs. xs ++ receipt ran.finish ∷ []) ran.body_is ∙ ap (λ x. all_entered f.body ++ x ∷ []) ran.finish_is)
-      ∙ sym (ap (λ es. (f.timer, (f.claim, claim_of base at f)) ∷ es) (all_entered-append f.body (Entered f.timer f.finish (finish_of f) ∷ [])))
+      ∙ sym (ap (λ es. (f.claim, OfTimer f.timer (claim_of base at f)) ∷ es) (all_entered-append f.body (Entered f.timer f.finish (finish_of f) ∷ [])))
 
 -- the call's moments are where it had made so much, between these numbers
 abbrev pub AreMoments : Witness → Label → List PlacedEntry → ℕ → ℕ → Type 0
 AreMoments w c notes low high = (early : List Action) (n : ℕ) → low ≤ n → n ≤ high → Stops c notes early n → IsMoment w c early n
 
 -- a callback among a call's receipts, those before it and those behind
-module _ {w : Witness} {c : Label} {order : List TimerEntry} {context : Context} {base at : ℕ} {before : List Action} {f : Fired} {from to : ℕ}
+module _ {w : Witness} {c : Label} {order : List SystemEntry} {context : Context} {base at : ℕ} {before : List Action} {f : Fired} {from to : ℕ}
     (ran : Ran w c order context base at before f from to) (low high : ℕ) (all early late : List PlacedEntry) (split : all ≡ early ++ (notes_of ran ++ late))
     (one : AreMade order low from early) (two : AreMade order to high late) (are : map receipt early ≡ all_entered before) (under : low ≤ from)
     (over : to ≤ high) (moments : AreMoments w c all low high) where
@@ -192,7 +195,7 @@ module _ {w : Witness} {c : Label} {order : List TimerEntry} {context : Context}
       looks timer number look is = by_body (Looked timer number look ∷ []) is
           (λ holds. (ran.acted, onward, (moment_acted (ap all_entered (sym is)), holds.0, holds.1), omega arith))
 
-      by_callback : (callback : Callback) → IsCallback callback at f → AreTrue w c first from since f.body ran.acted
+      by_callback : (callback : Callback) → IsCallback (WasOffLine w from to) w.script.limit callback at f → AreTrue w c first from since f.body ran.acted
       by_callback callbacks.Once is = by_body [] is.0 (λ holds. onward)
       by_callback (callbacks.Every interval) is =
           ⊎_elim
@@ -214,7 +217,7 @@ module _ {w : Witness} {c : Label} {order : List TimerEntry} {context : Context}
           (λ holds. (ran.claimed, ran.rise, (moment_claimed, tt, tt), ran.goes_on)))
           (λ skipped. by_body (Skipped f.timer skipped.0 f.generation ∷ []) skipped.1 (λ holds. (from, omega arith, holds, onward))) is.0
 
-      by_kind : (kind : Kind) → IsBody kind at f → AreTrue w c first from since f.body ran.acted
+      by_kind : (kind : Kind) → IsBody (WasOffLine w from to) w.script.limit kind at f → AreTrue w c first from since f.body ran.acted
       by_kind (kinds.Raw x callback) is = by_callback callback is
       by_kind (kinds.Posix on) is = by_trigger is
       by_kind (kinds.Fd on) is = by_trigger is
@@ -231,20 +234,22 @@ module _ {w : Witness} {c : Label} {order : List TimerEntry} {context : Context}
 -- ---- the callbacks of an expiry run
 
 -- they ran in turn, each between two numbers of entries that the pass had seen, and these are their receipts
-abbrev pub HaveRun : Witness → Label → List TimerEntry → Context → ℕ → ℕ → List Action → ℕ → List Fired → List PlacedEntry → ℕ → Type 0
+abbrev pub HaveRun : Witness → Label → List SystemEntry → Context → ℕ → ℕ → List Action → ℕ → List Fired → List PlacedEntry → ℕ → Type 0
 HaveRun w c order context base at before from [] notes to = (notes ≡ []) × (from ≤ to)
 HaveRun w c order context base at before from (f ∷ fs) notes to =
     (ends : ℕ) × (ran : Ran w c order context base at before f from ends) × (rest : List PlacedEntry) × (notes ≡ notes_of ran ++ rest)
     × HaveRun w c order context base at (before ++ fires base at f) ends fs rest to
 
-module _ (w : Witness) (c : Label) (order : List TimerEntry) (context : Context) (base at : ℕ) where
-  run_forward : (before : List Action) (from : ℕ) (fs : List Fired) (notes : List PlacedEntry) (to : ℕ) → HaveRun w c order context base at before from fs notes to
+module _ (w : Witness) (c : Label) (order : List SystemEntry) (context : Context) (base at : ℕ) where
+  run_forward : (before : List Action) (from : ℕ) (fs : List Fired) (notes : List PlacedEntry) (to : ℕ)
+      → HaveRun w c order context base at before from fs notes to
       → from ≤ to
   run_forward before from [] notes to run = run.1
   run_forward before from (f ∷ fs) notes to run = omega (arith, forward run.1, run_forward (before ++ fires base at f) run.0 fs run.2 to run.4)
 
   -- law: the receipts are made in turn, and are of what the callbacks did
-  pub run_made : (before : List Action) (from : ℕ) (fs : List Fired) (notes : List PlacedEntry) (to : ℕ) → HaveRun w c order context base at before from fs notes to
+  pub run_made : (before : List Action) (from : ℕ) (fs : List Fired) (notes : List PlacedEntry) (to : ℕ)
+      → HaveRun w c order context base at before from fs notes to
       → AreMade order from to notes × (map receipt notes ≡ all_entered (flat_map (fires base at) fs))
   run_made before from [] notes to run = subst (λ xs. AreMade order from to xs × (map receipt xs ≡ [])) (sym run.0) (none_made order from to, refl)
   run_made before from (f ∷ fs) notes to run =
@@ -275,7 +280,7 @@ module _ (w : Witness) (c : Label) (order : List TimerEntry) (context : Context)
     finish_made = ran.finish_made;
     finish_is = ran.finish_is;
     own = ran.own;
-    kind = ran.kind;
+    kind = body_wider (WasOffLine w mid to) (WasOffLine w from to) (was_wider w le (omega arith)) w.script.limit (kind_of w.script f.timer) at f ran.kind;
     holds = subst (λ b. ReplyHolds w c (with_claim base at f b) ran.acted f.body) same ran.holds;
     span = ran.span;
   }
@@ -302,15 +307,19 @@ module _ (w : Witness) (c : Label) (order : List TimerEntry) (context : Context)
         (is ∙ sym (append_assoc before (fires base at g) (flat_map (fires base at) fs))) ran,
   )
 
-  -- what one that has run has, each has
-  each_ran : (P : Fired → Type 0) → ((before : List Action) (f : Fired) (from to : ℕ) → Ran w c order context base at before f from to → P f)
+  -- what one that has run between these numbers has, each has
+  each_ran : (P : Fired → Type 0) (low high : ℕ)
+      → ((before : List Action) (f : Fired) (from to : ℕ) → low ≤ from → to ≤ high → Ran w c order context base at before f from to → P f)
       → (before : List Action) (from : ℕ) (fs : List Fired) (notes : List PlacedEntry) (to : ℕ) → HaveRun w c order context base at before from fs notes to
-      → AllByRecursion P fs
-  each_ran P one before from [] notes to run = tt
-  each_ran P one before from (f ∷ fs) notes to run =
-      (one before f from run.0 run.1, each_ran P one (before ++ fires base at f) run.0 fs run.2 to run.4)
+      → low ≤ from → to ≤ high → AllByRecursion P fs
+  each_ran P low high one before from [] notes to run under over = tt
+  each_ran P low high one before from (f ∷ fs) notes to run under over = (
+    one before f from run.0 under (omega (arith, run_forward (before ++ fires base at f) run.0 fs run.2 to run.4, over)) run.1,
+    each_ran P low high one (before ++ fires base at f) run.0 fs run.2 to run.4 (omega (arith, under, forward run.1)) over,
+  )
 
-  run_true : (first low high : ℕ) (all : List PlacedEntry) → AreMoments w c all low high → (before : List Action) (from : ℕ) (fs : List Fired) (notes : List PlacedEntry)
+  run_true : (first low high : ℕ) (all : List PlacedEntry) → AreMoments w c all low high
+      → (before : List Action) (from : ℕ) (fs : List Fired) (notes : List PlacedEntry)
       (to : ℕ) (early : List PlacedEntry) → HaveRun w c order context base at before from fs notes to → all ≡ early ++ notes → AreMade order low from early
       → map receipt early ≡ all_entered before → low ≤ from → to ≤ high → AreTrue w c first from before (flat_map (fires base at) fs) to
   run_true first low high all moments before from [] notes to early run is one are under over = run.1
@@ -332,14 +341,14 @@ module _ (w : Witness) (c : Label) (order : List TimerEntry) (context : Context)
 
 -- what an expiry run did that ran these callbacks
 abbrev pub expiring : ℕ → ℕ → ℕ → ℕ → List Fired → Trace
-expiring base at first last fired = record { at = at; fired = fired; actions = flat_map (fires base at) fired; first = first; last = last }
+expiring base at first last fired = record { at = at; fired = fired; moved = []; actions = flat_map (fires base at) fired; first = first; last = last }
 
 module _ {w : Witness} {moves : Spans} {c : Label} {context : Context} {base budget at first last : ℕ} {notes : List PlacedEntry} {fired : List Fired} {answer : Answer}
-    {before after : Seen} (order : List TimerEntry)
+    {before after : Seen} (order : List SystemEntry)
     (kept : IsKept w moves c (expiring base at first last fired) notes (calls.Expire context base budget) answer before after) (starts : first ≡ moves.first c)
     (run : HaveRun w c order context base at [] first fired notes last) where
-  expired : (IsExpiryRun w.script context at base fired at (map (λ f. f.timer) fired) (flat_map (fires base at) fired)
-      → Does w.script at (calls.Expire context base budget) answer fired (flat_map (fires base at) fired))
+  expired : (IsExpiryRun (WasOffLine w first last) w.script context at base fired at (map (λ f. f.timer) fired) (flat_map (fires base at) fired)
+      → Does (WasOffLine w first last) w.script at (calls.Expire context base budget) answer fired [] (flat_map (fires base at) fired))
       → AnswerHolds w first last c at (flat_map (fires base at) fired) (calls.Expire context base budget) answer
       → FitsCall w c (calls.Expire context base budget) answer before after
   expired does seen =
@@ -348,16 +357,23 @@ module _ {w : Witness} {moves : Spans} {c : Label} {context : Context} {base bud
         one_reading = refl;
         claimed = refl;
         done = refl;
-        contexts = each_ran w c order context base at _ (λ before f from to ran. ran.own) [] first fired notes last run;
-        bodies = each_ran w c order context base at _ (λ before f from to ran. ran.kind) [] first fired notes last run;
+        contexts = each_ran w c order context base at _ first last (λ before f from to under over ran. ran.own) [] first fired notes last run (omega arith)
+            (omega arith);
+        bodies = each_ran w c order context base at (λ f. IsBody (WasOffLine w first last) w.script.limit (kind_of w.script f.timer) at f) first last
+            (λ before f from to under over ran.
+            body_wider (WasOffLine w from to) (WasOffLine w first last) (was_wider w under over) w.script.limit
+            (kind_of w.script f.timer) at f ran.kind) [] first
+            fired notes last run (omega arith) (omega arith);
       }))
+      tt
       (run_true w c order context base at first (moves.first c) last notes (moment_of kept) [] first fired notes last [] run refl
       (none_made order (moves.first c) first) refl (omega (arith, starts)) (omega arith))
-      (each_ran w c order context base at _ (λ before f from to ran. ran.span) [] first fired notes last run) seen
+      (each_ran w c order context base at _ first last (λ before f from to under over ran. ran.span) [] first fired notes last run (omega arith) (omega arith))
+      seen
 
 -- a run that left nothing to do
 pub expire_done : {w : Witness} {moves : Spans} {c : Label} {context : Context} {base budget at first last : ℕ} {notes : List PlacedEntry} {fired : List Fired} {before after : Seen}
-    (order : List TimerEntry)
+    (order : List SystemEntry)
     → IsKept w moves c (expiring base at first last fired) notes (calls.Expire context base budget) (answers.Done at (map (λ f. f.timer) fired)) before after
     → first ≡ moves.first c → HaveRun w c order context base at [] first fired notes last → length fired < budget → IsDone w context at base last
     → FitsCall w c (calls.Expire context base budget) (answers.Done at (map (λ f. f.timer) fired)) before after
@@ -365,7 +381,7 @@ expire_done order kept starts ran few done = expired order kept starts ran (λ r
 
 -- a run that ended with its budget
 pub expire_more : {w : Witness} {moves : Spans} {c : Label} {context : Context} {base budget at first last : ℕ} {notes : List PlacedEntry} {fired : List Fired} {before after : Seen}
-    (order : List TimerEntry)
+    (order : List SystemEntry)
     → IsKept w moves c (expiring base at first last fired) notes (calls.Expire context base budget) (answers.More at (map (λ f. f.timer) fired)) before after
     → first ≡ moves.first c → HaveRun w c order context base at [] first fired notes last → length fired ≡ budget
     → FitsCall w c (calls.Expire context base budget) (answers.More at (map (λ f. f.timer) fired)) before after
@@ -373,8 +389,9 @@ expire_more order kept starts ran all = expired order kept starts ran (λ run. (
 
 -- a run that met a function that ran on its base
 pub expire_busy : {w : Witness} {moves : Spans} {c : Label} {context : Context} {base budget at first last timer generation : ℕ} {notes : List PlacedEntry} {fired : List Fired}
-    {before after : Seen} (order : List TimerEntry)
-    → IsKept w moves c (expiring base at first last fired) notes (calls.Expire context base budget) (answers.Busy at (map (λ f. f.timer) fired) timer generation)
+    {before after : Seen} (order : List SystemEntry)
+    → IsKept w moves c (expiring base at first last fired) notes (calls.Expire context base budget) (answers.Busy at (map
+    (λ f. f.timer) fired) timer generation)
     before after
     → first ≡ moves.first c → HaveRun w c order context base at [] first fired notes last → length fired < budget
     → running_on base (in_context context (timer_along w last) timer) ≡ Some generation

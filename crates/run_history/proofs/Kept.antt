@@ -11,16 +11,16 @@ use Rattle.run_history.specs.Histories.{clock_labels, lines_of_timer}
 use Rattle.run_history.specs.Objects.{lines_of_object}
 use Rattle.run_history.specs.Order.{is_label, IsLabel, IsPoint, NeverFall}
 use Rattle.script_text.specs.declared.script.Call.{Call}
-use Rattle.run_history.specs.Calls.{Does}
+use Rattle.run_history.specs.Calls.{AllKeepExpiries, Does}
 use Rattle.run_history.specs.Witnesses.{Witness, labels, Move, Trace}
 use Rattle.run_history.specs.Fits.{FitsCall, Seen}
 use Rattle.run_history.specs.Receipts.{AreAll, at_place, PlacedEntry, receipt, shape}
 use Rattle.run_history.specs.Rounds.{IsLaid, Spans}
 use Rattle.run_history.specs.Traces.{all_entered, HasTraced, own_moves}
-use Rattle.run_history.specs.Truths.{AreTrue, IsClaimSpan, IsMoment, AnswerHolds}
+use Rattle.run_history.specs.Truths.{AreTrue, IsClaimSpan, IsMoment, AnswerHolds, WasOffLine}
 use Rattle.run_history.proofs.Points.{point_among}
 
--- a call that had made these entries, and no others, when it had seen so many of all timers'
+-- a call that had made these entries, and no others, when it had seen so many of all
 pub record Stops (c : Label) (notes : List PlacedEntry) (before : List Action) (n : ℕ) : Type 0 where
   pub early : List PlacedEntry
   pub late : List PlacedEntry
@@ -29,11 +29,11 @@ pub record Stops (c : Label) (notes : List PlacedEntry) (before : List Action) (
   pub below : AllByRecursion (λ x. x.place < n) early
   pub behind : AllByRecursion (λ x. n ≤ x.place) late
 
-own_moves_are : (c : Label) (k : ℕ) (ms : List Move) → own_moves c ms ≡ map (λ e. e.1) (own (λ m. m.line.label) shape c k ms)
+own_moves_are : (c : Label) (k : ℕ) (ms : List Move) → own_moves c ms ≡ map (λ e. e.1) (own (λ m. m.label) shape c k ms)
 own_moves_are c k [] = refl
 own_moves_are c k (m ∷ ms) =
-    elim (is_label c m.line.label) as (λ b. also b (shape m) (own_moves c ms)
-    ≡ map (λ e. e.1) (also b (k, shape m) (own (λ m. m.line.label) shape c (k + 1) ms))) [
+    elim (is_label c m.label) as (λ b. also b (shape m) (own_moves c ms)
+    ≡ map (λ e. e.1) (also b (k, shape m) (own (λ m. m.label) shape c (k + 1) ms))) [
       | true ↦ ap (λ xs. shape m ∷ xs) (own_moves_are c (k + 1) ms)
       | false ↦ own_moves_are c (k + 1) ms
     ]
@@ -50,11 +50,13 @@ places_behind : (n : ℕ) (xs : List PlacedEntry) → AllByRecursion (λ x. n �
 places_behind n [] all = tt
 places_behind n (x ∷ xs) all = (omega (arith, all.0), places_behind n xs all.1)
 
-pub inside_below : (low high : ℕ) (xs : List PlacedEntry) → AllByRecursion (λ x. (low ≤ x.place) × (x.place < high)) xs → AllByRecursion (λ x. x.place < high) xs
+pub inside_below : (low high : ℕ) (xs : List PlacedEntry) → AllByRecursion (λ x. (low ≤ x.place) × (x.place < high)) xs
+    → AllByRecursion (λ x. x.place < high) xs
 inside_below low high [] all = tt
 inside_below low high (x ∷ xs) all = (all.0.1, inside_below low high xs all.1)
 
-pub inside_behind : (low high : ℕ) (xs : List PlacedEntry) → AllByRecursion (λ x. (low ≤ x.place) × (x.place < high)) xs → AllByRecursion (λ x. low ≤ x.place) xs
+pub inside_behind : (low high : ℕ) (xs : List PlacedEntry) → AllByRecursion (λ x. (low ≤ x.place) × (x.place < high)) xs
+    → AllByRecursion (λ x. low ≤ x.place) xs
 inside_behind low high [] all = tt
 inside_behind low high (x ∷ xs) all = (all.0.0, inside_behind low high xs all.1)
 
@@ -62,7 +64,8 @@ inside_behind low high (x ∷ xs) all = (all.0.0, inside_behind low high xs all.
 
 -- What is known of every call at the end of the run: what it did; its receipts stand in the order, in its span; the record's other lists have what it
 -- did; its reading is within its bounds, and its lane's numbers never fall.
-pub record IsKept (w : Witness) (moves : Spans) (c : Label) (t : Trace) (notes : List PlacedEntry) (call : Call) (answer : Answer) (before after : Seen) : Type 0 where
+pub record IsKept (w : Witness) (moves : Spans) (c : Label) (t : Trace) (notes : List PlacedEntry) (call : Call) (answer : Answer)
+    (before after : Seen) : Type 0 where
   pub trace : w.traces c ≡ t
   pub laid : IsLaid w.script (labels w) moves
   pub is : IsLabel w.script c
@@ -86,7 +89,7 @@ module _ {w : Witness} {moves : Spans} {c : Label} {t : Trace} {notes : List Pla
   pub moment_of : (early : List Action) (n : ℕ) → moves.first c ≤ n → n ≤ t.last → Stops c notes early n → IsMoment w c early n
   moment_of early n low high stops =
       subst (λ m. IsPoint w.script c m n (labels w)) (length-map stops.early at_place ∙ sym (length-map stops.early receipt) ∙ ap length stops.are)
-      (point_among w.script (λ m. m.line.label) shape c 0 w.moves moves (map at_place stops.early) (map at_place stops.late) n kept.laid kept.is low
+      (point_among w.script (λ m. m.label) shape c 0 w.moves moves (map at_place stops.early) (map at_place stops.late) n kept.laid kept.is low
       (omega (arith, high, kept.last)) (kept.all ∙ ap (map at_place) stops.split ∙ map-append at_place stops.early stops.late)
       (places_below n stops.early stops.below) (places_behind n stops.late stops.behind))
 
@@ -102,19 +105,21 @@ module _ {w : Witness} {moves : Spans} {c : Label} {t : Trace} {notes : List Pla
 
   -- A call fits that begins at a moment at which it had made nothing: it did what its arguments and its answer say, what it was told held, and the
   -- answer is right.
-  pub call_made : moves.first c ≤ t.first → t.first ≤ t.last → AllByRecursion (λ x. t.first ≤ x.place) notes → Does w.script t.at call answer t.fired t.actions
+  pub call_made : moves.first c ≤ t.first → t.first ≤ t.last → AllByRecursion (λ x. t.first ≤ x.place) notes
+      → Does (WasOffLine w t.first t.last) w.script t.at call answer t.fired t.moved t.actions → AllKeepExpiries w.script w.run call t.moved
       → AreTrue w c t.first t.first [] t.actions t.last → AllByRecursion (λ f. IsClaimSpan w f f.body) t.fired
       → AnswerHolds w t.first t.last c t.at t.actions call answer → FitsCall w c call answer before after
-  call_made low high behind does truth claims seen =
+  call_made low high behind does keeps truth claims seen =
       let to : (P : Trace → Type 0) → P t → P (w.traces c) = λ P. subst P (sym kept.trace) in record {
         traced = to (λ x. HasTraced w c x.actions) (record {
           clock = kept.clock;
-          timers = own_moves_are c 0 w.moves ∙ ap (map (λ e. e.1)) kept.all ∙ receipts_are notes ∙ kept.entered;
+          moves = own_moves_are c 0 w.moves ∙ ap (map (λ e. e.1)) kept.all ∙ receipts_are notes ∙ kept.entered;
           looks = kept.looks;
           objects = kept.objects;
           skips = kept.skips;
         });
-        does = to (λ x. Does w.script x.at call answer x.fired x.actions) does;
+        does = to (λ x. Does (WasOffLine w x.first x.last) w.script x.at call answer x.fired x.moved x.actions) does;
+        keeps = to (λ x. AllKeepExpiries w.script w.run call x.moved) keeps;
         reading = to (λ x. IsPoint w.script c 0 x.at (clock_labels w.run)) kept.reading;
         begins = to (λ x. IsMoment w c [] x.first) (moment_of [] t.first low high (none_yet t.first behind));
         ends = to (λ x. IsMoment w c x.actions x.last) (moment_of t.actions t.last kept.forward (omega arith) made_at_end);
@@ -128,8 +133,8 @@ module _ {w : Witness} {moves : Spans} {c : Label} {t : Trace} {notes : List Pla
       }
 
   -- the same, where it begins with what its pass had seen
-  pub call_made_whole : t.first ≡ moves.first c → Does w.script t.at call answer t.fired t.actions
-      → AreTrue w c t.first t.first [] t.actions t.last → AllByRecursion (λ f. IsClaimSpan w f f.body) t.fired
+  pub call_made_whole : t.first ≡ moves.first c → Does (WasOffLine w t.first t.last) w.script t.at call answer t.fired t.moved t.actions
+      → AllKeepExpiries w.script w.run call t.moved → AreTrue w c t.first t.first [] t.actions t.last → AllByRecursion (λ f. IsClaimSpan w f f.body) t.fired
       → AnswerHolds w t.first t.last c t.at t.actions call answer → FitsCall w c call answer before after
   call_made_whole starts = call_made (omega (arith, starts)) (omega (arith, starts, kept.forward))
       (subst (λ n. AllByRecursion (λ x. n ≤ x.place) notes) (sym starts) (inside_behind (moves.first c) t.last notes kept.inside))

@@ -1,5 +1,6 @@
 pub mod Actions
 pub mod EachTimer
+pub mod Reached
 pub mod Expires
 pub mod Filed
 pub mod Items
@@ -11,12 +12,15 @@ pub mod Lists
 pub mod Looks
 pub mod NoSlack
 pub mod ObjectsMade
+pub mod OffLineMade
 mod OneText
 pub mod OthersMade
+pub mod Owners
 pub mod OwnParts
 pub mod OwnPoints
 pub mod PassState
 pub mod Permuted
+pub mod Plain
 pub mod Points
 pub mod Promise
 pub mod Replies

@@ -28,7 +28,7 @@ use Rattle.record_text.specs.declared.record.SettimeReply.{SettimeReply}
 use Rattle.record_text.specs.declared.record.TimerLine.{TimerLine}
 use Rattle.record_text.specs.declared.record.Armed.{Armed}
 use Rattle.record_text.specs.declared.record.Armed.TheVariants as armings
-use Rattle.run_history.specs.Actions.{Action, Entered, Looked, Made, Skipped, Wrote, also, entered, own}
+use Rattle.run_history.specs.Actions.{Action, Entered, Looked, Made, Shifted, Skipped, Wrote, also, entered, own}
 use Rattle.run_history.specs.Histories.{answers_of, history_from, history_of, lines_of_timer, reading_at}
 use Rattle.script_text.specs.Declarations.{declared_of, terms_of, kind_of, asked_slack, without_slack}
 use Rattle.run_history.specs.ObjectCalls.{Arms, DoesAccept, DoesGettime, DoesRead, DoesSettime, MakesRearming, MakesSettime, cancels}
@@ -39,7 +39,7 @@ use Rattle.script_text.proofs.Lists.{All-append}
 use Rattle.script_text.proofs.VersionOne.{version_one_is_hard}
 use Rattle.record_text.proofs.Lists.{All-back, All-front}
 use Rattle.record_text.specs.declared.version.Version.TheVariants as versions
-use Rattle.run_history.specs.Starts.{Arming, arming_actions}
+use Rattle.run_history.specs.Starts.{Arming, SentTo, arming_actions, moves}
 use Rattle.script_text.specs.declared.script.Call.{Call}
 use Rattle.script_text.specs.declared.script.Call.TheVariants as calls
 use Rattle.script_text.specs.declared.script.Callback.TheVariants as callbacks
@@ -50,7 +50,7 @@ use Rattle.script_text.specs.declared.script.Round.{Round}
 use Rattle.script_text.specs.declared.script.Script.{Script}
 use Rattle.script_text.specs.declared.script.StartRequest.{StartRequest}
 use Rattle.run_history.specs.Calls.{Does, IsBody, IsExpiryRun, fires}
-use Rattle.run_history.specs.Witnesses.{Fired}
+use Rattle.run_history.specs.Witnesses.{Evacuation, Fired}
 use Rattle.run_history.specs.EachTimer.{FitsTimers, HasTimers}
 use Rattle.run_history.specs.Fits.{Fits}
 use Rattle.run_history.proofs.EachTimer.{fits_for_each_timer}
@@ -127,120 +127,132 @@ entered_none t (Entered timer number entry ∷ ds) none = also_none (nat_eq time
 entered_none t (Looked timer number reply ∷ ds) none = entered_none t ds none.1
 entered_none t (Made i number entry ∷ ds) none = entered_none t ds none.1
 entered_none t (Skipped i number generation ∷ ds) none = entered_none t ds none.1
+entered_none t (Shifted base number event ∷ ds) none = entered_none t ds none.1
+
+moves_none : (timer : ℕ) (outs : List SentTo) → AllNone (moves timer outs)
+moves_none timer [] = tt
+moves_none timer (out ∷ outs) = (tt, moves_none timer outs)
 
 start_none : (timer reading : ℕ) (request : StartRequest) (a : Arming) → asked_slack request ≡ 0 → AllNone (arming_actions timer request reading a)
-start_none timer reading request a none = go a.out
-  where
-    go : (out : Option (ℕ × Bool)) → AllNone (arming_actions timer request reading (record a { out = out }))
-    go None = (none, tt)
-    go (Some out) = (tt, (none, tt))
-
-arms_none : (timer ns reading base : ℕ) (mode : Mode) (arm : Armed) (start : List Action) → Arms timer mode ns reading base arm start → AllNone start
-arms_none timer ns reading base mode armings.None start is = subst AllNone (sym is) tt
-arms_none timer ns reading base mode (armings.Generation generation) start is =
-    subst AllNone (sym is.1) (start_none timer reading (without_slack mode ns base) is.0 refl)
-arms_none timer ns reading base mode armings.Unarmed start is = subst AllNone (sym is) tt
+start_none timer reading request a none = none-append (moves timer a.outs) _ (moves_none timer a.outs) (none, tt)
 
 nothing_none : (actions : List Action) → actions ≡ [] → AllNone actions
 nothing_none actions is = subst AllNone (sym is) tt
 
-settime_made_none : {kind : Kind} {timer flags : ℕ} {value interval : TimeSpec} {reading : ℕ} {reply : SettimeReply} {actions : List Action}
-    → MakesSettime kind timer flags value interval reading reply actions → AllNone actions
-settime_made_none {timer = timer} makes =
-    subst AllNone (sym makes.done) (none-append (cancels timer makes.cancel ++ makes.start) _
-    (none-append (cancels timer makes.cancel) makes.start (cancelled makes.cancel) (arms_none _ _ _ _ _ makes.arm makes.start makes.arms)) (tt, tt))
-  where
-    cancelled : (cancel : Option (ℕ × ℕ)) → AllNone (cancels timer cancel)
-    cancelled None = tt
-    cancelled (Some c) = (tt, tt)
-
-rearming_made_none : {kind : Kind} {timer reading : ℕ} {entry : Armed → ObjectEntry} {actions : List Action} → MakesRearming kind timer reading entry actions
-    → AllNone actions
-rearming_made_none makes =
-    subst AllNone (sym makes.done) (none-append makes.start _ (arms_none _ _ _ _ _ makes.arm makes.start makes.arms) (tt, tt))
-
-settime_none : (kind : Kind) (timer flags : ℕ) (value interval : TimeSpec) (reading : ℕ) (answer : Answer) (actions : List Action)
-    → DoesSettime kind timer flags value interval reading answer actions → AllNone actions
-settime_none kind timer flags value interval reading answers.Invalid actions does = nothing_none actions does.0
-settime_none kind timer flags value interval reading (answers.Spent stamp) actions does = nothing_none actions does.0
-settime_none kind timer flags value interval reading (answers.Old left old) actions does = settime_made_none does
-settime_none kind timer flags value interval reading answers.Canceled actions does = settime_made_none does
-settime_none kind timer flags value interval reading (answers.Unarmed stamp) actions does = settime_made_none does
-settime_none kind timer flags value interval reading answer actions does = absurd does
-
-gettime_none : (kind : Kind) (timer reading : ℕ) (answer : Answer) (actions : List Action) → DoesGettime kind timer reading answer actions → AllNone actions
-gettime_none (kinds.Posix base) timer reading (answers.LeftAt left interval shown stamp) actions does = nothing_none actions does.0
-gettime_none (kinds.Fd base) timer reading (answers.Left left interval) actions does = rearming_made_none does
-gettime_none (kinds.Fd base) timer reading (answers.Spent stamp) actions does = nothing_none actions does
-gettime_none kind timer reading answer actions does = absurd does
-
-accept_none : (kind : Kind) (timer reading : ℕ) (answer : Answer) (actions : List Action) → DoesAccept kind timer reading answer actions → AllNone actions
-accept_none kind timer reading (answers.Accepted overrun) actions does = rearming_made_none does
-accept_none kind timer reading answers.NoSignal actions does = rearming_made_none does
-accept_none kind timer reading (answers.Spent stamp) actions does = nothing_none actions does
-accept_none kind timer reading answer actions does = absurd does
-
-read_none : (kind : Kind) (timer len reading : ℕ) (answer : Answer) (actions : List Action) → DoesRead kind timer len reading answer actions → AllNone actions
-read_none kind timer len reading answers.Invalid actions does = nothing_none actions does.0
-read_none kind timer len reading (answers.Spent stamp) actions does = nothing_none actions does.0
-read_none kind timer len reading (answers.Count total) actions does = rearming_made_none does.1
-read_none kind timer len reading answers.Again actions does = rearming_made_none does.1
-read_none kind timer len reading answers.Canceled actions does = rearming_made_none does.1
-read_none kind timer len reading answer actions does = absurd does
-
--- a callback that starts its timer asks for no slack
-body_none : (kind : Kind) (reading : ℕ) (f : Fired) → IsBody kind reading f → AllNone f.body
-body_none (kinds.Raw context callbacks.Once) reading f is = nothing_none f.body is.0
-body_none (kinds.Raw context (callbacks.Every interval)) reading f is =
-    ⊎_elim (λ forward. subst AllNone (sym forward.2) (tt, tt))
-    (λ looked. ⊎_elim (λ armed. subst AllNone (sym armed.2) (tt, tt)) (λ spent. subst AllNone (sym spent.1) (tt, tt)) looked) is.0
-body_none (kinds.Raw context callbacks.Cancels) reading f is = subst AllNone (sym is.0.1) (tt, tt)
-body_none (kinds.Raw context (callbacks.Starts ns base)) reading f is =
-    ⊎_elim (λ a. subst AllNone (sym a.1) (start_none f.timer reading (without_slack modes.Rel ns base) a.0 refl))
-    (λ spent. subst AllNone (sym spent.1) (tt, tt)) is.0
-body_none (kinds.Posix base) reading f is =
-    ⊎_elim (λ trigger. subst AllNone (sym trigger.2) (tt, tt)) (λ skipped. subst AllNone (sym skipped.1) (tt, tt)) is.0
-body_none (kinds.Fd base) reading f is =
-    ⊎_elim (λ trigger. subst AllNone (sym trigger.2) (tt, tt)) (λ skipped. subst AllNone (sym skipped.1) (tt, tt)) is.0
-
-fired_none : (s : Script) (base reading : ℕ) (fired : List Fired) → AllByRecursion (λ f. IsBody (kind_of s f.timer) reading f) fired
-    → AllNone (flat_map (fires base reading) fired)
-fired_none s base reading [] bodies = tt
-fired_none s base reading (f ∷ fired) bodies =
-    none-append (fires base reading f) _ (tt, none-append f.body _ (body_none (kind_of s f.timer) reading f bodies.0) (tt, tt))
-    (fired_none s base reading fired bodies.1)
-
-run_none : {s : Script} {context : Context} {reading base : ℕ} {fired : List Fired} {shown : ℕ} {timers : List ℕ} {actions : List Action}
-    → IsExpiryRun s context reading base fired shown timers actions → AllNone actions
-run_none {s = s} {reading = reading} {base = base} {fired = fired} run = subst AllNone (sym run.done) (fired_none s base reading fired run.bodies)
-
--- a call asks for no slack
+-- a call asks for no slack; one that takes a base off line asks for the slack of the timers that it moves
 abbrev pub CallAsksNone : Call → Type 0
 CallAsksNone (calls.Start timer request) = asked_slack request ≡ 0
+CallAsksNone (calls.Offline base heir budget) = ⊥
 CallAsksNone other = Unit {0}
 
-does_none : (s : Script) (reading : ℕ) (call : Call) (answer : Answer) (fired : List Fired) (actions : List Action) → CallAsksNone call
-    → Does s reading call answer fired actions → AllNone actions
-does_none s reading (calls.Start timer request) (answers.Started generation on was) fired actions none does =
-    subst AllNone (sym does.1) (start_none timer reading request does.0 none)
-does_none s reading (calls.Start timer request) (answers.Spent stamp) fired actions none does = nothing_none actions does
-does_none s reading (calls.Cancel timer) (answers.Cancelled generation) fired actions none does = subst AllNone (sym does.1) (tt, tt)
-does_none s reading (calls.Cancel timer) (answers.Running generation stamp) fired actions none does = nothing_none actions does
-does_none s reading (calls.Cancel timer) (answers.Idle stamp) fired actions none does = nothing_none actions does
-does_none s reading (calls.Peek timer) (answers.Peek stamp base enqueued running moving) fired actions none does = nothing_none actions does
-does_none s reading (calls.Expire context base budget) (answers.Done shown timers) fired actions none does = run_none does.0
-does_none s reading (calls.Expire context base budget) (answers.More shown timers) fired actions none does = run_none does.0
-does_none s reading (calls.Expire context base budget) (answers.Busy shown timers timer generation) fired actions none does = run_none does.0
-does_none s reading (calls.Clock write) (answers.Clock stamp) fired actions none does = subst AllNone (sym does) (tt, tt)
-does_none s reading (calls.Clock write) (answers.Range would_be) fired actions none does = nothing_none actions does
-does_none s reading (calls.Settime timer flags value interval) answer fired actions none does =
-    settime_none (kind_of s timer) timer flags value interval reading answer actions does
-does_none s reading (calls.Gettime timer) answer fired actions none does = gettime_none (kind_of s timer) timer reading answer actions does
-does_none s reading (calls.Accept timer) answer fired actions none does = accept_none (kind_of s timer) timer reading answer actions does
-does_none s reading (calls.Overrun timer) (answers.Overrun overrun stamp) fired actions none does = nothing_none actions does
-does_none s reading (calls.Read timer len) answer fired actions none does = read_none (kind_of s timer) timer len reading answer actions does
-does_none s reading (calls.Readable timer) (answers.Readable ready shown stamp) fired actions none does = nothing_none actions does.0
-does_none s reading call answer fired actions none does = absurd does
+-- what the calls of a script did, by what they saw of bases off line
+module _ (Reached : ℕ → ℕ → Type 0) (s : Script) where
+  arms_none : (timer ns reading base : ℕ) (mode : Mode) (arm : Armed) (start : List Action) → Arms Reached s.limit timer mode ns reading base arm start
+      → AllNone start
+  arms_none timer ns reading base mode armings.None start is = subst AllNone (sym is) tt
+  arms_none timer ns reading base mode (armings.Generation generation) start is =
+      subst AllNone (sym is.1) (start_none timer reading (without_slack mode ns base) is.0 refl)
+  arms_none timer ns reading base mode armings.Unarmed start is = subst AllNone (sym is) tt
+
+  settime_made_none : {kind : Kind} {timer flags : ℕ} {value interval : TimeSpec} {reading : ℕ} {reply : SettimeReply} {actions : List Action}
+      → MakesSettime Reached s.limit kind timer flags value interval reading reply actions → AllNone actions
+  settime_made_none {timer = timer} makes =
+      subst AllNone (sym makes.done) (none-append (cancels timer makes.cancel ++ makes.start) _
+      (none-append (cancels timer makes.cancel) makes.start (cancelled makes.cancel) (arms_none _ _ _ _ _ makes.arm makes.start makes.arms)) (tt, tt))
+    where
+      cancelled : (cancel : Option (ℕ × ℕ)) → AllNone (cancels timer cancel)
+      cancelled None = tt
+      cancelled (Some c) = (tt, tt)
+
+  rearming_made_none : {kind : Kind} {timer reading : ℕ} {entry : Armed → ObjectEntry} {actions : List Action}
+      → MakesRearming Reached s.limit kind timer reading entry actions
+      → AllNone actions
+  rearming_made_none makes =
+      subst AllNone (sym makes.done) (none-append makes.start _ (arms_none _ _ _ _ _ makes.arm makes.start makes.arms) (tt, tt))
+
+  settime_none : (kind : Kind) (timer flags : ℕ) (value interval : TimeSpec) (reading : ℕ) (answer : Answer) (actions : List Action)
+      → DoesSettime Reached s.limit kind timer flags value interval reading answer actions → AllNone actions
+  settime_none kind timer flags value interval reading answers.Invalid actions does = nothing_none actions does.0
+  settime_none kind timer flags value interval reading (answers.Spent stamp) actions does = nothing_none actions does.0
+  settime_none kind timer flags value interval reading (answers.Old left old) actions does = settime_made_none does
+  settime_none kind timer flags value interval reading answers.Canceled actions does = settime_made_none does
+  settime_none kind timer flags value interval reading (answers.Unarmed stamp) actions does = settime_made_none does
+  settime_none kind timer flags value interval reading answer actions does = absurd does
+
+  gettime_none : (kind : Kind) (timer reading : ℕ) (answer : Answer) (actions : List Action)
+      → DoesGettime Reached s.limit kind timer reading answer actions → AllNone actions
+  gettime_none (kinds.Posix base) timer reading (answers.LeftAt left interval shown stamp) actions does = nothing_none actions does.0
+  gettime_none (kinds.Fd base) timer reading (answers.Left left interval) actions does = rearming_made_none does
+  gettime_none (kinds.Fd base) timer reading (answers.Spent stamp) actions does = nothing_none actions does
+  gettime_none kind timer reading answer actions does = absurd does
+
+  accept_none : (kind : Kind) (timer reading : ℕ) (answer : Answer) (actions : List Action) → DoesAccept Reached s.limit kind timer reading answer actions
+      → AllNone actions
+  accept_none kind timer reading (answers.Accepted overrun) actions does = rearming_made_none does
+  accept_none kind timer reading answers.NoSignal actions does = rearming_made_none does
+  accept_none kind timer reading (answers.Spent stamp) actions does = nothing_none actions does
+  accept_none kind timer reading answer actions does = absurd does
+
+  read_none : (kind : Kind) (timer len reading : ℕ) (answer : Answer) (actions : List Action)
+      → DoesRead Reached s.limit kind timer len reading answer actions → AllNone actions
+  read_none kind timer len reading answers.Invalid actions does = nothing_none actions does.0
+  read_none kind timer len reading (answers.Spent stamp) actions does = nothing_none actions does.0
+  read_none kind timer len reading (answers.Count total) actions does = rearming_made_none does.1
+  read_none kind timer len reading answers.Again actions does = rearming_made_none does.1
+  read_none kind timer len reading answers.Canceled actions does = rearming_made_none does.1
+  read_none kind timer len reading answer actions does = absurd does
+
+  -- a callback that starts its timer asks for no slack
+  body_none : (kind : Kind) (reading : ℕ) (f : Fired) → IsBody Reached s.limit kind reading f → AllNone f.body
+  body_none (kinds.Raw context callbacks.Once) reading f is = nothing_none f.body is.0
+  body_none (kinds.Raw context (callbacks.Every interval)) reading f is =
+      ⊎_elim (λ forward. subst AllNone (sym forward.2) (tt, tt))
+      (λ looked. ⊎_elim (λ armed. subst AllNone (sym armed.2) (tt, tt)) (λ spent. subst AllNone (sym spent.1) (tt, tt)) looked) is.0
+  body_none (kinds.Raw context callbacks.Cancels) reading f is = subst AllNone (sym is.0.1) (tt, tt)
+  body_none (kinds.Raw context (callbacks.Starts ns base)) reading f is =
+      ⊎_elim (λ a. subst AllNone (sym a.1) (start_none f.timer reading (without_slack modes.Rel ns base) a.0 refl))
+      (λ spent. subst AllNone (sym spent.1) (tt, tt)) is.0
+  body_none (kinds.Posix base) reading f is =
+      ⊎_elim (λ trigger. subst AllNone (sym trigger.2) (tt, tt)) (λ skipped. subst AllNone (sym skipped.1) (tt, tt)) is.0
+  body_none (kinds.Fd base) reading f is =
+      ⊎_elim (λ trigger. subst AllNone (sym trigger.2) (tt, tt)) (λ skipped. subst AllNone (sym skipped.1) (tt, tt)) is.0
+
+  fired_none : (base reading : ℕ) (fired : List Fired) → AllByRecursion (λ f. IsBody Reached s.limit (kind_of s f.timer) reading f) fired
+      → AllNone (flat_map (fires base reading) fired)
+  fired_none base reading [] bodies = tt
+  fired_none base reading (f ∷ fired) bodies =
+      none-append (fires base reading f) _ (tt, none-append f.body _ (body_none (kind_of s f.timer) reading f bodies.0) (tt, tt))
+      (fired_none base reading fired bodies.1)
+
+  run_none : {context : Context} {reading base : ℕ} {fired : List Fired} {shown : ℕ} {timers : List ℕ} {actions : List Action}
+      → IsExpiryRun Reached s context reading base fired shown timers actions → AllNone actions
+  run_none {reading = reading} {base = base} {fired = fired} run = subst AllNone (sym run.done) (fired_none base reading fired run.bodies)
+
+  pub does_none : (reading : ℕ) (call : Call) (answer : Answer) (fired : List Fired) (moved : List Evacuation) (actions : List Action) → CallAsksNone call
+      → Does Reached s reading call answer fired moved actions → AllNone actions
+  does_none reading (calls.Start timer request) (answers.Started generation on was) fired moved actions none does =
+      subst AllNone (sym does.1) (start_none timer reading request does.0 none)
+  does_none reading (calls.Start timer request) (answers.Spent stamp) fired moved actions none does = nothing_none actions does
+  does_none reading (calls.Cancel timer) (answers.Cancelled generation) fired moved actions none does = subst AllNone (sym does.1) (tt, tt)
+  does_none reading (calls.Cancel timer) (answers.Running generation stamp) fired moved actions none does = nothing_none actions does
+  does_none reading (calls.Cancel timer) (answers.Idle stamp) fired moved actions none does = nothing_none actions does
+  does_none reading (calls.Peek timer) (answers.Peek stamp base enqueued running moving) fired moved actions none does = nothing_none actions does
+  does_none reading (calls.Expire context base budget) (answers.Done shown timers) fired moved actions none does = run_none does.0
+  does_none reading (calls.Expire context base budget) (answers.More shown timers) fired moved actions none does = run_none does.0
+  does_none reading (calls.Expire context base budget) (answers.Busy shown timers timer generation) fired moved actions none does = run_none does.0
+  does_none reading (calls.Clock write) (answers.Clock stamp) fired moved actions none does = subst AllNone (sym does) (tt, tt)
+  does_none reading (calls.Clock write) (answers.Range would_be) fired moved actions none does = nothing_none actions does
+  does_none reading (calls.Settime timer flags value interval) answer fired moved actions none does =
+      settime_none (kind_of s timer) timer flags value interval reading answer actions does
+  does_none reading (calls.Gettime timer) answer fired moved actions none does = gettime_none (kind_of s timer) timer reading answer actions does
+  does_none reading (calls.Accept timer) answer fired moved actions none does = accept_none (kind_of s timer) timer reading answer actions does
+  does_none reading (calls.Overrun timer) (answers.Overrun overrun stamp) fired moved actions none does = nothing_none actions does
+  does_none reading (calls.Read timer len) answer fired moved actions none does = read_none (kind_of s timer) timer len reading answer actions does
+  does_none reading (calls.Readable timer) (answers.Readable ready shown stamp) fired moved actions none does = nothing_none actions does.0
+  does_none reading (calls.Offline base heir budget) answer fired moved actions none does = absurd none
+  does_none reading (calls.Online base) (answers.Online stamp) fired moved actions none does = subst AllNone (sym does) (tt, tt)
+  does_none reading (calls.Online base) (answers.Already stamp) fired moved actions none does = nothing_none actions does
+  does_none reading call answer fired moved actions none does = absurd does
 
 -- ---- the record
 
@@ -261,7 +273,8 @@ each_none Is number (l ∷ lines) own_none labels = (
   each_none Is (number + 1) lines (λ c is. behind c (is_label c l.label) (own_none c is)) labels.1,
 )
   where
-    behind : (c : Label) (b : Bool) → AllByRecursion (λ (x : ℕ × Entry). AsksNone x.1) (also b (number, l.entry) (own (λ l. l.label) (λ l. l.entry) c (number + 1) lines))
+    behind : (c : Label) (b : Bool) → AllByRecursion (λ (x : ℕ × Entry). AsksNone x.1) (also b (number, l.entry) (own (λ l. l.label) (λ l. l.entry) c
+        (number + 1) lines))
         → AllByRecursion (λ (x : ℕ × Entry). AsksNone x.1) (own (λ l. l.label) (λ l. l.entry) c (number + 1) lines)
     behind c true all = all.1
     behind c false all = all
@@ -283,7 +296,8 @@ timer_none s r has none t =
         let a = found (answers_of r c.lane) c.call (subst (λ n. c.call < n) (sym (has.answered c.lane)) is) in
         let fits : FitsTimers s r c p.0.call a.0 = has.calls c.lane c.call p.0 a.0 p.1 a.1 in
         subst (λ xs. AllByRecursion (λ (x : ℕ × Entry). AsksNone x.1) xs) (sym (fits.entered t))
-        (entered_none t fits.actions (does_none s fits.at p.0.call a.0 fits.fired fits.actions (none c.lane c.call p.0 p.1) fits.does))
+        (entered_none t fits.actions (does_none (λ base heir. Unit {0}) s fits.at p.0.call a.0 fits.fired fits.moved fits.actions
+        (none c.lane c.call p.0 p.1) fits.does))
 
 -- law: the record of a script whose calls ask for no slack has none
 pub none_recorded : (s : Script) (r : RunRecord) → HasTimers s r → NoneAsked s → HasNoSlack r
@@ -303,6 +317,8 @@ hard_none (calls.Accept timer) hard = tt
 hard_none (calls.Overrun timer) hard = tt
 hard_none (calls.Read timer len) hard = tt
 hard_none (calls.Readable timer) hard = tt
+hard_none (calls.Offline base heir budget) hard = absurd hard
+hard_none (calls.Online base) hard = absurd hard
 
 -- these calls, in a round
 abbrev in_round : ℕ → List LaneCall → List CallInRound

@@ -1,15 +1,13 @@
 -- Calls on objects that make an entry: from the moment at which the call found its timer, holding the object, to its own last entry of it.
-use Rattle.std.proofs.Common.{◌<◌, Bool, true, false, ◌≡◌, ◌≤◌, ℕ, List, [], ◌∷◌, ◌++◌, Option, Some, None, length, arith, refl, sym, ap, ◌∙◌, subst}
+use Rattle.std.proofs.Common.{◌<◌, true, false, ◌≡◌, ◌≤◌, ℕ, List, [], ◌∷◌, ◌++◌, Option, Some, None, arith, refl, sym, ◌∙◌, subst}
 use Rattle.std.specs.List.{AllByRecursion}
-use Rattle.std.proofs.lemmas.List.{append-nil, append_assoc}
+use Rattle.std.proofs.lemmas.List.{append-nil}
 use Rattle.ktime.specs.Times.{last_time}
 use Rattle.ktime.specs.declared.mode.Mode.TheVariants as modes
 use Rattle.ktime.specs.declared.mode.Mode.{Mode}
 use Rattle.ktime.specs.declared.timespec.TimeSpec.{TimeSpec}
 use Rattle.seq_timer.specs.Histories.{Holds}
-use Rattle.seq_timer.specs.Steps.{Timer}
 use Rattle.seq_timer.specs.declared.observation.Observation.TheVariants as observations
-use Rattle.seq_timer.specs.declared.system.TimerEntry.{TimerEntry}
 use Rattle.timer_fd.specs.Steps.{count_length}
 use Rattle.record_text.specs.Replies.{answer_of_accept, answer_of_read, answer_of_settime}
 use Rattle.record_text.specs.declared.record.AcceptReply.TheVariants as acceptances
@@ -18,8 +16,6 @@ use Rattle.record_text.specs.declared.record.Answer.TheVariants as answers
 use Rattle.record_text.specs.declared.record.Answer.{Answer}
 use Rattle.record_text.specs.declared.record.Armed.TheVariants as armings
 use Rattle.record_text.specs.declared.record.Armed.{Armed}
-use Rattle.seq_timer.specs.declared.event.EventBy.{EventBy}
-use Rattle.seq_timer.specs.declared.event.EventBy.TheVariants as events
 use Rattle.record_text.specs.declared.record.Label.{Label}
 use Rattle.record_text.specs.declared.record.ObjectEntry.TheVariants as object_entries
 use Rattle.record_text.specs.declared.record.ObjectEntry.{ObjectEntry}
@@ -27,67 +23,33 @@ use Rattle.record_text.specs.declared.record.ReadReply.TheVariants as reads
 use Rattle.record_text.specs.declared.record.ReadReply.{ReadReply}
 use Rattle.record_text.specs.declared.record.SettimeReply.TheVariants as settings
 use Rattle.record_text.specs.declared.record.SettimeReply.{SettimeReply}
-use Rattle.run_history.specs.Actions.{Action, Entered, Looked, Made, Skipped, Wrote}
-use Rattle.run_history.specs.Told.{IsArmedLike}
+use Rattle.run_history.specs.Actions.{Action, Made}
 use Rattle.run_history.specs.ObjectCalls.{AreValidFor, Arms, cancels, DoesGettime, MakesRearming, MakesSettime, nanoseconds_of, start_mode}
 use Rattle.script_text.specs.Declarations.{base_of, kind_of, without_slack}
-use Rattle.run_history.specs.Objects.{ArmedAs, object_armed_after}
-use Rattle.run_history.specs.Starts.{Arming, arming_actions}
-use Rattle.script_text.specs.declared.script.StartRequest.{StartRequest}
+use Rattle.run_history.specs.Starts.{SentTo, arming_actions}
 use Rattle.script_text.specs.declared.script.Call.TheVariants as calls
 use Rattle.script_text.specs.declared.script.Call.{Call}
 use Rattle.script_text.specs.declared.script.Kind.TheVariants as kinds
 use Rattle.run_history.specs.Calls.{Does}
-use Rattle.run_history.specs.Witnesses.{Witness, entries_in, timer_along}
+use Rattle.run_history.specs.Witnesses.{Witness, timer_along}
 use Rattle.run_history.specs.Fits.{FitsCall, Seen}
 use Rattle.run_history.specs.Receipts.{PlacedEntry}
 use Rattle.run_history.specs.Rounds.{Spans}
 use Rattle.run_history.specs.Traces.{all_entered}
-use Rattle.run_history.specs.Truths.{AreTrue, DisarmedFirst, HasSpan, IsEmptySpan, IsMoment, AnswerHolds, IsSpan, IsSpanBy, IsTrue, IsTrueEntry, IsTrueStart, OfClaim, SawRefusal}
+use Rattle.run_history.specs.Truths.{DisarmedFirst, HasSpan, AnswerHolds, IsSpan, IsSpanBy, IsTrueEntry, IsTrueStart, SawRefusal, WasOffLine}
 use Rattle.run_history.proofs.Actions.{all_entered-append}
 use Rattle.run_history.proofs.Kept.{call_made, inside_behind, inside_below, IsKept, made_all, moment_of}
-use Rattle.run_history.proofs.OthersMade.{plain}
-use Rattle.run_history.proofs.PassState.{state_seen, timer_seen}
+use Rattle.run_history.proofs.OthersMade.{keep_none, plain}
+use Rattle.run_history.proofs.Plain.{IsPlain, plain_arms, plain_then}
 
 -- ---- entries of its timer, and then the object's
 
--- an entry of a timer that isn't a claim tells nothing that must be looked up
-abbrev pub IsPlain : Action → Type 0
-IsPlain (Entered timer number entry) = OfClaim entry.event ⊥
-IsPlain action = ⊥
-
-no_claim : (event : EventBy ℕ) (P : Type 0) → OfClaim event ⊥ → OfClaim event P
-no_claim (events.Claim base reading) P plain = absurd plain
-no_claim event P plain = tt
-
-plain_then : (w : Witness) (c : Label) (first from n last : ℕ) (before ds : List Action) (d : Action) → AllByRecursion IsPlain ds → from ≤ n → n ≤ last
-    → IsTrue w c first (before ++ ds) d n → AreTrue w c first from before (ds ++ d ∷ []) last
-plain_then w c first from n last before [] d plain le high is = (n, le, subst (λ b. IsTrue w c first b d n) (append-nil before) is, high)
-plain_then w c first from n last before (Entered timer number entry ∷ ds) d plain le high is = (
-  from,
-  omega arith,
-  no_claim entry.event (IsMoment w c before from) plain.0,
-  plain_then w c first from n last (before ++ Entered timer number entry ∷ []) ds d plain.1 le high
-      (subst (λ b. IsTrue w c first b d n) (sym (append_assoc before (Entered timer number entry ∷ []) ds)) is),
-)
-plain_then w c first from n last before (Wrote number write ∷ ds) d plain le high is = absurd plain.0
-plain_then w c first from n last before (Looked timer number reply ∷ ds) d plain le high is = absurd plain.0
-plain_then w c first from n last before (Made i number entry ∷ ds) d plain le high is = absurd plain.0
-plain_then w c first from n last before (Skipped i number generation ∷ ds) d plain le high is = absurd plain.0
-
-plain_arms : (timer reading : ℕ) (request : StartRequest) (a : Arming) → AllByRecursion IsPlain (arming_actions timer request reading a)
-plain_arms timer reading request a = go a.out
-  where
-    go : (out : Option (ℕ × Bool)) → AllByRecursion IsPlain (arming_actions timer request reading (record a { out = out }))
-    go None = (tt, tt)
-    go (Some out) = (tt, (tt, tt))
-
-plain_start : (timer ns reading base : ℕ) (mode : Mode) (arm : Armed) (start : List Action) → Arms timer mode ns reading base arm start
-    → AllByRecursion IsPlain start
-plain_start timer ns reading base mode armings.None start is = subst (AllByRecursion IsPlain) (sym is) tt
-plain_start timer ns reading base mode (armings.Generation generation) start is =
+plain_start : (Reached : ℕ → ℕ → Type 0) (limit timer ns reading base : ℕ) (mode : Mode) (arm : Armed) (start : List Action)
+    → Arms Reached limit timer mode ns reading base arm start → AllByRecursion IsPlain start
+plain_start Reached limit timer ns reading base mode armings.None start is = subst (AllByRecursion IsPlain) (sym is) tt
+plain_start Reached limit timer ns reading base mode (armings.Generation generation) start is =
     subst (AllByRecursion IsPlain) (sym is.1) (plain_arms timer reading (without_slack mode ns base) is.0)
-plain_start timer ns reading base mode armings.Unarmed start is = subst (AllByRecursion IsPlain) (sym is) tt
+plain_start Reached limit timer ns reading base mode armings.Unarmed start is = subst (AllByRecursion IsPlain) (sym is) tt
 
 plain_both : (timer : ℕ) (cancel : Option (ℕ × ℕ)) (start : List Action) → AllByRecursion IsPlain start → AllByRecursion IsPlain (cancels timer cancel ++ start)
 plain_both timer None start plain = plain
@@ -108,7 +70,8 @@ FoundIdle w timer (Some cancel) begin = Unit
 pub record IsSet (w : Witness) (c : Label) (notes : List PlacedEntry) (at begin last timer flags : ℕ) (value interval : TimeSpec) (cancel : Option (ℕ × ℕ))
     (arm : Armed) (start : List Action) (number : ℕ) : Type 0 where
   pub taken : AreValidFor (kind_of w.script timer) flags value interval
-  pub arms : Arms timer (start_mode (kind_of w.script timer) flags) (nanoseconds_of value) at (base_of (kind_of w.script timer)) arm start
+  pub arms : Arms (WasOffLine w begin last) w.script.limit timer (start_mode (kind_of w.script timer) flags) (nanoseconds_of value) at (base_of
+      (kind_of w.script timer)) arm start
   -- where it ended its part of the timer, which it had found disarmed, or cancelled first
   pub ends : ℕ
   pub between : begin ≤ ends
@@ -127,21 +90,21 @@ settime_entry at flags value interval reply arm = object_entries.Settime flags (
 abbrev pub settime_actions : ℕ → Option (ℕ × ℕ) → List Action → ℕ → ObjectEntry → List Action
 settime_actions timer cancel start number entry = cancels timer cancel ++ start ++ Made timer number entry ∷ []
 
-disarmed : (w : Witness) (timer ns at base begin : ℕ) (mode : Mode) (cancel : Option (ℕ × ℕ)) (arm : Armed) (start : List Action) (number : ℕ)
-    (entry : ObjectEntry) → Arms timer mode ns at base arm start → FoundIdle w timer cancel begin
+disarmed : (Reached : ℕ → ℕ → Type 0) (limit : ℕ) (w : Witness) (timer ns at base begin : ℕ) (mode : Mode) (cancel : Option (ℕ × ℕ)) (arm : Armed)
+    (start : List Action) (number : ℕ) (entry : ObjectEntry) → Arms Reached limit timer mode ns at base arm start → FoundIdle w timer cancel begin
     → DisarmedFirst w timer (settime_actions timer cancel start number entry) begin
-disarmed w timer ns at base begin mode (Some cancel) arm start number entry arms idle = tt
-disarmed w timer ns at base begin mode None armings.None start number entry is idle =
+disarmed Reached limit w timer ns at base begin mode (Some cancel) arm start number entry arms idle = tt
+disarmed Reached limit w timer ns at base begin mode None armings.None start number entry is idle =
     subst (λ ds. DisarmedFirst w timer (ds ++ Made timer number entry ∷ []) begin) (sym is) idle
-disarmed w timer ns at base begin mode None armings.Unarmed start number entry is idle =
+disarmed Reached limit w timer ns at base begin mode None armings.Unarmed start number entry is idle =
     subst (λ ds. DisarmedFirst w timer (ds ++ Made timer number entry ∷ []) begin) (sym is) idle
-disarmed w timer ns at base begin mode None (armings.Generation generation) start number entry is idle =
-    subst (λ ds. DisarmedFirst w timer (ds ++ Made timer number entry ∷ []) begin) (sym is.1) (go is.0.out)
+disarmed Reached limit w timer ns at base begin mode None (armings.Generation generation) start number entry is idle =
+    subst (λ ds. DisarmedFirst w timer (ds ++ Made timer number entry ∷ []) begin) (sym is.1) (go is.0.outs)
   where
-    go : (out : Option (ℕ × Bool))
-        → DisarmedFirst w timer (arming_actions timer (without_slack mode ns base) at (record is.0 { out = out }) ++ Made timer number entry ∷ []) begin
-    go None = idle
-    go (Some out) = idle
+    go : (outs : List SentTo)
+        → DisarmedFirst w timer (arming_actions timer (without_slack mode ns base) at (record is.0 { outs = outs }) ++ Made timer number entry ∷ []) begin
+    go [] = idle
+    go (out ∷ outs) = idle
 
 -- where its start was refused, the timer's history was full at the call's last moment
 abbrev pub RefusedBy : Witness → ℕ → SettimeReply → ℕ → Type 0
@@ -163,16 +126,19 @@ module _ (reply : SettimeReply) {w : Witness} {moves : Spans} {c : Label} {at be
       let actions = settime_actions timer cancel start number entry in
       let stops = made_all kept set.ends (cancels timer cancel ++ start) (but_made (cancels timer cancel ++ start) timer number entry)
       (inside_below begin set.ends notes set.part) in
-      let plain = plain_both timer cancel start (plain_start timer (nanoseconds_of value) at (base_of kind) (start_mode kind flags) arm start set.arms) in
-      let idle = disarmed w timer (nanoseconds_of value) at (base_of kind) begin (start_mode kind flags) cancel arm start number entry set.arms set.idle in
+      let plain = plain_both timer cancel start (plain_start (WasOffLine w begin last) w.script.limit timer (nanoseconds_of value) at (base_of kind)
+      (start_mode kind flags) arm start set.arms) in
+      let idle = disarmed (WasOffLine w begin last) w.script.limit w timer (nanoseconds_of value) at (base_of kind) begin
+      (start_mode kind flags) cancel arm start number entry set.arms set.idle in
       call_made kept low (omega (arith, set.between, set.high)) (inside_behind begin set.ends notes set.part)
-      (does reply actions (record { taken = set.taken; cancel = cancel; arm = arm; start = start; number = number; arms = set.arms; done = refl }))
+      (does reply actions (record { taken = set.taken; cancel = cancel; arm = arm; start = start; number = number; arms = set.arms; done = refl })) tt
       (plain_then w c begin begin set.ends last [] (cancels timer cancel ++ start) (Made timer number entry) plain set.between set.high
       (moment_of kept (cancels timer cancel ++ start) set.ends (omega (arith, low, set.between)) set.high stops, set.holds, set.span))
       tt (seen reply actions refused idle)
     where
-      does : (reply : SettimeReply) (ds : List Action) → MakesSettime (kind_of w.script timer) timer flags value interval at reply ds
-          → Does w.script at (calls.Settime timer flags value interval) (answer_of_settime reply) [] ds
+      does : (reply : SettimeReply) (ds : List Action) → MakesSettime (WasOffLine w begin last) w.script.limit
+          (kind_of w.script timer) timer flags value interval at reply ds
+          → Does (WasOffLine w begin last) w.script at (calls.Settime timer flags value interval) (answer_of_settime reply) [] [] ds
       does (settings.Old left old) ds makes = makes
       does settings.Canceled ds makes = makes
       does (settings.Unarmed stamp) ds makes = makes
@@ -187,10 +153,11 @@ module _ (reply : SettimeReply) {w : Witness} {moves : Spans} {c : Label} {at be
 
 -- What such a call of a reading knows at its end, between its first moment and its last. There are three cases: it wanted no start, its start was made, or
 -- its start was refused.
-pub record IsRearmed (w : Witness) (c : Label) (notes : List PlacedEntry) (at begin last timer : ℕ) (arm : Armed) (start : List Action) (number : ℕ) : Type 0 where
+pub record IsRearmed (w : Witness) (c : Label) (notes : List PlacedEntry) (at begin last timer : ℕ) (arm : Armed) (start : List Action)
+    (number : ℕ) : Type 0 where
   pub ns : ℕ
   pub timely : ns ≤ last_time
-  pub arms : Arms timer modes.Keep ns at (base_of (kind_of w.script timer)) arm start
+  pub arms : Arms (WasOffLine w begin last) w.script.limit timer modes.Keep ns at (base_of (kind_of w.script timer)) arm start
   pub ends : ℕ
   pub between : begin ≤ ends
   pub high : ends ≤ last
@@ -208,15 +175,17 @@ module _ {w : Witness} {moves : Spans} {c : Label} {at begin last timer : ℕ} {
     (low : moves.first c ≤ begin) (rearmed : IsRearmed w c notes at begin last timer arm start number) where
   rearming_made : (IsTrueStart w timer number false arm rearmed.ends → IsTrueEntry w timer number (entry arm) rearmed.ends)
       → (IsSpanBy w begin timer number arm rearmed.ends → HasSpan w begin timer number (entry arm) rearmed.ends)
-      → (MakesRearming (kind_of w.script timer) timer at entry (rearming_actions timer start number (entry arm))
-      → Does w.script at call answer [] (rearming_actions timer start number (entry arm)))
+      → (MakesRearming (WasOffLine w begin last) w.script.limit (kind_of w.script timer) timer at entry (rearming_actions timer start number (entry arm))
+      → Does (WasOffLine w begin last) w.script at call answer [] [] (rearming_actions timer start number (entry arm)))
       → AnswerHolds w begin last c at (rearming_actions timer start number (entry arm)) call answer → FitsCall w c call answer before after
   rearming_made holds span does seen =
       let stops = made_all kept rearmed.ends start (but_made start timer number (entry arm)) (inside_below begin rearmed.ends notes rearmed.part) in
       call_made kept low (omega (arith, rearmed.between, rearmed.high)) (inside_behind begin rearmed.ends notes rearmed.part)
       (does (record { arm = arm; ns = rearmed.ns; start = start; number = number; timely = rearmed.timely; arms = rearmed.arms; done = refl }))
+      (keep_none w.script w.run call)
       (plain_then w c begin begin rearmed.ends last [] start (Made timer number (entry arm))
-      (plain_start timer rearmed.ns at (base_of (kind_of w.script timer)) modes.Keep arm start rearmed.arms) rearmed.between rearmed.high
+      (plain_start (WasOffLine w begin last) w.script.limit timer rearmed.ns at (base_of
+      (kind_of w.script timer)) modes.Keep arm start rearmed.arms) rearmed.between rearmed.high
       (moment_of kept start rearmed.ends (omega (arith, low, rearmed.between)) rearmed.high stops, holds rearmed.holds, span rearmed.span))
       tt seen
 
@@ -255,5 +224,6 @@ module _ {w : Witness} {moves : Spans} {c : Label} {at begin last timer : ℕ} {
   gettime_made base left interval kept low rearmed kind =
       let actions = rearming_actions timer start number (object_entries.Gettime at arm left interval) in
       rearming_made (λ arm. object_entries.Gettime at arm left interval) kept low rearmed (λ is. is) (λ is. is)
-      (λ makes. subst (λ k. DoesGettime k timer at (answers.Left left interval) actions) (sym kind)
-      (subst (λ k. MakesRearming k timer at (λ arm. object_entries.Gettime at arm left interval) actions) kind makes)) tt
+      (λ makes. subst (λ k. DoesGettime (WasOffLine w begin last) w.script.limit k timer at (answers.Left left interval) actions) (sym kind)
+      (subst (λ k. MakesRearming (WasOffLine w begin last) w.script.limit k timer at
+      (λ arm. object_entries.Gettime at arm left interval) actions) kind makes)) tt

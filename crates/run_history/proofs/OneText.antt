@@ -13,9 +13,10 @@ use Rattle.run_history.specs.Fits.{Fits}
 use Rattle.run_history.proofs.NoSlack.{version_one_recorded}
 use Rattle.run_history.proofs.Replies.{has_replies}
 
--- a record that fits is of the script's version, and for as many timers, objects and lanes as the script has
+-- a record that fits is of the script's version, and for as many bases, timers, objects and lanes as the script has
 record IsOfSize (s : Script) (r : RunRecord) : Type 0 where
   version : r.version ≡ s.version
+  bases : length r.bases ≡ s.bases
   timers : length r.timers ≡ length s.timers
   objects : length r.objects ≡ length s.timers
   lanes : length r.answers ≡ s.lanes
@@ -24,6 +25,7 @@ sized : (s : Script) (r : RunRecord) → Fits s r → IsOfSize s r
 sized s r (w, of_script, of_run, fits) =
     record {
       version = sym (ap (λ (x : RunRecord). x.version) of_run) ∙ (fits.version ∙ ap (λ (x : Script). x.version) of_script);
+      bases = sym (ap (λ (x : RunRecord). length x.bases) of_run) ∙ (fits.bases ∙ ap (λ (x : Script). x.bases) of_script);
       timers = sym (ap (λ (x : RunRecord). length x.timers) of_run) ∙ (fits.timers ∙ ap (λ (x : Script). length x.timers) of_script);
       objects = sym (ap (λ (x : RunRecord). length x.objects) of_run) ∙ (fits.objects ∙ ap (λ (x : Script). length x.timers) of_script);
       lanes = sym (ap (λ (x : RunRecord). length x.answers) of_run) ∙ (fits.lanes ∙ ap (λ (x : Script). x.lanes) of_script);
@@ -36,7 +38,7 @@ one_text s a b range fits other numbers others same =
     let version = x.version ∙ sym y.version in
     let texts = same ∙ sym (ap (λ v. lines_text v (record_lines b)) version) in
     let plain : (r : RunRecord) → Fits s r → s.version ≡ versions.One → HasNoSlack r = λ r fits one. version_one_recorded s r range one fits in
-    record_from_lines a b (x.timers ∙ sym y.timers) (x.objects ∙ sym y.objects) (x.lanes ∙ sym y.lanes) version
+    record_from_lines a b (x.bases ∙ sym y.bases) (x.timers ∙ sym y.timers) (x.objects ∙ sym y.objects) (x.lanes ∙ sym y.lanes) version
     (lines_from_text a.version (record_lines a) (record_lines b) numbers others
     (record_readable a.version a (has_replies s a fits) (λ one. plain a fits (sym x.version ∙ one)))
     (record_readable a.version b (has_replies s b other) (λ one. plain b other (sym x.version ∙ one))) texts)

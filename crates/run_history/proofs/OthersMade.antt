@@ -1,5 +1,5 @@
 -- Calls on timers but for expiry runs: those that make no entry, the cancel, the write of the clock and the start.
-use Rattle.std.proofs.Common.{map, Bool, ◌≡◌, ◌≤◌, ℕ, Option, Some, None, List, [], ◌∷◌, arith, refl}
+use Rattle.std.proofs.Common.{map, ◌≡◌, ◌≤◌, ℕ, List, [], ◌∷◌, arith, refl}
 use Rattle.std.specs.List.{AllByRecursion}
 use Rattle.clock_model.specs.declared.write.Write.{Write}
 use Rattle.record_text.specs.declared.record.Answer.TheVariants as answers
@@ -8,64 +8,82 @@ use Rattle.seq_timer.specs.declared.event.EventBy.TheVariants as events
 use Rattle.seq_timer.specs.declared.event.Reply.TheVariants as replies
 use Rattle.record_text.specs.declared.record.Label.{Label}
 use Rattle.run_history.specs.Actions.{Action, Entered, Wrote}
-use Rattle.run_history.specs.Starts.{Arming, arming_actions, IsJustBefore, was_armed_before}
+use Rattle.run_history.specs.Starts.{Arming, arming_actions, IsArming, was_armed_before}
+use Rattle.record_text.specs.declared.record.RunRecord.{RunRecord}
+use Rattle.script_text.specs.declared.script.Script.{Script}
 use Rattle.script_text.specs.declared.script.StartRequest.{StartRequest}
 use Rattle.script_text.specs.declared.script.Call.TheVariants as calls
 use Rattle.script_text.specs.declared.script.Call.{Call}
-use Rattle.run_history.specs.Calls.{Does}
+use Rattle.run_history.specs.Calls.{AllKeepExpiries, Does}
 use Rattle.run_history.specs.Witnesses.{Witness, Trace}
 use Rattle.run_history.specs.Fits.{FitsCall, Seen}
 use Rattle.run_history.specs.Receipts.{PlacedEntry, receipt}
 use Rattle.run_history.specs.Rounds.{Spans}
-use Rattle.run_history.specs.Truths.{AreTrue, AnswerHolds}
+use Rattle.run_history.specs.Truths.{AreTrue, AnswerHolds, WasOffLine}
 use Rattle.run_history.proofs.Kept.{call_made, call_made_whole, IsKept}
+use Rattle.run_history.proofs.Plain.{plain_arms, plain_true}
 
 -- what a call did that ran no callbacks
 abbrev pub plain : ℕ → ℕ → ℕ → List Action → Trace
-plain at first last actions = record { at = at; fired = []; actions = actions; first = first; last = last }
+plain at first last actions = record { at = at; fired = []; moved = []; actions = actions; first = first; last = last }
+
+-- a call that moved no timers keeps the expiries of all that it moved
+pub keep_none : (s : Script) (r : RunRecord) (call : Call) → AllKeepExpiries s r call []
+keep_none s r (calls.Offline base heir budget) = tt
+keep_none s r (calls.Start timer request) = tt
+keep_none s r (calls.Cancel timer) = tt
+keep_none s r (calls.Peek timer) = tt
+keep_none s r (calls.Expire context base budget) = tt
+keep_none s r (calls.Clock write) = tt
+keep_none s r (calls.Settime timer flags value interval) = tt
+keep_none s r (calls.Gettime timer) = tt
+keep_none s r (calls.Accept timer) = tt
+keep_none s r (calls.Overrun timer) = tt
+keep_none s r (calls.Read timer len) = tt
+keep_none s r (calls.Readable timer) = tt
+keep_none s r (calls.Online base) = tt
 
 -- a call that makes no entry, of a timer, an object or the clock: what it was told held at one moment
 pub quiet_made : {w : Witness} {moves : Spans} {c : Label} {at last : ℕ} {notes : List PlacedEntry} {call : Call} {answer : Answer} {before after : Seen}
     → IsKept w moves c (plain at last last []) notes call answer before after
-    → Does w.script at call answer [] [] → AnswerHolds w last last c at [] call answer → FitsCall w c call answer before after
-quiet_made {last = last} {notes = notes} kept does seen =
-    call_made kept kept.forward (omega arith) (none_of notes kept.entered) does (omega arith) tt seen
+    → Does (WasOffLine w last last) w.script at call answer [] [] [] → AnswerHolds w last last c at [] call answer → FitsCall w c call answer before after
+quiet_made {w = w} {last = last} {notes = notes} {call = call} kept does seen =
+    call_made kept kept.forward (omega arith) (none_of notes kept.entered) does (keep_none w.script w.run call) (omega arith) tt seen
   where
     none_of : (xs : List PlacedEntry) → map receipt xs ≡ [] → AllByRecursion (λ x. last ≤ x.place) xs
     none_of [] none = tt
     none_of (x ∷ xs) none = absurd (cc)
 
 -- a cancel that cancelled
-pub cancelled_made : {w : Witness} {moves : Spans} {c : Label} {at first last : ℕ} {notes : List PlacedEntry} {before after : Seen} (timer number generation : ℕ)
+pub cancelled_made : {w : Witness} {moves : Spans} {c : Label} {at first last : ℕ} {notes : List PlacedEntry} {before after : Seen}
+    (timer number generation : ℕ)
     → IsKept w moves c (plain at first last (Entered timer number (record { event = events.Cancel; reply = replies.Cancel generation }) ∷ [])) notes
     (calls.Cancel timer) (answers.Cancelled generation) before after
     → first ≡ moves.first c → FitsCall w c (calls.Cancel timer) (answers.Cancelled generation) before after
 cancelled_made {first = first} timer number generation kept starts =
-    call_made_whole kept starts (number, refl) (first, omega arith, tt, omega (arith, starts, kept.forward)) tt tt
+    call_made_whole kept starts (number, refl) tt (first, omega arith, tt, omega (arith, starts, kept.forward)) tt tt
 
 -- a write of the clock that it took
 pub wrote_made : {w : Witness} {moves : Spans} {c : Label} {at first last : ℕ} {notes : List PlacedEntry} {before after : Seen} (stamp : ℕ) (write : Write)
     → IsKept w moves c (plain at first last (Wrote stamp write ∷ [])) notes (calls.Clock write) (answers.Clock stamp) before after
     → first ≡ moves.first c → FitsCall w c (calls.Clock write) (answers.Clock stamp) before after
 wrote_made {first = first} stamp write kept starts =
-    call_made_whole kept starts refl (first, omega arith, tt, omega (arith, starts, kept.forward)) tt tt
+    call_made_whole kept starts refl tt (first, omega arith, tt, omega (arith, starts, kept.forward)) tt tt
 
 -- a start's entries tell nothing that must be looked up
 pub start_true : (w : Witness) (c : Label) (first from to timer reading : ℕ) (request : StartRequest) (before : List Action) (a : Arming) → from ≤ to
     → AreTrue w c first from before (arming_actions timer request reading a) to
-start_true w c first from to timer reading request before a order = go a.out
-  where
-    go : (out : Option (ℕ × Bool)) → AreTrue w c first from before (arming_actions timer request reading (record a { out = out })) to
-    go None = (from, omega arith, tt, order)
-    go (Some out) = (from, omega arith, tt, (from, omega arith, tt, order))
+start_true w c first from to timer reading request before a order =
+    plain_true w c first from to before (arming_actions timer request reading a) (plain_arms timer reading request a) order
 
 -- a start that was made
-pub started_made : {w : Witness} {moves : Spans} {c : Label} {at first last : ℕ} {notes : List PlacedEntry} {before after : Seen} (timer : ℕ) (request : StartRequest)
+pub started_made : {w : Witness} {moves : Spans} {c : Label} {at first last : ℕ} {notes : List PlacedEntry} {before after : Seen} (timer : ℕ)
+    (request : StartRequest)
     (a : Arming)
     → IsKept w moves c (plain at first last (arming_actions timer request at a)) notes (calls.Start timer request)
-    (answers.Started a.number a.placement.base (was_armed_before a.out a.was_armed)) before after
-    → first ≡ moves.first c → IsJustBefore a.out a.number
-    → FitsCall w c (calls.Start timer request) (answers.Started a.number a.placement.base (was_armed_before a.out a.was_armed)) before after
-started_made {w = w} {c = c} {at = at} {first = first} {last = last} timer request a kept starts just =
-    call_made_whole kept starts (a, refl, refl, refl, refl, just)
+    (answers.Started a.number a.placement.base (was_armed_before a.outs a.was_armed)) before after
+    → first ≡ moves.first c → IsArming (WasOffLine w first last) w.script.limit request.base a
+    → FitsCall w c (calls.Start timer request) (answers.Started a.number a.placement.base (was_armed_before a.outs a.was_armed)) before after
+started_made {w = w} {c = c} {at = at} {first = first} {last = last} timer request a kept starts arms =
+    call_made_whole kept starts (a, refl, refl, refl, refl, arms) tt
     (start_true w c first first last timer at request [] a (omega (arith, starts, kept.forward))) tt tt

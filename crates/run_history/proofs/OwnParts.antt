@@ -1,4 +1,4 @@
--- One timer's part of the order of all timers' entries: its own moves, and among those the ones of a call.
+-- One list's part of the order of all entries: its own moves, and among those the ones of a call; and what a timer's part shows of its history.
 use Rattle.std.proofs.Common.{◌≡◌, ℕ, ◌+◌, zero, suc, true, false, nat_eq, if◌then◌else◌, List, [], ◌∷◌, ◌++◌, filter, length, map, take, drop, Some, arith, refl, sym, ap, ◌∙◌}
 use Rattle.std.specs.List.{AllByRecursion, slice_get}
 use Rattle.std.proofs.lemmas.Option.{same_Some}
@@ -9,111 +9,136 @@ use Rattle.record_text.specs.declared.record.ClockLine.{ClockLine}
 use Rattle.record_text.specs.declared.record.Entry.{Entry}
 use Rattle.record_text.specs.declared.record.Label.{Label}
 use Rattle.record_text.specs.declared.record.TimerLine.{TimerLine}
-use Rattle.run_history.specs.Actions.{Action, also, Entered, entered, Looked, Made, own, Skipped, Wrote}
+use Rattle.run_history.specs.Actions.{Action, also, Entered, entered, Looked, Made, own, Shifted, Skipped, Wrote}
 use Rattle.run_history.specs.Histories.{entry_shown, history_from}
 use Rattle.run_history.specs.Order.{is_label, made_by}
 use Rattle.seq_timer.specs.Histories as histories
 use Rattle.seq_timer.specs.Systems.{entries_of}
-use Rattle.run_history.specs.Witnesses.{entry_of_move, Move, moves_from, moves_on}
+use Rattle.seq_timer.specs.declared.event.EventBy.TheVariants as events
+use Rattle.seq_timer.specs.declared.event.Reply.TheVariants as replies
+use Rattle.seq_timer.specs.declared.system.SystemEntry.{SystemEntry}
+use Rattle.run_history.specs.Witnesses.{Move, OfBase, OfTimer, Owner, Shown, ShownLine, TimersList, entry_of_move, entry_of_shown, is_owner, line_of_timer, moves_from, moves_on, owner_of}
 use Rattle.run_history.specs.Traces.{all_entered, own_moves}
+use Rattle.run_history.proofs.Owners.{owner_is}
 
--- ---- the moves of one timer
+-- ---- the moves of one list
 
--- a timer's among the first so many, and among the others
-pub on_take : (t n : ℕ) (ms : List Move) → take (length (moves_on t (take n ms))) (moves_on t ms) ≡ moves_on t (take n ms)
-on_take t zero [] = refl
-on_take t (suc n) [] = refl
-on_take t zero (m ∷ ms) = refl
-on_take t (suc n) (m ∷ ms) =
-    elim (nat_eq m.timer t) as (λ b. take (length (also b m (moves_on t (take n ms)))) (also b m (moves_on t ms)) ≡ also b m (moves_on t (take n ms))) [
-      | true ↦ ap (λ xs. m ∷ xs) (on_take t n ms)
-      | false ↦ on_take t n ms
+-- a list's among the first so many, and among the others
+pub on_take : (o : Owner) (n : ℕ) (ms : List Move) → take (length (moves_on o (take n ms))) (moves_on o ms) ≡ moves_on o (take n ms)
+on_take o zero [] = refl
+on_take o (suc n) [] = refl
+on_take o zero (m ∷ ms) = refl
+on_take o (suc n) (m ∷ ms) =
+    elim (is_owner (owner_of m.shown) o) as (λ b. take (length (also b m (moves_on o (take n ms)))) (also b m (moves_on o ms))
+    ≡ also b m (moves_on o (take n ms))) [
+      | true ↦ ap (λ xs. m ∷ xs) (on_take o n ms)
+      | false ↦ on_take o n ms
     ]
 
-pub on_drop : (t n : ℕ) (ms : List Move) → drop (length (moves_on t (take n ms))) (moves_on t ms) ≡ moves_on t (drop n ms)
-on_drop t zero [] = refl
-on_drop t (suc n) [] = refl
-on_drop t zero (m ∷ ms) = refl
-on_drop t (suc n) (m ∷ ms) =
-    elim (nat_eq m.timer t) as (λ b. drop (length (also b m (moves_on t (take n ms)))) (also b m (moves_on t ms)) ≡ moves_on t (drop n ms)) [
-      | true ↦ on_drop t n ms
-      | false ↦ on_drop t n ms
+pub on_drop : (o : Owner) (n : ℕ) (ms : List Move) → drop (length (moves_on o (take n ms))) (moves_on o ms) ≡ moves_on o (drop n ms)
+on_drop o zero [] = refl
+on_drop o (suc n) [] = refl
+on_drop o zero (m ∷ ms) = refl
+on_drop o (suc n) (m ∷ ms) =
+    elim (is_owner (owner_of m.shown) o) as (λ b. drop (length (also b m (moves_on o (take n ms)))) (also b m (moves_on o ms)) ≡ moves_on o (drop n ms)) [
+      | true ↦ on_drop o n ms
+      | false ↦ on_drop o n ms
     ]
 
--- where a move stands among its timer's, and how many of them it says to be before it
-pub on_place : (t p : ℕ) (ms : List Move) (m : Move) → slice_get ms p ≡ Some m → m.timer ≡ t
-    → slice_get (moves_on t ms) (length (moves_on t (take p ms))) ≡ Some m
-on_place t p [] m at of = absurd (cc)
-on_place t zero (x ∷ ms) m at of =
-    ap (λ b. slice_get (also b x (moves_on t ms)) 0) (eq-eqb x.timer t (ap (λ (y : Move). y.timer) (same_Some x m at) ∙ of)) ∙ at
-on_place t (suc p) (x ∷ ms) m at of =
-    elim (nat_eq x.timer t) as (λ b. slice_get (also b x (moves_on t ms)) (length (also b x (moves_on t (take p ms)))) ≡ Some m) [
-      | true ↦ on_place t p ms m at of
-      | false ↦ on_place t p ms m at of
+-- where a move stands among its list's, and how many of them it says to be before it
+pub on_place : (o : Owner) (p : ℕ) (ms : List Move) (m : Move) → slice_get ms p ≡ Some m → owner_of m.shown ≡ o
+    → slice_get (moves_on o ms) (length (moves_on o (take p ms))) ≡ Some m
+on_place o p [] m at of = absurd (cc)
+on_place o zero (x ∷ ms) m at of =
+    ap (λ b. slice_get (also b x (moves_on o ms)) 0) (owner_is (owner_of x.shown) o (ap (λ (y : Move). owner_of y.shown) (same_Some x m at) ∙ of)) ∙ at
+on_place o (suc p) (x ∷ ms) m at of =
+    elim (is_owner (owner_of x.shown) o)
+    as (λ b. slice_get (also b x (moves_on o ms)) (length (also b x (moves_on o (take p ms)))) ≡ Some m) [
+      | true ↦ on_place o p ms m at of
+      | false ↦ on_place o p ms m at of
     ]
 
 -- a line taken as a move says its own place
-pub before_at : (t b k : ℕ) (lines : List TimerLine) (m : Move) → slice_get (moves_from t b lines) k ≡ Some m → b + k ≡ m.before
-before_at t b k [] m at = absurd (cc)
-before_at t b zero (l ∷ lines) m at = none b ∙ ap (λ (y : Move). y.before) (same_Some _ m at)
+pub before_at : (b k : ℕ) (lines : List ShownLine) (m : Move) → slice_get (moves_from b lines) k ≡ Some m → b + k ≡ m.before
+before_at b k [] m at = absurd (cc)
+before_at b zero (l ∷ lines) m at = none b ∙ ap (λ (y : Move). y.before) (same_Some _ m at)
   where
     none : (b : ℕ) → b + 0 ≡ b
     none b = omega arith
-before_at t b (suc k) (l ∷ lines) m at = further b k ∙ before_at t (b + 1) k lines m at
+before_at b (suc k) (l ∷ lines) m at = further b k ∙ before_at (b + 1) k lines m at
   where
     further : (b k : ℕ) → b + suc k ≡ b + 1 + k
     further b k = omega arith
 
 -- the first so many lines are the first so many moves
-pub take_from : (t b n : ℕ) (lines : List TimerLine) → moves_from t b (take n lines) ≡ take n (moves_from t b lines)
-take_from t b zero [] = refl
-take_from t b (suc n) [] = refl
-take_from t b zero (l ∷ lines) = refl
-take_from t b (suc n) (l ∷ lines) = ap (λ xs. record { timer = t; before = b; line = l } ∷ xs) (take_from t (b + 1) n lines)
+pub take_from : (b n : ℕ) (lines : List ShownLine) → moves_from b (take n lines) ≡ take n (moves_from b lines)
+take_from b zero [] = refl
+take_from b (suc n) [] = refl
+take_from b zero (l ∷ lines) = refl
+take_from b (suc n) (l ∷ lines) = ap (λ xs. record { before = b; label = l.label; shown = l.shown } ∷ xs) (take_from (b + 1) n lines)
 
--- what holds of all labels holds of a timer's
-pub all_on : (P : Label → Type 0) (t : ℕ) (ms : List Move) → AllByRecursion P (map (λ m. m.line.label) ms)
-    → AllByRecursion P (map (λ m. m.line.label) (moves_on t ms))
-all_on P t [] all = tt
-all_on P t (m ∷ ms) all = elim (nat_eq m.timer t) as (λ b. AllByRecursion P (map (λ m. m.line.label) (also b m (moves_on t ms)))) [
-  | true ↦ (all.0, all_on P t ms all.1)
-  | false ↦ all_on P t ms all.1
+-- what holds of all labels holds of a list's
+pub all_on : (P : Label → Type 0) (o : Owner) (ms : List Move) → AllByRecursion P (map (λ m. m.label) ms)
+    → AllByRecursion P (map (λ m. m.label) (moves_on o ms))
+all_on P o [] all = tt
+all_on P o (m ∷ ms) all = elim (is_owner (owner_of m.shown) o) as (λ b. AllByRecursion P (map (λ m. m.label) (also b m (moves_on o ms)))) [
+  | true ↦ (all.0, all_on P o ms all.1)
+  | false ↦ all_on P o ms all.1
 ]
 
--- moves bear the labels of their lines
-pub labels_of_lines : (t b : ℕ) (lines : List TimerLine) → map (λ m. m.line.label) (moves_from t b lines) ≡ map (λ line. line.label) lines
+-- a timer's moves bear the labels of its lines
+pub labels_of_lines : (t b : ℕ) (lines : List TimerLine)
+    → map (λ m. m.label) (moves_from b (map (line_of_timer t) lines)) ≡ map (λ line. line.label) lines
 labels_of_lines t b [] = refl
 labels_of_lines t b (l ∷ lines) = ap (λ xs. l.label ∷ xs) (labels_of_lines t (b + 1) lines)
 
--- ---- the history that they show
+-- ---- the history that a timer's moves show
 
--- the entry that a move shows, of its timer's history
+-- the entry of a timer that is shown, as one of its own history; of a base there is none
+abbrev pub entry_in : List ClockLine → Shown → histories.Entry
+entry_in clock (OfTimer t entry) = entry_shown clock entry
+entry_in clock (OfBase b event) = record { event = events.Cancel; reply = replies.Cancel 0 }
+
 abbrev pub own_entry : List ClockLine → Move → histories.Entry
-own_entry clock m = entry_shown clock m.line.entry
+own_entry clock m = entry_in clock m.shown
+
+one_entry : (clock : List ClockLine) (t : ℕ) (shown : Shown) (es : List SystemEntry)
+    → entries_of t (entry_of_shown clock shown ∷ es) ≡ also (is_owner (owner_of shown) (TimersList t)) (entry_in clock shown) (entries_of t es)
+one_entry clock t (OfTimer u entry) es =
+    elim (nat_eq u t) as (λ b. (if b then entry_shown clock entry ∷ entries_of t es else entries_of t es) ≡ also b (entry_shown clock entry)
+    (entries_of t es)) [
+      | true ↦ refl
+      | false ↦ refl
+    ]
+one_entry clock t (OfBase b event) es = refl
 
 -- a timer's entries are what its moves show
-pub entries_on : (clock : List ClockLine) (t : ℕ) (ms : List Move) → entries_of t (map (entry_of_move clock) ms) ≡ map (own_entry clock) (moves_on t ms)
+pub entries_on : (clock : List ClockLine) (t : ℕ) (ms : List Move)
+    → entries_of t (map (entry_of_move clock) ms) ≡ map (own_entry clock) (moves_on (TimersList t) ms)
 entries_on clock t [] = refl
 entries_on clock t (m ∷ ms) =
     let rest = entries_of t (map (entry_of_move clock) ms) in
-    elim (nat_eq m.timer t) as (λ b. (if b then own_entry clock m ∷ rest else rest) ≡ map (own_entry clock) (also b m (moves_on t ms))) [
+    one_entry clock t m.shown (map (entry_of_move clock) ms)
+    ∙ elim (is_owner (owner_of m.shown) (TimersList t)) as (λ b. also b (own_entry clock m) rest ≡ map (own_entry clock) (also b m (moves_on
+    (TimersList t) ms))) [
       | true ↦ ap (λ xs. own_entry clock m ∷ xs) (entries_on clock t ms)
       | false ↦ entries_on clock t ms
     ]
 
 -- and a timer's lines show its history
-pub history_shown : (clock : List ClockLine) (t b : ℕ) (lines : List TimerLine) → map (own_entry clock) (moves_from t b lines) ≡ history_from clock lines
+pub history_shown : (clock : List ClockLine) (t b : ℕ) (lines : List TimerLine)
+    → map (own_entry clock) (moves_from b (map (line_of_timer t) lines)) ≡ history_from clock lines
 history_shown clock t b [] = refl
 history_shown clock t b (l ∷ lines) = ap (λ xs. entry_shown clock l.entry ∷ xs) (history_shown clock t (b + 1) lines)
 
 -- ---- the moves of a call
 
 -- a call's moves are as many as their labels
-pub count_moves : (c : Label) (ms : List Move) → made_by c (map (λ m. m.line.label) ms) ≡ length (own_moves c ms)
+pub count_moves : (c : Label) (ms : List Move) → made_by c (map (λ m. m.label) ms) ≡ length (own_moves c ms)
 count_moves c [] = refl
 count_moves c (m ∷ ms) =
-    elim (is_label c m.line.label) as (λ b. length (if b then m.line.label ∷ filter (is_label c) (map (λ m. m.line.label) ms)
-    else filter (is_label c) (map (λ m. m.line.label) ms)) ≡ length (also b (m.timer, (m.before + 1, m.line.entry)) (own_moves c ms))) [
+    elim (is_label c m.label) as (λ b. length (if b then m.label ∷ filter (is_label c) (map (λ m. m.label) ms)
+    else filter (is_label c) (map (λ m. m.label) ms)) ≡ length (also b (m.before + 1, m.shown) (own_moves c ms))) [
       | true ↦ ap suc (count_moves c ms)
       | false ↦ count_moves c ms
     ]
@@ -123,25 +148,29 @@ own_take c zero [] = refl
 own_take c (suc n) [] = refl
 own_take c zero (m ∷ ms) = refl
 own_take c (suc n) (m ∷ ms) =
-    let e : ℕ × (ℕ × Entry) = (m.timer, (m.before + 1, m.line.entry)) in
-    elim (is_label c m.line.label) as (λ b. also b e (own_moves c (take n ms))
+    let e : ℕ × Shown = (m.before + 1, m.shown) in
+    elim (is_label c m.label) as (λ b. also b e (own_moves c (take n ms))
     ≡ take (length (also b e (own_moves c (take n ms)))) (also b e (own_moves c ms))) [
       | true ↦ ap (λ xs. e ∷ xs) (own_take c n ms)
       | false ↦ own_take c n ms
     ]
 
 -- the first so many moves have of the call what it had done by then
-pub own_early : (c : Label) (n : ℕ) (ms : List Move) (early late : List (ℕ × (ℕ × Entry))) → own_moves c ms ≡ early ++ late
-    → made_by c (take n (map (λ m. m.line.label) ms)) ≡ length early → own_moves c (take n ms) ≡ early
+pub own_early : (c : Label) (n : ℕ) (ms : List Move) (early late : List (ℕ × Shown)) → own_moves c ms ≡ early ++ late
+    → made_by c (take n (map (λ m. m.label) ms)) ≡ length early → own_moves c (take n ms) ≡ early
 own_early c n ms early late own many =
     let count : length (own_moves c (take n ms)) ≡ length early = sym (count_moves c (take n ms))
-    ∙ ap (made_by c) (sym (take-map (λ (m : Move). m.line.label) n ms)) ∙ many in
+    ∙ ap (made_by c) (sym (take-map (λ (m : Move). m.label) n ms)) ∙ many in
     own_take c n ms ∙ ap (λ k. take k (own_moves c ms)) count ∙ ap (take (length early)) own ∙ take-append_seam early late
 
 -- those of a call that are of one timer
-abbrev pub of_timer : ℕ → List (ℕ × (ℕ × Entry)) → List (ℕ × Entry)
+abbrev pub timers_part : ℕ → ℕ → Shown → List (ℕ × Entry) → List (ℕ × Entry)
+timers_part t number (OfTimer u entry) rest = also (nat_eq u t) (number, entry) rest
+timers_part t number (OfBase b event) rest = rest
+
+abbrev pub of_timer : ℕ → List (ℕ × Shown) → List (ℕ × Entry)
 of_timer t [] = []
-of_timer t (e ∷ es) = also (nat_eq e.0 t) e.1 (of_timer t es)
+of_timer t (e ∷ es) = timers_part t e.0 e.1 (of_timer t es)
 
 -- of what a call did, they are its entries of the timer
 pub of_timer-entered : (t : ℕ) (ds : List Action) → of_timer t (all_entered ds) ≡ entered t ds
@@ -151,33 +180,40 @@ of_timer-entered t (Entered timer number entry ∷ ds) = ap (also (nat_eq timer 
 of_timer-entered t (Looked timer number reply ∷ ds) = of_timer-entered t ds
 of_timer-entered t (Made i number entry ∷ ds) = of_timer-entered t ds
 of_timer-entered t (Skipped i number generation ∷ ds) = of_timer-entered t ds
+of_timer-entered t (Shifted base number event ∷ ds) = of_timer-entered t ds
+
+-- an entry of another list adds nothing
+part_else : (t number : ℕ) (shown : Shown) (rest : List (ℕ × Entry)) → is_owner (owner_of shown) (TimersList t) ≡ false
+    → timers_part t number shown rest ≡ rest
+part_else t number (OfTimer u entry) rest not = ap (λ b. also b (number, entry) rest) not
+part_else t number (OfBase b event) rest not = refl
 
 -- of the order, they are those of the timer's own moves
-pub of_timer-on : (c : Label) (t : ℕ) (ms : List Move) → of_timer t (own_moves c (moves_on t ms)) ≡ of_timer t (own_moves c ms)
+pub of_timer-on : (c : Label) (t : ℕ) (ms : List Move) → of_timer t (own_moves c (moves_on (TimersList t) ms)) ≡ of_timer t (own_moves c ms)
 of_timer-on c t [] = refl
 of_timer-on c t (m ∷ ms) =
-    let e : ℕ × (ℕ × Entry) = (m.timer, (m.before + 1, m.line.entry)) in
-    elim (is_label c m.line.label) as (λ x. is_label c m.line.label ≡ x
-    → of_timer t (own_moves c (also (nat_eq m.timer t) m (moves_on t ms))) ≡ of_timer t (also x e (own_moves c ms))) [
-      | true ↦ λ is. elim (nat_eq m.timer t) as (λ b. nat_eq m.timer t ≡ b
-          → of_timer t (own_moves c (also b m (moves_on t ms))) ≡ also b e.1 (of_timer t (own_moves c ms))) [
-            | true ↦ λ on. ap (λ x. of_timer t (also x e (own_moves c (moves_on t ms)))) is ∙ ap (λ b. also b e.1 (of_timer t (own_moves c (moves_on t ms)))) on
-                ∙ ap (λ xs. e.1 ∷ xs) (of_timer-on c t ms)
-            | false ↦ λ on. of_timer-on c t ms
+    let o = TimersList t in
+    let e : ℕ × Shown = (m.before + 1, m.shown) in
+    elim (is_label c m.label) as (λ x. is_label c m.label ≡ x
+    → of_timer t (own_moves c (also (is_owner (owner_of m.shown) o) m (moves_on o ms))) ≡ of_timer t (also x e (own_moves c ms))) [
+      | true ↦ λ is. elim (is_owner (owner_of m.shown) o) as (λ b. is_owner (owner_of m.shown) o ≡ b
+          → of_timer t (own_moves c (also b m (moves_on o ms))) ≡ timers_part t e.0 e.1 (of_timer t (own_moves c ms))) [
+            | true ↦ λ on. ap (λ x. of_timer t (also x e (own_moves c (moves_on o ms)))) is ∙ ap (timers_part t e.0 e.1) (of_timer-on c t ms)
+            | false ↦ λ on. of_timer-on c t ms ∙ sym (part_else t e.0 e.1 (of_timer t (own_moves c ms)) on)
           ] refl
-      | false ↦ λ is. elim (nat_eq m.timer t) as (λ b. of_timer t (own_moves c (also b m (moves_on t ms))) ≡ of_timer t (own_moves c ms)) [
-        | true ↦ ap (λ x. of_timer t (also x e (own_moves c (moves_on t ms)))) is ∙ of_timer-on c t ms
+      | false ↦ λ is. elim (is_owner (owner_of m.shown) o) as (λ b. of_timer t (own_moves c (also b m (moves_on o ms))) ≡ of_timer t (own_moves c ms)) [
+        | true ↦ ap (λ x. of_timer t (also x e (own_moves c (moves_on o ms)))) is ∙ of_timer-on c t ms
         | false ↦ of_timer-on c t ms
       ]
     ] refl
 
 -- and of a timer's lines, those that bear the call's label
 pub of_timer-from : (c : Label) (t b : ℕ) (lines : List TimerLine)
-    → of_timer t (own_moves c (moves_from t b lines)) ≡ own (λ line. line.label) (λ line. line.entry) c (b + 1) lines
+    → of_timer t (own_moves c (moves_from b (map (line_of_timer t) lines))) ≡ own (λ line. line.label) (λ line. line.entry) c (b + 1) lines
 of_timer-from c t b [] = refl
 of_timer-from c t b (l ∷ lines) =
-    let rest = own_moves c (moves_from t (b + 1) lines) in
-    elim (is_label c l.label) as (λ x. of_timer t (also x (t, (b + 1, l.entry)) rest)
+    let rest = own_moves c (moves_from (b + 1) (map (line_of_timer t) lines)) in
+    elim (is_label c l.label) as (λ x. of_timer t (also x (b + 1, OfTimer t l.entry) rest)
     ≡ also x (b + 1, l.entry) (own (λ line. line.label) (λ line. line.entry) c (b + 1 + 1) lines)) [
       | true ↦ ap (λ x. also x (b + 1, l.entry) (of_timer t rest)) (eq-eqb t t refl) ∙ ap (λ xs. (b + 1, l.entry) ∷ xs) (of_timer-from c t (b + 1) lines)
       | false ↦ of_timer-from c t (b + 1) lines

@@ -1,16 +1,17 @@
 -- One timer in the order of all: its list is a history, it is at each moment as after a number of its own entries, and a moment of a call is a point of the
 -- call in that list.
-use Rattle.std.proofs.Common.{◌≡◌, ◌<◌, ◌≤◌, ◌⊎◌, ℕ, ◌+◌, zero, suc, Bool, true, false, nat_eq, if◌then◌else◌, List, [], ◌∷◌, ◌++◌, Some, length, map, take, drop, get_or, arith, refl, sym, ap, ◌∙◌, subst, inl, inr}
+use Rattle.std.proofs.Common.{◌≡◌, ◌<◌, ◌≤◌, ◌⊎◌, ℕ, ◌+◌, zero, suc, Bool, true, false, if◌then◌else◌, List, [], ◌∷◌, ◌++◌, Some, length, map, take, drop, get_or, arith, refl, sym, ap, ◌∙◌, subst, inl, inr}
 use Rattle.std.specs.List.{AllByRecursion, slice_get}
 use Rattle.std.proofs.Math.Logic.{⊎_elim}
 use Rattle.std.proofs.lemmas.Bool.{cases_eq, cases_lt, eq-eqb, ne_eqb}
 use Rattle.std.proofs.lemmas.List.{append_assoc, drop-map, get_or_past, get_or-map, length-map, take-map}
-use Rattle.seq_timer.proofs.Ties.{may_follow}
+use Rattle.seq_timer.proofs.Ties.{may_stand_behind}
 use Rattle.seq_timer.specs.declared.context.Terms.{Terms}
 use Rattle.seq_timer.specs.declared.context.Declared.{Declared}
 use Rattle.seq_timer.specs.declared.observation.Observation.{Observation}
 use Rattle.seq_timer.specs.declared.observation.Observation.TheVariants as observations
-use Rattle.seq_timer.specs.declared.system.TimerEntry.{TimerEntry}
+use Rattle.seq_timer.specs.declared.system.SystemEntry.{SystemEntry}
+use Rattle.seq_timer.specs.declared.system.SystemEntry.TheVariants as entries
 use Rattle.seq_timer.specs.Histories.{after_all, AreSteps, Entry, Holds, IsLegal}
 use Rattle.seq_timer.specs.Steps.{opening, Timer}
 use Rattle.seq_timer.specs.Systems.{IsSystemHistory, System, after_entry, armed_in, entries_of, first_system, openings, system_of}
@@ -18,16 +19,17 @@ use Rattle.seq_timer.specs.Tables.{in_context, no_declared, no_timer, timer_at}
 use Rattle.seq_timer.proofs.Contents.{declared-after_all}
 use Rattle.seq_timer.specs.Turns.{IsInTurn, IsTurn}
 use Rattle.seq_timer.proofs.Agreement.{stamp_counts}
-use Rattle.seq_timer.proofs.Systems.{after_entries-append, after_entries-entries_of, timer_else, timer_here}
+use Rattle.seq_timer.proofs.Systems.{after_entries-append, after_entries-entries_of, timer_else, timer_here, timers_shift}
 use Rattle.seq_timer.specs.declared.event.EventBy.TheVariants as events
 use Rattle.seq_timer.specs.Events.{map_reading}
+use Rattle.record_text.specs.declared.record.Entry.{Entry as ShownEntry}
 use Rattle.record_text.specs.declared.record.Label.{Label}
 use Rattle.record_text.specs.declared.record.TimerLine.{TimerLine}
 use Rattle.run_history.specs.Actions.{Action, also, entered, own}
 use Rattle.run_history.specs.Histories.{history_from, history_of, lines_of_timer, reading_at, timer_after, timer_labels}
 use Rattle.script_text.specs.Declarations.{declared_as, declared_of, terms_of, declareds_of}
 use Rattle.run_history.specs.Order.{is_before, IsInOrder, made_by}
-use Rattle.run_history.specs.Witnesses.{Witness, entries_in, entry_of_move, IsOneHistory, labels, Move, moves_on, timer_along}
+use Rattle.run_history.specs.Witnesses.{Witness, entries_in, entry_of_move, entry_of_shown, IsOneHistory, is_owner, labels, line_of_timer, lines_at, Move, moves_from, moves_on, OfTimer, owner_of, Shown, TimersList, timer_along}
 use Rattle.run_history.specs.EachTimer.{IsOwnPoint, WasSo}
 use Rattle.run_history.specs.Traces.{all_entered, own_moves}
 use Rattle.run_history.specs.Truths.{IsMoment, Saw}
@@ -44,21 +46,26 @@ split_at (y ∷ xs) (suc p) x at = ap (λ zs. y ∷ zs) (split_at xs p x at)
 
 -- how many entries a timer has among the first so many of all
 abbrev pub seen : Witness → ℕ → ℕ → ℕ
-seen w n t = length (moves_on t (take n w.moves))
+seen w n t = length (moves_on (TimersList t) (take n w.moves))
 
 -- ---- a timer's part of a history of all is one of its own
 
-own_steps : (bases : ℕ) (list : List Declared) (terms : Terms) (t : ℕ) (log done later : List TimerEntry) → IsInTurn bases list terms log → log ≡ done ++ later
+own_steps : (bases : ℕ) (list : List Declared) (terms : Terms) (t : ℕ) (log done later : List SystemEntry) → IsInTurn bases list terms log → log ≡ done ++ later
     → AreSteps ((system_of list terms done).timers t) (entries_of t later)
 own_steps bases list terms t log done [] turns is = tt
-own_steps bases list terms t log done (e ∷ es) turns is =
+own_steps bases list terms t log done (entries.Base c ∷ es) turns is =
+    let first = first_system (openings list terms) in
+    subst (λ x. AreSteps x (entries_of t es))
+    (ap (λ (x : System). x.timers t) (after_entries-append first done (entries.Base c ∷ [])) ∙ timers_shift (system_of list terms done) c t)
+    (own_steps bases list terms t log (done ++ entries.Base c ∷ []) es turns (is ∙ sym (append_assoc done (entries.Base c ∷ []) es)))
+own_steps bases list terms t log done (entries.Timer e ∷ es) turns is =
     let first = first_system (openings list terms) in
     let now = system_of list terms done in
-    let may = turns done es e is in
-    let on : (system_of list terms (done ++ e ∷ [])).timers t ≡ (after_entry now e).timers t =
-    ap (λ (x : System). x.timers t) (after_entries-append first done (e ∷ [])) in
+    let may = turns done es (entries.Timer e) is in
+    let on : (system_of list terms (done ++ entries.Timer e ∷ [])).timers t ≡ (after_entry now e).timers t =
+    ap (λ (x : System). x.timers t) (after_entries-append first done (entries.Timer e ∷ [])) in
     let rest = subst (λ x. AreSteps x (entries_of t es)) on
-    (own_steps bases list terms t log (done ++ e ∷ []) es turns (is ∙ sym (append_assoc done (e ∷ []) es))) in
+    (own_steps bases list terms t log (done ++ entries.Timer e ∷ []) es turns (is ∙ sym (append_assoc done (entries.Timer e ∷ []) es))) in
     ⊎_elim
     (λ (same : e.timer ≡ t). subst (λ (b : Bool). AreSteps (now.timers t)
     (if b then record { event = e.event; reply = e.reply } ∷ entries_of t es else entries_of t es))
@@ -87,7 +94,7 @@ nothing_taken o n (e ∷ es) is = absurd (cc)
 module _ (w : Witness) (one : IsOneHistory w) (timers : length w.run.timers ≡ length w.script.timers) where
   -- each entry in turn, by the timers alone
   in_turn : IsInTurn w.script.bases (declareds_of w.script) (terms_of w.script) (entries_in w)
-  in_turn = λ before later x is. may_follow w.script.bases (terms_of w.script) (declareds_of w.script) before later x
+  in_turn = λ before later x is. may_stand_behind w.script.bases (terms_of w.script) (declareds_of w.script) before later x
       (subst (IsSystemHistory w.script.bases (declareds_of w.script) (terms_of w.script)) is one.history)
 
   -- law: a timer has made as many entries as stand in the order
@@ -96,17 +103,19 @@ module _ (w : Witness) (one : IsOneHistory w) (timers : length w.run.timers ≡ 
       stamp_counts (terms_of w.script) (declareds_of w.script) (take n (entries_in w)) t
       ∙ ap (λ xs. length (entries_of t xs)) (take-map (entry_of_move w.run.clock) n w.moves)
       ∙ ap length (entries_on w.run.clock t (take n w.moves))
-      ∙ length-map (moves_on t (take n w.moves)) (own_entry w.run.clock)
+      ∙ length-map (moves_on (TimersList t) (take n w.moves)) (own_entry w.run.clock)
 
-  own_history : (t : ℕ) → entries_of t (entries_in w) ≡ history_of w.run t
-  own_history t = entries_on w.run.clock t w.moves ∙ ap (map (own_entry w.run.clock)) (one.all t) ∙ history_shown w.run.clock t 0 (lines_of_timer w.run t)
+  -- law: each timer's lines show its part of the order
+  pub own_history : (t : ℕ) → entries_of t (entries_in w) ≡ history_of w.run t
+  own_history t = entries_on w.run.clock t w.moves ∙ ap (map (own_entry w.run.clock)) (one.all (TimersList t))
+      ∙ history_shown w.run.clock t 0 (lines_of_timer w.run t)
 
   early_history : (n t : ℕ) → entries_of t (take n (entries_in w)) ≡ take (seen w n t) (history_of w.run t)
   early_history n t =
       ap (entries_of t) (take-map (entry_of_move w.run.clock) n w.moves)
       ∙ entries_on w.run.clock t (take n w.moves)
-      ∙ ap (map (own_entry w.run.clock)) (sym (on_take t n w.moves))
-      ∙ sym (take-map (own_entry w.run.clock) (seen w n t) (moves_on t w.moves))
+      ∙ ap (map (own_entry w.run.clock)) (sym (on_take (TimersList t) n w.moves))
+      ∙ sym (take-map (own_entry w.run.clock) (seen w n t) (moves_on (TimersList t) w.moves))
       ∙ ap (take (seen w n t)) (sym (entries_on w.run.clock t w.moves) ∙ own_history t)
 
   begins : (t : ℕ) → (timer_at (openings (declareds_of w.script) (terms_of w.script)) t ≡ opening (declared_of w.script t) (terms_of w.script))
@@ -123,7 +132,8 @@ module _ (w : Witness) (one : IsOneHistory w) (timers : length w.run.timers ≡ 
   -- law: each timer's list is a history of such a timer
   pub legal_each : (t : ℕ) → IsLegal (declared_of w.script t) (terms_of w.script) (history_of w.run t)
   legal_each t = ⊎_elim
-      (λ is. subst (λ x. AreSteps x (history_of w.run t)) is (subst (AreSteps (timer_at (openings (declareds_of w.script) (terms_of w.script)) t)) (own_history t)
+      (λ is. subst (λ x. AreSteps x (history_of w.run t)) is (subst (AreSteps (timer_at (openings (declareds_of w.script) (terms_of w.script)) t))
+      (own_history t)
       (own_steps w.script.bases (declareds_of w.script) (terms_of w.script) t (entries_in w) [] (entries_in w) in_turn refl)))
       (λ none. subst (AreSteps (opening (declared_of w.script t) (terms_of w.script))) (sym none.2) tt)
       (begins t)
@@ -175,25 +185,30 @@ module _ (w : Witness) (one : IsOneHistory w) (timers : length w.run.timers ≡ 
       let early = take n w.moves in
       let k = seen w n t in
       let lines = lines_of_timer w.run t in
-      let its : map (λ m. m.line.label) (moves_on t w.moves) ≡ timer_labels w.run t = ap (map (λ m. m.line.label)) (one.all t) ∙ labels_of_lines t 0 lines in
-      let taken : take k (timer_labels w.run t) ≡ map (λ m. m.line.label) (moves_on t early) =
-      ap (take k) (sym its) ∙ take-map (λ (m : Move). m.line.label) k (moves_on t w.moves) ∙ ap (map (λ m. m.line.label)) (on_take t n w.moves) in
-      let dropped : drop k (timer_labels w.run t) ≡ map (λ m. m.line.label) (moves_on t (drop n w.moves)) =
-      ap (drop k) (sym its) ∙ drop-map (λ (m : Move). m.line.label) k (moves_on t w.moves) ∙ ap (map (λ m. m.line.label)) (on_drop t n w.moves) in
+      let its : map (λ m. m.label) (moves_on (TimersList t) w.moves) ≡ timer_labels w.run t = ap (map (λ m. m.label)) (one.all (TimersList t))
+      ∙ labels_of_lines t 0 lines in
+      let taken : take k (timer_labels w.run t) ≡ map (λ m. m.label) (moves_on (TimersList t) early) =
+      ap (take k) (sym its) ∙ take-map (λ (m : Move). m.label) k (moves_on (TimersList t) w.moves)
+      ∙ ap (map (λ m. m.label)) (on_take (TimersList t) n w.moves) in
+      let dropped : drop k (timer_labels w.run t) ≡ map (λ m. m.label) (moves_on (TimersList t) (drop n w.moves)) =
+      ap (drop k) (sym its) ∙ drop-map (λ (m : Move). m.label) k (moves_on (TimersList t) w.moves)
+      ∙ ap (map (λ m. m.label)) (on_drop (TimersList t) n w.moves) in
       let these : own_moves c early ≡ all_entered before = own_early c n w.moves (all_entered before) (all_entered rest)
       (own_are ∙ all_entered-append before rest) moment.so_many in
       record {
         within = record {
-          small = fits (timer_labels w.run t) k (ap length taken ∙ length-map (moves_on t early) (λ m. m.line.label));
-          before = subst (AllByRecursion (λ x. is_before w.script c x ≡ false)) (sym taken) (all_on (λ x. is_before w.script c x ≡ false) t early
-              (subst (AllByRecursion (λ x. is_before w.script c x ≡ false)) (take-map (λ (m : Move). m.line.label) n w.moves) moment.within.before));
-          behind = subst (AllByRecursion (λ x. is_before w.script x c ≡ false)) (sym dropped) (all_on (λ x. is_before w.script x c ≡ false) t (drop n w.moves)
-              (subst (AllByRecursion (λ x. is_before w.script x c ≡ false)) (drop-map (λ (m : Move). m.line.label) n w.moves) moment.within.behind));
+          small = fits (timer_labels w.run t) k (ap length taken ∙ length-map (moves_on (TimersList t) early) (λ m. m.label));
+          before = subst (AllByRecursion (λ x. is_before w.script c x ≡ false)) (sym taken) (all_on (λ x. is_before w.script c x ≡ false) (TimersList t) early
+              (subst (AllByRecursion (λ x. is_before w.script c x ≡ false)) (take-map (λ (m : Move). m.label) n w.moves) moment.within.before));
+          behind = subst (AllByRecursion (λ x. is_before w.script x c ≡ false)) (sym dropped) (all_on (λ x. is_before w.script x c ≡ false) (TimersList t)
+              (drop n w.moves)
+              (subst (AllByRecursion (λ x. is_before w.script x c ≡ false)) (drop-map (λ (m : Move). m.label) n w.moves) moment.within.behind));
         };
         so_many = ap (made_by c) (take-map (λ (l : TimerLine). l.label) k lines)
             ∙ count_own (λ line. line.label) (λ line. line.entry) c 1 (take k lines)
             ∙ ap length (sym (of_timer-from c t 0 (take k lines))
-            ∙ ap (λ ms. of_timer t (own_moves c ms)) (take_from t 0 k lines ∙ ap (take k) (sym (one.all t)) ∙ on_take t n w.moves)
+            ∙ ap (λ ms. of_timer t (own_moves c ms)) (ap (moves_from 0) (sym (take-map (line_of_timer t) k lines)) ∙ take_from 0 k (map (line_of_timer t) lines)
+            ∙ ap (take k) (sym (one.all (TimersList t))) ∙ on_take (TimersList t) n w.moves)
             ∙ of_timer-on c t early ∙ ap (of_timer t) these ∙ of_timer-entered t before);
       }
     where
@@ -204,9 +219,9 @@ module _ (w : Witness) (one : IsOneHistory w) (timers : length w.run.timers ≡ 
       fits (x ∷ xs) (suc k) is = let below = fits xs k (omega (arith, is)) in omega (arith, below)
 
   -- at a move's place its timer has as many entries as it says
-  pub before_then : (p : ℕ) (m : Move) → slice_get w.moves p ≡ Some m → seen w p m.timer ≡ m.before
-  before_then p m at = from_none (seen w p m.timer) ∙ before_at m.timer 0 (seen w p m.timer) (lines_of_timer w.run m.timer) m
-      (ap (λ ms. slice_get ms (seen w p m.timer)) (sym (one.all m.timer)) ∙ on_place m.timer p w.moves m at refl)
+  pub before_then : (p t : ℕ) (m : Move) → slice_get w.moves p ≡ Some m → owner_of m.shown ≡ TimersList t → seen w p t ≡ m.before
+  before_then p t m at of = from_none (seen w p t) ∙ before_at 0 (seen w p t) (lines_at w.run (TimersList t)) m
+      (ap (λ ms. slice_get ms (seen w p t)) (sym (one.all (TimersList t))) ∙ on_place (TimersList t) p w.moves m at of)
     where
       from_none : (n : ℕ) → n ≡ 0 + n
       from_none n = omega arith
@@ -215,7 +230,7 @@ module _ (w : Witness) (one : IsOneHistory w) (timers : length w.run.timers ≡ 
   pub seen_rises : (a b t : ℕ) → a ≤ b → seen w a t ≤ seen w b t
   seen_rises a b t le = rises w.moves a b le
     where
-      rises : (ms : List Move) (a b : ℕ) → a ≤ b → length (moves_on t (take a ms)) ≤ length (moves_on t (take b ms))
+      rises : (ms : List Move) (a b : ℕ) → a ≤ b → length (moves_on (TimersList t) (take a ms)) ≤ length (moves_on (TimersList t) (take b ms))
       rises [] zero b le = omega arith
       rises [] (suc a) zero le = omega arith
       rises [] (suc a) (suc b) le = omega arith
@@ -223,17 +238,22 @@ module _ (w : Witness) (one : IsOneHistory w) (timers : length w.run.timers ≡ 
       rises (m ∷ ms) (suc a) zero le = absurd (omega (arith, le))
       rises (m ∷ ms) (suc a) (suc b) le =
           let rest = rises ms a b (omega (arith, le)) in
-          elim (nat_eq m.timer t) as (λ x. length (also x m (moves_on t (take a ms))) ≤ length (also x m (moves_on t (take b ms)))) [
+          elim (is_owner (owner_of m.shown) (TimersList t)) as (λ x. length (also x m (moves_on (TimersList t) (take a ms))) ≤ length (also x m (moves_on
+          (TimersList t) (take b ms)))) [
             | true ↦ omega (arith, rest)
             | false ↦ rest
           ]
 
   -- law: a claim was in turn at its place
-  pub turn_at : (p : ℕ) (m : Move) (base reading : ℕ) → slice_get w.moves p ≡ Some m → m.line.entry.event ≡ events.Claim base reading
-      → IsTurn (in_context (timer_along w p m.timer).declared.context (timer_along w p)) (armed_in (declareds_of w.script) (terms_of w.script) (take p (entries_in w))) base (reading_at w.run.clock reading) m.timer
-  turn_at p m base reading at is =
-      (in_turn (take p (entries_in w)) _ (entry_of_move w.run.clock m) (split_at (entries_in w) p (entry_of_move w.run.clock m)
-      (at_map (entry_of_move w.run.clock) w.moves p m at))).turn base (reading_at w.run.clock reading) (ap (map_reading (reading_at w.run.clock)) is)
+  pub turn_at : (p t : ℕ) (m : Move) (entry : ShownEntry) (base reading : ℕ) → slice_get w.moves p ≡ Some m → m.shown ≡ OfTimer t entry
+      → entry.event ≡ events.Claim base reading
+      → IsTurn (in_context (timer_along w p t).declared.context (timer_along w p)) (armed_in (declareds_of w.script) (terms_of w.script) (take p
+      (entries_in w))) base (reading_at w.run.clock reading) t
+  turn_at p t m entry base reading at shown is =
+      (in_turn (take p (entries_in w)) _ (entry_of_shown w.run.clock (OfTimer t entry)) (split_at (entries_in w) p (entry_of_shown w.run.clock
+      (OfTimer t entry))
+      (at_map (entry_of_move w.run.clock) w.moves p m at ∙ ap (λ (x : Shown). Some (entry_of_shown w.run.clock x)) shown))).turn base
+      (reading_at w.run.clock reading) (ap (map_reading (reading_at w.run.clock)) is)
 
   -- law: what a call saw at a moment was so after a number of the timer's entries
   pub saw_then : (c : Label) (before rest : List Action) (n t number : ℕ) (observation : Observation) → own_moves c w.moves ≡ all_entered (before ++ rest)
@@ -248,22 +268,23 @@ module _ (w : Witness) (one : IsOneHistory w) (timers : length w.run.timers ≡ 
   pub entered_then : (c : Label) (actions : List Action) (t : ℕ) → own_moves c w.moves ≡ all_entered actions
       → own (λ line. line.label) (λ line. line.entry) c 1 (lines_of_timer w.run t) ≡ entered t actions
   entered_then c actions t own_are =
-      sym (of_timer-from c t 0 (lines_of_timer w.run t)) ∙ ap (λ ms. of_timer t (own_moves c ms)) (sym (one.all t)) ∙ of_timer-on c t w.moves
+      sym (of_timer-from c t 0 (lines_of_timer w.run t)) ∙ ap (λ ms. of_timer t (own_moves c ms)) (sym (one.all (TimersList t))) ∙ of_timer-on c t w.moves
       ∙ ap (of_timer t) own_are ∙ of_timer-entered t actions
 
   -- law: along each timer's list labels are as along the order
   pub labels_each : (P : Label → Type 0) (t : ℕ) → AllByRecursion P (labels w) → AllByRecursion P (timer_labels w.run t)
-  labels_each P t all = subst (AllByRecursion P) (ap (map (λ m. m.line.label)) (one.all t) ∙ labels_of_lines t 0 (lines_of_timer w.run t))
-      (all_on P t w.moves all)
+  labels_each P t all = subst (AllByRecursion P) (ap (map (λ m. m.label)) (one.all (TimersList t)) ∙ labels_of_lines t 0 (lines_of_timer w.run t))
+      (all_on P (TimersList t) w.moves all)
 
   -- law: and in order
   pub order_each : (t : ℕ) → IsInOrder w.script (labels w) → IsInOrder w.script (timer_labels w.run t)
-  order_each t order = subst (IsInOrder w.script) (ap (map (λ m. m.line.label)) (one.all t) ∙ labels_of_lines t 0 (lines_of_timer w.run t))
+  order_each t order = subst (IsInOrder w.script) (ap (map (λ m. m.label)) (one.all (TimersList t)) ∙ labels_of_lines t 0 (lines_of_timer w.run t))
       (along w.moves order)
     where
-      along : (ms : List Move) → IsInOrder w.script (map (λ m. m.line.label) ms) → IsInOrder w.script (map (λ m. m.line.label) (moves_on t ms))
+      along : (ms : List Move) → IsInOrder w.script (map (λ m. m.label) ms) → IsInOrder w.script (map (λ m. m.label) (moves_on (TimersList t) ms))
       along [] all = tt
-      along (m ∷ ms) all = elim (nat_eq m.timer t) as (λ b. IsInOrder w.script (map (λ m. m.line.label) (also b m (moves_on t ms)))) [
-        | true ↦ (all_on (λ y. is_before w.script y m.line.label ≡ false) t ms all.0, along ms all.1)
-        | false ↦ along ms all.1
-      ]
+      along (m ∷ ms) all = elim (is_owner (owner_of m.shown) (TimersList t)) as (λ b. IsInOrder w.script (map (λ m. m.label) (also b m (moves_on
+          (TimersList t) ms)))) [
+            | true ↦ (all_on (λ y. is_before w.script y m.label ≡ false) (TimersList t) ms all.0, along ms all.1)
+            | false ↦ along ms all.1
+          ]

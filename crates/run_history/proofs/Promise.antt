@@ -4,7 +4,7 @@ use Rattle.std.specs.List.{AllByRecursion}
 use Rattle.std.proofs.lemmas.List.{append-nil, append_assoc, take-append-le, take-map}
 use Rattle.clock_model.specs.Clocks.{at_stamp, clock_after}
 use Rattle.clock_model.specs.declared.write.Write.{Write}
-use Rattle.seq_timer.specs.declared.system.TimerEntry.{TimerEntry}
+use Rattle.seq_timer.specs.declared.system.SystemEntry.{SystemEntry}
 use Rattle.record_text.specs.declared.record.Answer.{Answer}
 use Rattle.record_text.specs.declared.record.ClockLine.{ClockLine}
 use Rattle.record_text.specs.declared.record.Label.{Label}
@@ -61,7 +61,7 @@ module _ {s : Script} {e : Ending} {c : Label} {log : CallLog} (joined : IsJoine
 -- ---- what its passes had seen
 
 -- the entries along the record's lines begin with what a pass of the timers' table had seen
-pub seen_first : {s : Script} {e : Ending} (seen : List TimerEntry) → IsJoined s e → (on : GoesOn seen e) → entries_in (witness_of s e) ≡ seen ++ on.0
+pub seen_first : {s : Script} {e : Ending} (seen : List SystemEntry) → IsJoined s e → (on : GoesOn seen e) → entries_in (witness_of s e) ≡ seen ++ on.0
 seen_first seen joined on = joined.entries ∙ on.1
 
 -- a reading that a stamp names is the one after so many of the writes that a pass of the clock's table had seen

@@ -1,4 +1,4 @@
--- What one call did, in its order: the entries that it made of timers and objects, and what its callbacks were told in place of entries.
+-- What one call did, in its order: the entries that it made of timers, bases and objects, and what its callbacks were told in place of entries.
 use Rattle.std.specs.Prelude.{ℕ, ◌+◌, Bool, true, false, nat_eq, List, [], ◌∷◌, ◌++◌}
 use Rattle.clock_model.specs.declared.write.Write.{Write}
 use Rattle.record_text.specs.declared.record.Label.{Label}
@@ -9,16 +9,18 @@ use Rattle.record_text.specs.declared.record.TimerLine.{TimerLine}
 use Rattle.record_text.specs.declared.record.ObjectEntry.{ObjectEntry}
 use Rattle.record_text.specs.declared.record.ObjectLine.{ObjectLine}
 use Rattle.record_text.specs.declared.record.Skip.{Skip}
+use Rattle.seq_timer.specs.declared.standing.BaseEvent.{BaseEvent}
 use Rattle.run_history.specs.Order.{is_label}
 
 -- one thing that a call did, with its number in its list: a write of the clock; an entry of a timer, or a look that holds after that
--- entry; an entry of an object, or an expiry of a generation that the object refused after that entry, its history being full
+-- entry; an entry of an object, or an expiry of a generation that the object refused after that entry, its history being full; an entry of a base
 pub data Action : Type 0 where
   Wrote : ℕ → Write → Action
   Entered : ℕ → ℕ → Entry → Action
   Looked : ℕ → ℕ → CallbackReply → Action
   Made : ℕ → ℕ → ObjectEntry → Action
   Skipped : ℕ → ℕ → ℕ → Action
+  Shifted : ℕ → ℕ → BaseEvent → Action
 
 -- one more item where a test holds
 abbrev pub also : {A : Type 0} → Bool → A → List A → List A
@@ -33,6 +35,7 @@ wrote (Entered timer number entry ∷ ds) = wrote ds
 wrote (Looked timer number reply ∷ ds) = wrote ds
 wrote (Made i number entry ∷ ds) = wrote ds
 wrote (Skipped i number generation ∷ ds) = wrote ds
+wrote (Shifted base number event ∷ ds) = wrote ds
 
 -- the entries of a timer among these, each with its number
 abbrev pub entered : ℕ → List Action → List (ℕ × Entry)
@@ -42,6 +45,7 @@ entered t (Entered timer number entry ∷ ds) = also (nat_eq timer t) (number, e
 entered t (Looked timer number reply ∷ ds) = entered t ds
 entered t (Made i number entry ∷ ds) = entered t ds
 entered t (Skipped i number generation ∷ ds) = entered t ds
+entered t (Shifted base number event ∷ ds) = entered t ds
 
 -- the entries of an object among these, each with its number
 abbrev pub made : ℕ → List Action → List (ℕ × ObjectEntry)
@@ -51,6 +55,7 @@ made t (Entered timer number entry ∷ ds) = made t ds
 made t (Looked timer number reply ∷ ds) = made t ds
 made t (Made i number entry ∷ ds) = also (nat_eq i t) (number, entry) (made t ds)
 made t (Skipped i number generation ∷ ds) = made t ds
+made t (Shifted base number event ∷ ds) = made t ds
 
 -- the looks at a timer among these, each with the number of the entry after which it holds
 abbrev pub looked : ℕ → List Action → List (ℕ × CallbackReply)
@@ -60,6 +65,7 @@ looked t (Entered timer number entry ∷ ds) = looked t ds
 looked t (Looked timer number reply ∷ ds) = also (nat_eq timer t) (number, reply) (looked t ds)
 looked t (Made i number entry ∷ ds) = looked t ds
 looked t (Skipped i number generation ∷ ds) = looked t ds
+looked t (Shifted base number event ∷ ds) = looked t ds
 
 -- the refused expiries of an object among these, each with the number of the entry after which it came
 abbrev pub skipped : ℕ → List Action → List (ℕ × ℕ)
@@ -69,6 +75,7 @@ skipped t (Entered timer number entry ∷ ds) = skipped t ds
 skipped t (Looked timer number reply ∷ ds) = skipped t ds
 skipped t (Made i number entry ∷ ds) = skipped t ds
 skipped t (Skipped i number generation ∷ ds) = also (nat_eq i t) (number, generation) (skipped t ds)
+skipped t (Shifted base number event ∷ ds) = skipped t ds
 
 -- the numbers of an object's entries and refused expiries among these, in their order
 abbrev pub numbers_of_object : ℕ → List Action → List ℕ
@@ -78,6 +85,7 @@ numbers_of_object t (Entered timer number entry ∷ ds) = numbers_of_object t ds
 numbers_of_object t (Looked timer number reply ∷ ds) = numbers_of_object t ds
 numbers_of_object t (Made i number entry ∷ ds) = also (nat_eq i t) number (numbers_of_object t ds)
 numbers_of_object t (Skipped i number generation ∷ ds) = also (nat_eq i t) number (numbers_of_object t ds)
+numbers_of_object t (Shifted base number event ∷ ds) = numbers_of_object t ds
 
 -- the lines of a list that bear a label, each with its number, where the first is numbered so
 abbrev pub own : {X A : Type 0} → (X → Label) → (X → A) → Label → ℕ → List X → List (ℕ × A)

@@ -1,13 +1,13 @@
 -- What a record that fits says of each timer by itself, with no order of all timers' entries: its list is a history of such a timer, and what calls did
 -- there and were told of it was so after numbers of its own entries.
-use Rattle.std.specs.Prelude.{ℕ, ◌≡◌, ◌+◌, false, Some, List, ◌∷◌, ◌++◌, length}
+use Rattle.std.specs.Prelude.{ℕ, ◌≡◌, ◌+◌, ◌≤◌, true, false, Some, List, ◌∷◌, ◌++◌, length}
 use Rattle.std.specs.List.{AllByRecursion, slice_get}
 use Rattle.seq_timer.specs.declared.observation.Observation.{Observation}
 use Rattle.seq_timer.specs.declared.observation.Observation.TheVariants as observations
 use Rattle.seq_timer.specs.Histories.{HoldsAt, IsLegal}
 use Rattle.ktime.specs.declared.clock_id.ClockId.{ClockId}
 use Rattle.seq_timer.specs.declared.context.Context.{Context}
-use Rattle.seq_timer.specs.Tables.{IsNextDue, IsStopped, in_context, runs_on, seen_in}
+use Rattle.seq_timer.specs.Tables.{IsNextDue, IsStopped, IsUnused, in_context, is_armed_on, runs_on, seen_in}
 use Rattle.record_text.specs.declared.record.Answer.{Answer}
 use Rattle.record_text.specs.declared.record.Answer.TheVariants as answers
 use Rattle.record_text.specs.declared.record.CallbackReply.{CallbackReply}
@@ -23,8 +23,8 @@ use Rattle.run_history.specs.Told.{observed}
 use Rattle.run_history.specs.Histories.{answers_of, clock_labels, history_of, lines_of_timer, reading_at, timer_after, timer_labels}
 use Rattle.script_text.specs.Declarations.{declared_of, terms_of}
 use Rattle.run_history.specs.Order.{CallInRound, calls_of, IsInOrder, IsLabel, IsPoint}
-use Rattle.run_history.specs.Calls.{Does}
-use Rattle.run_history.specs.Witnesses.{Fired}
+use Rattle.run_history.specs.Calls.{AllKeepExpiries, Does}
+use Rattle.run_history.specs.Witnesses.{Evacuation, Fired}
 
 -- a number of a timer's entries is one that the call, having done so much, may have seen
 abbrev pub IsOwnPoint : Script → RunRecord → Label → List Action → ℕ → ℕ → Type 0
@@ -54,6 +54,18 @@ pub record WasDone (s : Script) (r : RunRecord) (c : Label) (actions : List Acti
   pub free : (u : ℕ) → runs_on base (seen_in context (timer_after s r u (seen u))) ≡ false
   pub stopped : (clock : ClockId) → IsStopped (in_context context (λ u. timer_after s r u (seen u))) base (reading_at r.clock reading) clock
 
+-- no timer was armed on a base and no function ran there: after numbers of entries of each timer
+pub record WasUnused (s : Script) (r : RunRecord) (c : Label) (actions : List Action) (base : ℕ) : Type 0 where
+  pub seen : ℕ → ℕ
+  pub points : (u : ℕ) → IsOwnPoint s r c actions u (seen u)
+  pub unused : IsUnused (λ u. timer_after s r u (seen u)) base
+
+-- a timer was armed on a base, and had so many entries that it wasn't moved off it any more
+pub record WasFullOn (s : Script) (r : RunRecord) (c : Label) (actions : List Action) (base t stamp : ℕ) : Type 0 where
+  pub point : IsOwnPoint s r c actions t stamp
+  pub armed : is_armed_on base (timer_after s r t stamp) ≡ true
+  pub full : (terms_of s).limit + (terms_of s).reach ≤ stamp
+
 -- what an answer tells of timers was so, when the call had done all that it did
 abbrev pub WasTold : Script → RunRecord → Label → ℕ → List Action → Call → Answer → Type 0
 WasTold s r c at actions (calls.Start t request) (answers.Spent stamp) = WasRefused s r c actions t stamp
@@ -67,14 +79,21 @@ WasTold s r c at actions (calls.Expire context base budget) (answers.Busy shown 
     ((declared_of s t).context ≡ context)
     × ((stamp : ℕ) × WasSo s r c actions t stamp (observations.Running generation) × ((timer_after s r t stamp).base ≡ base))
 WasTold s r c at actions (calls.Settime t flags value interval) (answers.Unarmed stamp) = WasRefused s r c actions t stamp
+WasTold s r c at actions (calls.Offline base heir budget) (answers.Offline moved stamp) = WasUnused s r c actions base
+WasTold s r c at actions (calls.Offline base heir budget) (answers.OfflineBusy moved t generation) =
+    (stamp : ℕ) × WasSo s r c actions t stamp (observations.Running generation) × ((timer_after s r t stamp).base ≡ base)
+WasTold s r c at actions (calls.Offline base heir budget) (answers.OfflineSpent moved t stamp) = WasFullOn s r c actions base t stamp
 WasTold s r c at actions call answer = Unit
 
 -- one call with its answer: what it did is what the record shows of each timer, and what it was told in it and by it was so
 pub record FitsTimers (s : Script) (r : RunRecord) (c : Label) (call : Call) (answer : Answer) : Type 0 where
   pub at : ℕ
   pub fired : List Fired
+  pub moved : List Evacuation
   pub actions : List Action
-  pub does : Does s at call answer fired actions
+  -- whether a base was off line isn't a matter of the timers alone
+  pub does : Does (λ base heir. Unit {0}) s at call answer fired moved actions
+  pub keeps : AllKeepExpiries s r call moved
   pub reading : IsPoint s c 0 at (clock_labels r)
   pub entered : (t : ℕ) → own (λ line. line.label) (λ line. line.entry) c 1 (lines_of_timer r t) ≡ entered t actions
   pub looked : (t : ℕ) → own_looks c 1 (lines_of_timer r t) ≡ looked t actions

@@ -1,4 +1,4 @@
--- What it means that a record fits a script: each call is there once, in the order of its lane, all timers' entries are one
+-- What it means that a record fits a script: each call is there once, in the order of its lane, all timers' and bases' entries are one
 -- history, and each object's are one history.
 use Rattle.std.specs.Prelude.{ℕ, ◌≡◌, ◌≤◌, ◌+◌, false, List, [], ◌∷◌, length, map}
 use Rattle.std.specs.List.{AllByRecursion}
@@ -17,10 +17,10 @@ use Rattle.run_history.specs.Actions.{wrote}
 use Rattle.run_history.specs.Told.{object_steps_on}
 use Rattle.run_history.specs.Witnesses.{Witness, IsOneHistory, labels}
 use Rattle.run_history.specs.Traces.{HasTraced}
-use Rattle.run_history.specs.Calls.{Does}
-use Rattle.run_history.specs.Truths.{AreTrue, IsClaimSpan, IsMoment, AnswerHolds}
+use Rattle.run_history.specs.Calls.{AllKeepExpiries, Does}
+use Rattle.run_history.specs.Truths.{AreTrue, IsClaimSpan, IsMoment, AnswerHolds, WasOffLine}
 
--- how many of the clock's writes, of all timers' entries, and of each object's entries, a lane has seen
+-- how many of the clock's writes, of all timers' and bases' entries, and of each object's entries, a lane has seen
 pub record Seen : Type 0 where
   pub clock : ℕ
   pub moves : ℕ
@@ -34,7 +34,10 @@ unseen = record { clock = 0; moves = 0; objects = λ i. 0 }
 -- no more than its lane has seen after it.
 pub record FitsCall (w : Witness) (c : Label) (call : Call) (answer : Answer) (before after : Seen) : Type 0 where
   pub traced : HasTraced w c (w.traces c).actions
-  pub does : Does w.script (w.traces c).at call answer (w.traces c).fired (w.traces c).actions
+  pub does : Does (WasOffLine w (w.traces c).first (w.traces c).last) w.script (w.traces c).at call answer (w.traces c).fired (w.traces c).moved
+      (w.traces c).actions
+  -- the timers that it moved off a base keep their expiries
+  pub keeps : AllKeepExpiries w.script w.run call (w.traces c).moved
   pub reading : IsPoint w.script c 0 (w.traces c).at (clock_labels w.run)
   -- its first moment, at which it had made no entry, and its last, at which it had made them all
   pub begins : IsMoment w c [] (w.traces c).first
@@ -70,21 +73,22 @@ pub record AreSkipsUnder (s : Script) (labels : List Label) : Type 0 where
   pub calls : AllByRecursion (IsLabel s) labels
   pub in_order : LabelsNeverFall labels
 
--- the record fits the script, in this order of all timers' entries
+-- the record fits the script, in this order of all timers' and bases' entries
 pub record FitsIn (w : Witness) : Type 0 where
   -- the record is of the script's version
   pub version : w.run.version ≡ w.script.version
-  -- a history for each timer, one for the object of the same number, and the answers of each lane
+  -- a history for each base, one for each timer and one for the object of the same number, and the answers of each lane
+  pub bases : length w.run.bases ≡ w.script.bases
   pub timers : length w.run.timers ≡ length w.script.timers
   pub objects : length w.run.objects ≡ length w.script.timers
   pub lanes : length w.run.answers ≡ w.script.lanes
   -- no line bears another label than that of a call
   pub clock_calls : AllByRecursion (IsLabel w.script) (clock_labels w.run)
-  pub timer_calls : AllByRecursion (IsLabel w.script) (labels w)
+  pub move_calls : AllByRecursion (IsLabel w.script) (labels w)
   pub looks : (t : ℕ) → AllByRecursion (λ line. AreUnder w.script (map (λ look. look.label) line.looks)) (lines_of_timer w.run t)
   pub object_calls : (i : ℕ) → AllByRecursion (IsLabel w.script) (object_labels w.run i)
   pub skips : (i : ℕ) → AllByRecursion (λ line. AreSkipsUnder w.script (map (λ skip. skip.label) line.skips)) (lines_of_object w.run i)
-  -- the clock's lines are writes that it took, all timers' entries are one history, and each object's one that such an object gives
+  -- the clock's lines are writes that it took, all timers' and bases' entries are one history, and each object's one that such an object gives
   pub writes : AreWrites (at_stamp 0) w.run.clock
   pub history : IsOneHistory w
   pub object_histories : (i : ℕ) → IsLegalObject w.script w.run i (kind_of w.script i)
@@ -96,6 +100,6 @@ pub record FitsIn (w : Witness) : Type 0 where
   -- each call of each lane has its answer, and the answer is right
   pub calls : (lane : ℕ) → FitsLane w lane 0 unseen (calls_of w.script lane) (answers_of w.run lane)
 
--- the record fits the script: there is an order of all timers' entries, with what each call did and the spans of objects' entries, in which it does
+-- the record fits the script: there is an order of all timers' and bases' entries, with what each call did and the spans of objects' entries, in which it does
 abbrev pub Fits : Script → RunRecord → Type 0
 Fits s r = (w : Witness) × (w.script ≡ s) × (w.run ≡ r) × FitsIn w

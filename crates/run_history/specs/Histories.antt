@@ -1,4 +1,4 @@
--- The histories that a record tells: the clock's readings, and each timer's entries with the state after each number of them.
+-- The histories that a record tells: the clock's readings, each base's entries, and each timer's entries with the state after each number of them.
 use Rattle.std.specs.Prelude.{ℕ, ◌≡◌, List, [], ◌∷◌, map, take, get_or}
 use Rattle.ktime.specs.Readings.{ClockReading}
 use Rattle.clock_model.specs.Clocks.{at_stamp, after_write, clock_after, IsAccepted}
@@ -10,6 +10,7 @@ use Rattle.script_text.specs.declared.script.Script.{Script}
 use Rattle.record_text.specs.declared.record.Answer.{Answer}
 use Rattle.record_text.specs.declared.record.Label.{Label}
 use Rattle.record_text.specs.declared.record.ClockLine.{ClockLine}
+use Rattle.record_text.specs.declared.record.BaseLine.{BaseLine}
 use Rattle.record_text.specs.declared.record.Entry.{Entry}
 use Rattle.record_text.specs.declared.record.TimerLine.{TimerLine}
 use Rattle.record_text.specs.declared.record.RunRecord.{RunRecord}
@@ -34,6 +35,10 @@ reading_at lines stamp = clock_after (at_stamp 0) (map (λ line. line.write) (ta
 -- the labels along the clock's writes
 abbrev pub clock_labels : RunRecord → List Label
 clock_labels r = map (λ line. line.label) r.clock
+
+-- a base's lines; none for a base that isn't there
+abbrev pub lines_of_base : RunRecord → ℕ → List BaseLine
+lines_of_base r base = get_or r.bases base []
 
 -- a timer's lines; none for a timer that isn't there
 abbrev pub lines_of_timer : RunRecord → ℕ → List TimerLine

@@ -23,7 +23,7 @@ use Rattle.timer_fd.specs.Steps.{count_length}
 use Rattle.script_text.specs.declared.script.Kind.{Kind}
 use Rattle.script_text.specs.declared.script.Kind.TheVariants as kinds
 use Rattle.run_history.specs.Actions.{Action, Entered, Made}
-use Rattle.run_history.specs.Starts.{Arming, arming_actions, IsJustBefore}
+use Rattle.run_history.specs.Starts.{Arming, IsArming, arming_actions}
 use Rattle.script_text.specs.Declarations.{base_of, without_slack}
 
 -- a settime's arguments are taken by an object of this kind
@@ -42,79 +42,81 @@ start_mode (kinds.Fd base) flags = mode_by flags
 abbrev pub nanoseconds_of : TimeSpec → ℕ
 nanoseconds_of time = nanoseconds time.sec time.nsec
 
--- an object's call armed its timer as its entry tells it: by one start of this mode and time and without slack, or by none
-abbrev pub Arms : ℕ → Mode → ℕ → ℕ → ℕ → Armed → List Action → Type 0
-Arms timer mode ns reading base armings.None actions = actions ≡ []
-Arms timer mode ns reading base (armings.Generation generation) actions =
-    (a : Arming) × (actions ≡ arming_actions timer (without_slack mode ns base) reading a) × (generation ≡ a.number) × IsJustBefore a.out a.number
-Arms timer mode ns reading base armings.Unarmed actions = actions ≡ []
-
 -- the cancel of a settime, where there is one: its number, and the generation that it cancelled
 abbrev pub cancels : ℕ → Option (ℕ × ℕ) → List Action
 cancels timer None = []
 cancels timer (Some c) = Entered timer c.0 (record { event = events.Cancel; reply = replies.Cancel c.1 }) ∷ []
 
--- a settime that made an entry: a cancel, a start, and the entry of the object, with the call's own arguments
-pub record MakesSettime (kind : Kind) (timer flags : ℕ) (value interval : TimeSpec) (reading : ℕ) (reply : SettimeReply)
-    (actions : List Action) : Type 0 where
-  pub taken : AreValidFor kind flags value interval
-  pub cancel : Option (ℕ × ℕ)
-  pub arm : Armed
-  pub start : List Action
-  pub number : ℕ
-  pub arms : Arms timer (start_mode kind flags) (nanoseconds_of value) reading (base_of kind) arm start
-  pub done : actions ≡ cancels timer cancel ++ start
-      ++ Made timer number (made_entries.Settime flags (nanoseconds_of value) (nanoseconds_of interval) reading arm reply) ∷ []
+-- by what the call saw of bases off line, and with the limit of timers' histories
+module _ (Reached : ℕ → ℕ → Type 0) (limit : ℕ) where
+  -- an object's call armed its timer as its entry tells it: by one start of this mode and time and without slack, or by none
+  abbrev pub Arms : ℕ → Mode → ℕ → ℕ → ℕ → Armed → List Action → Type 0
+  Arms timer mode ns reading base armings.None actions = actions ≡ []
+  Arms timer mode ns reading base (armings.Generation generation) actions =
+      (a : Arming) × (actions ≡ arming_actions timer (without_slack mode ns base) reading a) × (generation ≡ a.number) × IsArming Reached limit base a
+  Arms timer mode ns reading base armings.Unarmed actions = actions ≡ []
 
--- a call that looks how a timer's periods have passed, and arms it for its next expiry where it has expired: a start that keeps
--- the timer's clock, and the entry of the object
-pub record MakesRearming (kind : Kind) (timer reading : ℕ) (entry : Armed → ObjectEntry) (actions : List Action) : Type 0 where
-  pub arm : Armed
-  pub ns : ℕ
-  pub start : List Action
-  pub number : ℕ
-  -- the start shows this very time as its expiry, since it isn't past the end of time
-  pub timely : ns ≤ last_time
-  pub arms : Arms timer modes.Keep ns reading (base_of kind) arm start
-  pub done : actions ≡ start ++ Made timer number (entry arm) ∷ []
+  -- a settime that made an entry: a cancel, a start, and the entry of the object, with the call's own arguments
+  pub record MakesSettime (kind : Kind) (timer flags : ℕ) (value interval : TimeSpec) (reading : ℕ) (reply : SettimeReply)
+      (actions : List Action) : Type 0 where
+    pub taken : AreValidFor kind flags value interval
+    pub cancel : Option (ℕ × ℕ)
+    pub arm : Armed
+    pub start : List Action
+    pub number : ℕ
+    pub arms : Arms timer (start_mode kind flags) (nanoseconds_of value) reading (base_of kind) arm start
+    pub done : actions ≡ cancels timer cancel ++ start
+        ++ Made timer number (made_entries.Settime flags (nanoseconds_of value) (nanoseconds_of interval) reading arm reply) ∷ []
 
--- a settime
-abbrev pub DoesSettime : Kind → ℕ → ℕ → TimeSpec → TimeSpec → ℕ → Answer → List Action → Type 0
-DoesSettime kind timer flags value interval reading answers.Invalid actions = (actions ≡ []) × (AreValidFor kind flags value interval → ⊥)
-DoesSettime kind timer flags value interval reading (answers.Spent stamp) actions = (actions ≡ []) × AreValidFor kind flags value interval
-DoesSettime kind timer flags value interval reading (answers.Old left old) actions =
-    MakesSettime kind timer flags value interval reading (settings.Old left old) actions
-DoesSettime kind timer flags value interval reading answers.Canceled actions =
-    MakesSettime kind timer flags value interval reading settings.Canceled actions
-DoesSettime kind timer flags value interval reading (answers.Unarmed stamp) actions =
-    MakesSettime kind timer flags value interval reading (settings.Unarmed stamp) actions
-DoesSettime kind timer flags value interval reading answer actions = ⊥
+  -- a call that looks how a timer's periods have passed, and arms it for its next expiry where it has expired: a start that keeps
+  -- the timer's clock, and the entry of the object
+  pub record MakesRearming (kind : Kind) (timer reading : ℕ) (entry : Armed → ObjectEntry) (actions : List Action) : Type 0 where
+    pub arm : Armed
+    pub ns : ℕ
+    pub start : List Action
+    pub number : ℕ
+    -- the start shows this very time as its expiry, since it isn't past the end of time
+    pub timely : ns ≤ last_time
+    pub arms : Arms timer modes.Keep ns reading (base_of kind) arm start
+    pub done : actions ≡ start ++ Made timer number (entry arm) ∷ []
 
--- a gettime: of a POSIX timer it makes no entry and is never refused
-abbrev pub DoesGettime : Kind → ℕ → ℕ → Answer → List Action → Type 0
-DoesGettime (kinds.Posix base) timer reading (answers.LeftAt left interval shown stamp) actions = (actions ≡ []) × (shown ≡ reading)
-DoesGettime (kinds.Fd base) timer reading (answers.Left left interval) actions =
-    MakesRearming (kinds.Fd base) timer reading (λ arm. made_entries.Gettime reading arm left interval) actions
-DoesGettime (kinds.Fd base) timer reading (answers.Spent stamp) actions = actions ≡ []
-DoesGettime kind timer reading answer actions = ⊥
+  -- a settime
+  abbrev pub DoesSettime : Kind → ℕ → ℕ → TimeSpec → TimeSpec → ℕ → Answer → List Action → Type 0
+  DoesSettime kind timer flags value interval reading answers.Invalid actions = (actions ≡ []) × (AreValidFor kind flags value interval → ⊥)
+  DoesSettime kind timer flags value interval reading (answers.Spent stamp) actions = (actions ≡ []) × AreValidFor kind flags value interval
+  DoesSettime kind timer flags value interval reading (answers.Old left old) actions =
+      MakesSettime kind timer flags value interval reading (settings.Old left old) actions
+  DoesSettime kind timer flags value interval reading answers.Canceled actions =
+      MakesSettime kind timer flags value interval reading settings.Canceled actions
+  DoesSettime kind timer flags value interval reading (answers.Unarmed stamp) actions =
+      MakesSettime kind timer flags value interval reading (settings.Unarmed stamp) actions
+  DoesSettime kind timer flags value interval reading answer actions = ⊥
 
--- an acceptance of a POSIX timer's signal
-abbrev pub DoesAccept : Kind → ℕ → ℕ → Answer → List Action → Type 0
-DoesAccept kind timer reading (answers.Accepted overrun) actions =
-    MakesRearming kind timer reading (λ arm. made_entries.Accept reading arm (acceptances.Accepted overrun)) actions
-DoesAccept kind timer reading answers.NoSignal actions =
-    MakesRearming kind timer reading (λ arm. made_entries.Accept reading arm acceptances.NoSignal) actions
-DoesAccept kind timer reading (answers.Spent stamp) actions = actions ≡ []
-DoesAccept kind timer reading answer actions = ⊥
+  -- a gettime: of a POSIX timer it makes no entry and is never refused
+  abbrev pub DoesGettime : Kind → ℕ → ℕ → Answer → List Action → Type 0
+  DoesGettime (kinds.Posix base) timer reading (answers.LeftAt left interval shown stamp) actions = (actions ≡ []) × (shown ≡ reading)
+  DoesGettime (kinds.Fd base) timer reading (answers.Left left interval) actions =
+      MakesRearming (kinds.Fd base) timer reading (λ arm. made_entries.Gettime reading arm left interval) actions
+  DoesGettime (kinds.Fd base) timer reading (answers.Spent stamp) actions = actions ≡ []
+  DoesGettime kind timer reading answer actions = ⊥
 
--- a read of a descriptor into a buffer of this length
-abbrev pub DoesRead : Kind → ℕ → ℕ → ℕ → Answer → List Action → Type 0
-DoesRead kind timer len reading answers.Invalid actions = (actions ≡ []) × (len < count_length)
-DoesRead kind timer len reading (answers.Spent stamp) actions = (actions ≡ []) × (count_length ≤ len)
-DoesRead kind timer len reading (answers.Count total) actions =
-    (count_length ≤ len) × MakesRearming kind timer reading (λ arm. made_entries.Read reading arm (reads.Count total)) actions
-DoesRead kind timer len reading answers.Again actions =
-    (count_length ≤ len) × MakesRearming kind timer reading (λ arm. made_entries.Read reading arm reads.Again) actions
-DoesRead kind timer len reading answers.Canceled actions =
-    (count_length ≤ len) × MakesRearming kind timer reading (λ arm. made_entries.Read reading arm reads.Canceled) actions
-DoesRead kind timer len reading answer actions = ⊥
+  -- an acceptance of a POSIX timer's signal
+  abbrev pub DoesAccept : Kind → ℕ → ℕ → Answer → List Action → Type 0
+  DoesAccept kind timer reading (answers.Accepted overrun) actions =
+      MakesRearming kind timer reading (λ arm. made_entries.Accept reading arm (acceptances.Accepted overrun)) actions
+  DoesAccept kind timer reading answers.NoSignal actions =
+      MakesRearming kind timer reading (λ arm. made_entries.Accept reading arm acceptances.NoSignal) actions
+  DoesAccept kind timer reading (answers.Spent stamp) actions = actions ≡ []
+  DoesAccept kind timer reading answer actions = ⊥
+
+  -- a read of a descriptor into a buffer of this length
+  abbrev pub DoesRead : Kind → ℕ → ℕ → ℕ → Answer → List Action → Type 0
+  DoesRead kind timer len reading answers.Invalid actions = (actions ≡ []) × (len < count_length)
+  DoesRead kind timer len reading (answers.Spent stamp) actions = (actions ≡ []) × (count_length ≤ len)
+  DoesRead kind timer len reading (answers.Count total) actions =
+      (count_length ≤ len) × MakesRearming kind timer reading (λ arm. made_entries.Read reading arm (reads.Count total)) actions
+  DoesRead kind timer len reading answers.Again actions =
+      (count_length ≤ len) × MakesRearming kind timer reading (λ arm. made_entries.Read reading arm reads.Again) actions
+  DoesRead kind timer len reading answers.Canceled actions =
+      (count_length ≤ len) × MakesRearming kind timer reading (λ arm. made_entries.Read reading arm reads.Canceled) actions
+  DoesRead kind timer len reading answer actions = ⊥

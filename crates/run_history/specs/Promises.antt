@@ -3,7 +3,7 @@ use Rattle.std.specs.List.{AllByRecursion}
 use Rattle.std.specs.List.Sorted.{IsPermutation}
 use Rattle.std.specs.Prelude.{ℕ, ◌≡◌, ◌≤◌, ◌<◌, ◌+◌, List, [], ◌∷◌, ◌++◌, map}
 use Rattle.clock_model.specs.declared.write.Write.{Write}
-use Rattle.seq_timer.specs.declared.system.TimerEntry.{TimerEntry}
+use Rattle.seq_timer.specs.declared.system.SystemEntry.{SystemEntry}
 use Rattle.record_text.specs.declared.record.Answer.{Answer}
 use Rattle.record_text.specs.declared.record.Label.{Label}
 use Rattle.run_history.specs.Actions.{looked, made, own, own_looks, own_skips, skipped, wrote}
@@ -33,8 +33,8 @@ pub record IsRightLog (log : CallLog) (call : Call) (answer : Answer) (before af
   pub move_steps : (before.moves ≤ log.moves.0) × (log.moves.1 ≤ after.moves)
   pub object_steps : (i : ℕ) → NeverFall (before.objects i) (object_steps_on i call answer log.trace.actions) (after.objects i)
 
--- the run has of a call what its lane kept of it; the record has under its label what the call did, but for timers' entries; the refused expiries under
--- one entry have no order among themselves
+-- the run has of a call what its lane kept of it; the record has under its label what the call did, but for timers' and bases' entries; the refused
+-- expiries under one entry have no order among themselves
 pub record HasLog (e : Ending) (c : Label) (log : CallLog) : Type 0 where
   pub kept : e.logs c ≡ log
   pub clock : own (λ line. line.label) (λ line. line.write) c 1 e.run.clock ≡ wrote log.trace.actions
@@ -48,8 +48,8 @@ HasLogs e lane index [] = Unit
 HasLogs e lane index (log ∷ logs) = HasLog e (label_at lane index) log × HasLogs e lane (index + 1) logs
 
 -- the run goes on from what a pass of the timers' table has seen
-abbrev pub GoesOn : List TimerEntry → Ending → Type 0
-GoesOn seen e = (later : List TimerEntry) × (e.order ≡ seen ++ later)
+abbrev pub GoesOn : List SystemEntry → Ending → Type 0
+GoesOn seen e = (later : List SystemEntry) × (e.order ≡ seen ++ later)
 
 -- the run goes on from the writes that a pass of the clock's table has seen
 abbrev pub GoesOnClock : List Write → Ending → Type 0

@@ -3,7 +3,7 @@ use Rattle.std.specs.List.{AllByRecursion}
 use Rattle.std.specs.Prelude.{ℕ, ◌≡◌, ◌≤◌, ◌<◌, List, [], length, map}
 use Rattle.clock_model.specs.Clocks.{at_stamp}
 use Rattle.seq_timer.specs.Systems.{IsSystemHistory}
-use Rattle.seq_timer.specs.declared.system.TimerEntry.{TimerEntry}
+use Rattle.seq_timer.specs.declared.system.SystemEntry.{SystemEntry}
 use Rattle.record_text.specs.declared.record.Label.{Label}
 use Rattle.record_text.specs.declared.record.RunRecord.{RunRecord}
 use Rattle.run_history.specs.Histories.{answers_of, AreWrites, clock_labels, lines_of_timer}
@@ -16,7 +16,7 @@ use Rattle.run_history.specs.Fits.{AreBehind, AreSkipsUnder, FitsLane, unseen}
 use Rattle.run_history.specs.Receipts.{AreAll, AreFiled, Filed, PlacedEntry, ShowsEntry, weave}
 use Rattle.run_history.specs.Rounds.{IsLaid, IsLedger, Spans}
 
--- What a lane keeps of one call: its receipts with their places; what it did; and how many entries of all timers, writes of the clock and entries of
+-- What a lane keeps of one call: its receipts with their places; what it did; and how many entries of all timers and bases, writes of the clock and entries of
 -- each object its passes had seen when it began and when it ended.
 pub record CallLog : Type 0 where
   pub notes : List PlacedEntry
@@ -25,17 +25,17 @@ pub record CallLog : Type 0 where
   pub clock : ℕ × ℕ
   pub objects : ℕ → ℕ × ℕ
 
--- of each list how long it was when each round began: of all timers' entries, of the clock's writes, of each object's entries
+-- of each list how long it was when each round began: of all timers' and bases' entries, of the clock's writes, of each object's entries
 pub record RoundStarts : Type 0 where
   pub moves : ℕ → ℕ
   pub clock : ℕ → ℕ
   pub objects : ℕ → ℕ → ℕ
 
--- The record; the order of all timers' entries, which is what the last pass of the timers' table has seen; what the lanes kept of each call; the span of
--- each entry of an object; and where rounds began.
+-- The record; the order of all timers' and bases' entries, which is what the last pass of the timers' table has seen; what the lanes kept of each call;
+-- the span of each entry of an object; and where rounds began.
 pub record Ending : Type 0 where
   pub run : RunRecord
-  pub order : List TimerEntry
+  pub order : List SystemEntry
   pub logs : Label → CallLog
   pub spans : ℕ → ℕ → ℕ × ℕ
   pub starts : RoundStarts
@@ -44,7 +44,7 @@ pub record Ending : Type 0 where
 abbrev pub notes_in : Ending → Label → List PlacedEntry
 notes_in e c = (e.logs c).notes
 
--- the spans of the calls on the list of all timers' entries, on that of the clock's writes, and on an object's
+-- the spans of the calls on the list of all timers' and bases' entries, on that of the clock's writes, and on an object's
 abbrev pub moves_spans : Ending → Spans
 moves_spans e = record { first = λ c. (e.logs c).moves.0; last = λ c. (e.logs c).moves.1; starts = e.starts.moves }
 
@@ -91,9 +91,10 @@ pub record IsEnding (s : Script) (e : Ending) : Type 0 where
   pub objects_laid : (i : ℕ) → IsLaid s (object_labels e.run i) (object_spans e i)
   pub object_histories : (i : ℕ) → IsLegalObject s e.run i (kind_of s i)
   pub spans : (i : ℕ) → AreBehind (e.spans i) 1 0 (lines_of_object e.run i)
-  -- looks and skips under their lines, and one list for each timer and lane
+  -- looks and skips under their lines, and one list for each base, timer and lane
   pub looks : (t : ℕ) → AllByRecursion (λ line. AreUnder s (map (λ look. look.label) line.looks)) (lines_of_timer e.run t)
   pub skips : (i : ℕ) → AllByRecursion (λ line. AreSkipsUnder s (map (λ skip. skip.label) line.skips)) (lines_of_object e.run i)
+  pub bases : length e.run.bases ≡ s.bases
   pub timers : length e.run.timers ≡ length s.timers
   pub objects : length e.run.objects ≡ length s.timers
   pub lanes : length e.run.answers ≡ s.lanes

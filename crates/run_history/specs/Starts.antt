@@ -1,5 +1,5 @@
--- What a start that is made enters: an Out where the base changes, and the Start.
-use Rattle.std.specs.Prelude.{ℕ, ◌≡◌, ◌+◌, Bool, Option, Some, None, List, [], ◌∷◌, ◌++◌}
+-- What a start that is made enters: an Out for each base that the timer is sent to, and the Start; and to which bases it may be sent.
+use Rattle.std.specs.Prelude.{ℕ, ◌≡◌, ◌+◌, ◌≤◌, ◌<◌, Bool, List, [], ◌∷◌, ◌++◌, map}
 use Rattle.seq_timer.specs.declared.event.AskedBy.{AskedBy}
 use Rattle.seq_timer.specs.declared.event.EventBy.TheVariants as events
 use Rattle.seq_timer.specs.declared.event.Placement.{Placement}
@@ -8,35 +8,73 @@ use Rattle.script_text.specs.declared.script.StartRequest.{StartRequest}
 use Rattle.script_text.specs.Declarations.{asked_slack}
 use Rattle.run_history.specs.Actions.{Action, Entered}
 
--- a start that is made: the number of its Out and whether the timer was armed before it, where the base changes; then the Start's
--- number, how the timer is kept after it, and whether it was armed before it
-pub record Arming : Type 0 where
-  pub out : Option (ℕ × Bool)
+-- an Out of a start: the base to which the timer was sent, the entry's number, and whether the timer was armed before it
+pub record SentTo : Type 0 where
+  pub base : ℕ
   pub number : ℕ
+  pub was_armed : Bool
+
+-- a start that is made: its Outs in turn; then the Start's number, the base that it asks for, how the timer is kept after it, and whether it was armed
+-- before it
+pub record Arming : Type 0 where
+  pub outs : List SentTo
+  pub number : ℕ
+  pub asked : ℕ
   pub placement : Placement
   pub was_armed : Bool
 
 -- whether the timer was armed before the first entry of a start
-abbrev pub was_armed_before : Option (ℕ × Bool) → Bool → Bool
-was_armed_before None was_armed = was_armed
-was_armed_before (Some out) was_armed = out.1
+abbrev pub was_armed_before : List SentTo → Bool → Bool
+was_armed_before [] was_armed = was_armed
+was_armed_before (out ∷ outs) was_armed = out.was_armed
 
--- the Out of a start, where there is one
-abbrev pub moves : ℕ → ℕ → Option (ℕ × Bool) → List Action
-moves timer asked None = []
-moves timer asked (Some out) = Entered timer out.0 (record { event = events.Out asked; reply = replies.Out out.1 }) ∷ []
+-- the number of the first entry of a start
+abbrev pub first_number : List SentTo → ℕ → ℕ
+first_number [] number = number
+first_number (out ∷ outs) number = out.number
 
--- what a request asks for, by the stamp of a reading
-abbrev pub requested : StartRequest → ℕ → AskedBy ℕ
-requested request reading =
-    record { mode = request.mode; ns = request.ns; slack = asked_slack request; reading = reading; base = request.base }
+-- the Outs of a start
+abbrev pub moves : ℕ → List SentTo → List Action
+moves timer [] = []
+moves timer (out ∷ outs) =
+    Entered timer out.number (record { event = events.Out out.base; reply = replies.Out out.was_armed }) ∷ moves timer outs
+
+-- what a request asks for on a base, by the stamp of a reading
+abbrev pub requested : StartRequest → ℕ → ℕ → AskedBy ℕ
+requested request base reading =
+    record { mode = request.mode; ns = request.ns; slack = asked_slack request; reading = reading; base = base }
 
 -- the entries of a start
 abbrev pub arming_actions : ℕ → StartRequest → ℕ → Arming → List Action
-arming_actions timer request reading a = moves timer request.base a.out
-    ++ Entered timer a.number (record { event = events.Start (requested request reading); reply = replies.Start a.placement a.was_armed }) ∷ []
+arming_actions timer request reading a = moves timer a.outs
+    ++ Entered timer a.number (record { event = events.Start (requested request a.asked reading); reply = replies.Start a.placement a.was_armed }) ∷ []
 
--- an Out stands just before its Start: nobody else touches a timer on the move
-abbrev pub IsJustBefore : Option (ℕ × Bool) → ℕ → Type 0
-IsJustBefore None number = Unit
-IsJustBefore (Some out) number = number ≡ out.0 + 1
+-- the Outs stand just before their Start, each behind the one before it: nobody else touches a timer on the move
+abbrev pub IsJustBefore : List SentTo → ℕ → Type 0
+IsJustBefore [] number = Unit
+IsJustBefore (out ∷ outs) number = (first_number outs number ≡ out.number + 1) × IsJustBefore outs number
+
+-- each base is of a lower number than the one before
+abbrev pub Falls : ℕ → List ℕ → Type 0
+Falls base [] = Unit
+Falls base (b ∷ bs) = (b < base) × Falls b bs
+
+-- steps from a base to its heir, as they are said of one call
+module _ (Reached : ℕ → ℕ → Type 0) where
+  -- from the one base the other is reached by these heirs in turn
+  abbrev pub IsWay : ℕ → List ℕ → ℕ → Type 0
+  IsWay base [] to = base ≡ to
+  IsWay base (heir ∷ heirs) to = Reached base heir × IsWay heir heirs to
+
+  -- the bases to which a start sent its timer, and the one that it asked for last: each is the one that was asked for first, or is reached from it and
+  -- from the one before
+  abbrev pub IsSentBy : ℕ → List ℕ → ℕ → Type 0
+  IsSentBy base [] last = (path : List ℕ) × IsWay base path last
+  IsSentBy base (b ∷ bs) last = ((path : List ℕ) × IsWay base path b) × IsWay b bs last × Falls b bs
+
+  -- A start for a base is made so: by entries that follow one another, of a timer that has fewer entries than the limit, on that base or one that is
+  -- reached from it. So no start moves an armed timer whose history is full.
+  pub record IsArming (limit base : ℕ) (a : Arming) : Type 0 where
+    pub below : first_number a.outs a.number ≤ limit
+    pub next : IsJustBefore a.outs a.number
+    pub way : IsSentBy base (map (λ out. out.base) a.outs) a.asked

@@ -1,5 +1,5 @@
--- What a call told held at one moment of the order of all timers' entries, a moment at which it had done just so much.
-use Rattle.std.specs.Prelude.{ℕ, ◌≡◌, ◌≤◌, ◌+◌, None, Bool, true, false, Some, List, [], ◌∷◌, ◌++◌, length}
+-- What a call told held at one moment of the order of all timers' and bases' entries, a moment at which it had done just so much.
+use Rattle.std.specs.Prelude.{ℕ, ◌≡◌, ◌≤◌, ◌+◌, None, Bool, true, false, Some, IsSome, List, [], ◌∷◌, ◌++◌, length}
 use Rattle.clock_model.specs.Clocks.{after_write, greatest}
 use Rattle.seq_timer.specs.declared.observation.Observation.{Observation}
 use Rattle.seq_timer.specs.declared.observation.Observation.TheVariants as observations
@@ -17,7 +17,7 @@ use Rattle.record_text.specs.declared.record.ObjectEntry.{ObjectEntry}
 use Rattle.record_text.specs.declared.record.ObjectEntry.TheVariants as object_entries
 use Rattle.posix_timer.specs.States.{setting_of}
 use Rattle.timer_fd.specs.States.{is_readable}
-use Rattle.script_text.specs.Declarations.{base_of, kind_of}
+use Rattle.script_text.specs.Declarations.{base_of, kind_of, terms_of}
 use Rattle.run_history.specs.Order.{IsPoint}
 use Rattle.run_history.specs.Histories.{reading_at}
 use Rattle.run_history.specs.Objects.{object_armed_after, fd_after, object_labels, posix_after}
@@ -27,12 +27,13 @@ use Rattle.ktime.specs.declared.clock_id.ClockId.{ClockId}
 use Rattle.seq_timer.specs.declared.context.Context.{Context}
 use Rattle.seq_timer.specs.Halves.{running_on}
 use Rattle.seq_timer.specs.Systems.{next_on}
-use Rattle.seq_timer.specs.Tables.{IsStopped, in_context, runs_on}
+use Rattle.seq_timer.specs.Standings.{last_standing}
+use Rattle.seq_timer.specs.Tables.{IsStopped, IsUnused, in_context, is_armed_on, runs_on}
 use Rattle.run_history.specs.Traces.{all_entered}
-use Rattle.run_history.specs.Witnesses.{Witness, labels, system_along, timer_along}
+use Rattle.run_history.specs.Witnesses.{Witness, labels, standing_along, system_along, timer_along}
 use Rattle.run_history.specs.Witnesses.{Fired}
 
--- a number of entries of all timers is one at which the call has done so much, and that it may have seen
+-- a number of entries of all timers and bases is one at which the call has done so much, and that it may have seen
 abbrev pub IsMoment : Witness → Label → List Action → ℕ → Type 0
 IsMoment w c before n = IsPoint w.script c (length (all_entered before)) n (labels w)
 
@@ -40,6 +41,14 @@ IsMoment w c before n = IsPoint w.script c (length (all_entered before)) n (labe
 pub record Saw (w : Witness) (timer number : ℕ) (observation : Observation) (n : ℕ) : Type 0 where
   pub stamp : (timer_along w n timer).stamp ≡ number
   pub holds : Holds (timer_along w n timer) observation
+
+-- at a moment between two of them the base was off line with this heir
+abbrev pub WasOffLine : Witness → ℕ → ℕ → ℕ → ℕ → Type 0
+WasOffLine w first last base heir = (n : ℕ) × (first ≤ n) × (n ≤ last) × ((standing_along w n base).heir ≡ Some heir)
+
+-- at this moment no function ran on the base
+abbrev pub RunsNone : Witness → ℕ → ℕ → Type 0
+RunsNone w base n = (t : ℕ) → runs_on base (timer_along w n t) ≡ false
 
 -- a start was refused: the timer's history was full, and the timer was not on the move between bases
 abbrev pub SawRefusal : Witness → ℕ → ℕ → ℕ → Type 0
@@ -132,6 +141,16 @@ pub record IsDone (w : Witness) (context : Context) (reading base n : ℕ) : Typ
   pub first : next_on context ((system_along w n).bases base) (reading_at w.run.clock reading) ≡ None
   pub stopped : (clock : ClockId) → IsStopped (in_context context (timer_along w n)) base (reading_at w.run.clock reading) clock
 
+-- a timer is armed on a base, and has so many entries that it isn't moved off it any more
+pub record SawFullOn (w : Witness) (base timer number n : ℕ) : Type 0 where
+  pub armed : is_armed_on base (timer_along w n timer) ≡ true
+  pub stamp : (timer_along w n timer).stamp ≡ number
+  pub full : (terms_of w.script).limit + (terms_of w.script).reach ≤ number
+
+-- a base has so many entries
+abbrev pub StandsAt : Witness → ℕ → ℕ → ℕ → Type 0
+StandsAt w base stamp n = (standing_along w n base).stamp ≡ stamp
+
 -- An answer that tells of a state tells of one that the call may have seen: of timers and bases at its last moment, and, for a settime that cancelled
 -- nothing, of an idle timer at its first; of an object after so many of its entries. A write is refused only while the clock may take more of them,
 -- and where one of its times would be past the latest, and the answer is the greatest of these.
@@ -163,4 +182,19 @@ AnswerHolds w first last c reading actions (calls.Read timer len) (answers.Spent
 AnswerHolds w first last c reading actions (calls.Readable timer) (answers.Readable ready shown stamp) =
     IsObjectPoint w c actions timer stamp
     × (is_readable (fd_after w.script w.run timer (base_of (kind_of w.script timer)) stamp) (reading_at w.run.clock reading) ≡ ready)
+AnswerHolds w first last c reading actions (calls.Offline base heir budget) (answers.Offline moved stamp) = IsUnused (timer_along w last) base
+AnswerHolds w first last c reading actions (calls.Offline base heir budget) (answers.OfflineBusy moved timer generation) =
+    running_on base (timer_along w last timer) ≡ Some generation
+AnswerHolds w first last c reading actions (calls.Offline base heir budget) (answers.OfflineMore moved) =
+    RunsNone w base last × ((t : ℕ) × (is_armed_on base (timer_along w last t) ≡ true))
+AnswerHolds w first last c reading actions (calls.Offline base heir budget) (answers.OfflineSpent moved timer stamp) =
+    RunsNone w base last × SawFullOn w base timer stamp last
+AnswerHolds w first last c reading actions (calls.Offline base heir budget) (answers.Already stamp) =
+    StandsAt w base stamp last × IsSome (standing_along w last base).heir
+AnswerHolds w first last c reading actions (calls.Offline base heir budget) (answers.HeirOffline stamp) =
+    StandsAt w heir stamp last × IsSome (standing_along w last heir).heir
+AnswerHolds w first last c reading actions (calls.Offline base heir budget) (answers.BaseSpent stamp) =
+    StandsAt w base stamp last × ((standing_along w last base).heir ≡ None) × (last_standing ≤ stamp)
+AnswerHolds w first last c reading actions (calls.Online base) (answers.Already stamp) =
+    StandsAt w base stamp last × ((standing_along w last base).heir ≡ None)
 AnswerHolds w first last c reading actions call answer = Unit

@@ -1,17 +1,23 @@
--- One order of all timers' entries of a record, and all timers after each number of them.
-use Rattle.std.specs.Prelude.{ℕ, ◌≡◌, ◌+◌, nat_eq, Bool, List, [], ◌∷◌, map, take}
+-- One order of all entries of a record's timers and bases, and all timers and bases after each number of them.
+use Rattle.std.specs.Prelude.{ℕ, ◌≡◌, ◌+◌, nat_eq, Bool, false, List, [], ◌∷◌, map, take}
+use Rattle.record_text.specs.declared.record.BaseLine.{BaseLine}
 use Rattle.record_text.specs.declared.record.ClockLine.{ClockLine}
+use Rattle.record_text.specs.declared.record.Entry.{Entry}
 use Rattle.record_text.specs.declared.record.Label.{Label}
 use Rattle.record_text.specs.declared.record.RunRecord.{RunRecord}
 use Rattle.record_text.specs.declared.record.TimerLine.{TimerLine}
 use Rattle.run_history.specs.Actions.{Action, also}
-use Rattle.run_history.specs.Histories.{entry_shown, lines_of_timer}
+use Rattle.run_history.specs.Histories.{entry_shown, lines_of_base, lines_of_timer}
 use Rattle.script_text.specs.Declarations.{declareds_of, terms_of}
 use Rattle.script_text.specs.declared.script.Script.{Script}
 use Rattle.seq_timer.specs.Steps.{Timer}
 use Rattle.seq_timer.specs.Systems.{IsSystemHistory, System, system_of}
+use Rattle.seq_timer.specs.declared.event.Placement.{Placement}
 use Rattle.seq_timer.specs.declared.event.Restarted.{Restarted}
-use Rattle.seq_timer.specs.declared.system.TimerEntry.{TimerEntry}
+use Rattle.seq_timer.specs.declared.standing.BaseEvent.{BaseEvent}
+use Rattle.seq_timer.specs.declared.standing.Standing.{Standing}
+use Rattle.seq_timer.specs.declared.system.SystemEntry.{SystemEntry}
+use Rattle.seq_timer.specs.declared.system.SystemEntry.TheVariants as entries
 
 -- one callback of an expiry run: the timer, and the number and the generation of its claim; what the callback did; the number of the
 -- finish, whether a restart was asked for, and what came of it
@@ -24,22 +30,75 @@ pub record Fired : Type 0 where
   pub restart : Bool
   pub restarted : Restarted
 
--- what one call did: the stamp of its one reading; the callbacks that it ran; its actions in their order; and two numbers of the order, at the
--- first of which it had made no entry yet, and at the last of which it had made them all
+-- a timer that a call moved off a base: how many entries it had before; what its start on the other base asked for; and how it is kept after it
+pub record Evacuation : Type 0 where
+  pub timer : ℕ
+  pub before : ℕ
+  pub ns : ℕ
+  pub slack : ℕ
+  pub placement : Placement
+
+-- what one call did: the stamp of its one reading; the callbacks that it ran; the timers that it moved off a base; its actions in their order; and two
+-- numbers of the order, at the first of which it had made no entry yet, and at the last of which it had made them all
 pub record Trace : Type 0 where
   pub at : ℕ
   pub fired : List Fired
+  pub moved : List Evacuation
   pub actions : List Action
   pub first : ℕ
   pub last : ℕ
 
--- a line of a timer, and how many of the timer's lines stand before it
-pub record Move : Type 0 where
-  pub timer : ℕ
-  pub before : ℕ
-  pub line : TimerLine
+-- what a line shows: an entry of a timer, or of a base
+pub data Shown : Type 0 where
+  OfTimer : ℕ → Entry → Shown
+  OfBase : ℕ → BaseEvent → Shown
 
--- a script, a record of it, and what the record doesn't print: an order of all timers' entries; what each call did; and for each entry of an
+-- whose list of a record a line stands in: a timer's, or a base's
+pub data Owner : Type 0 where
+  TimersList : ℕ → Owner
+  BasesList : ℕ → Owner
+
+-- whether two lists are the same
+abbrev pub is_owner : Owner → Owner → Bool
+is_owner (TimersList t) (TimersList u) = nat_eq t u
+is_owner (TimersList t) (BasesList b) = false
+is_owner (BasesList b) (TimersList t) = false
+is_owner (BasesList b) (BasesList c) = nat_eq b c
+
+-- the list in which a line stands that shows this
+abbrev pub owner_of : Shown → Owner
+owner_of (OfTimer t entry) = TimersList t
+owner_of (OfBase b event) = BasesList b
+
+-- the list in which an entry of all timers' and bases' history is shown
+abbrev pub owner_of_entry : SystemEntry → Owner
+owner_of_entry (entries.Timer e) = TimersList e.timer
+owner_of_entry (entries.Base c) = BasesList c.base
+
+-- a line of a timer or of a base, but for the looks at a timer
+pub record ShownLine : Type 0 where
+  pub label : Label
+  pub shown : Shown
+
+-- the same of a timer's line, and of a base's
+abbrev pub line_of_timer : ℕ → TimerLine → ShownLine
+line_of_timer t line = record { label = line.label; shown = OfTimer t line.entry }
+
+abbrev pub line_of_base : ℕ → BaseLine → ShownLine
+line_of_base b line = record { label = line.label; shown = OfBase b line.event }
+
+-- the lines of a list; none for one that isn't there
+abbrev pub lines_at : RunRecord → Owner → List ShownLine
+lines_at r (TimersList t) = map (line_of_timer t) (lines_of_timer r t)
+lines_at r (BasesList b) = map (line_of_base b) (lines_of_base r b)
+
+-- a line along the order, and how many lines of its list stand before it
+pub record Move : Type 0 where
+  pub before : ℕ
+  pub label : Label
+  pub shown : Shown
+
+-- a script, a record of it, and what the record doesn't print: an order of all timers' and bases' entries; what each call did; and for each entry of an
 -- object, by the object and the entry's number, how many entries the object's timer had at the start and at the end of the entry's span
 pub record Witness : Type 0 where
   pub script : Script
@@ -48,39 +107,49 @@ pub record Witness : Type 0 where
   pub traces : Label → Trace
   pub spans : ℕ → ℕ → ℕ × ℕ
 
--- the moves of one timer
-abbrev pub moves_on : ℕ → List Move → List Move
-moves_on t [] = []
-moves_on t (m ∷ ms) = also (nat_eq m.timer t) m (moves_on t ms)
+-- the moves of one list
+abbrev pub moves_on : Owner → List Move → List Move
+moves_on o [] = []
+moves_on o (m ∷ ms) = also (is_owner (owner_of m.shown) o) m (moves_on o ms)
 
--- a timer's lines as moves, where so many stand before them
-abbrev pub moves_from : ℕ → ℕ → List TimerLine → List Move
-moves_from t before [] = []
-moves_from t before (line ∷ lines) = record { timer = t; before = before; line = line } ∷ moves_from t (before + 1) lines
+-- the lines of a list as moves, where so many stand before them
+abbrev pub moves_from : ℕ → List ShownLine → List Move
+moves_from before [] = []
+moves_from before (line ∷ lines) = record { before = before; label = line.label; shown = line.shown } ∷ moves_from (before + 1) lines
+
+-- the entry that a line shows
+abbrev pub entry_of_shown : List ClockLine → Shown → SystemEntry
+entry_of_shown clock (OfTimer t entry) =
+    entries.Timer (record { timer = t; event = (entry_shown clock entry).event; reply = (entry_shown clock entry).reply })
+entry_of_shown clock (OfBase b event) = entries.Base (record { base = b; event = event })
 
 -- the entry that a move shows
-abbrev pub entry_of_move : List ClockLine → Move → TimerEntry
-entry_of_move clock m =
-    record { timer = m.timer; event = (entry_shown clock m.line.entry).event; reply = (entry_shown clock m.line.entry).reply }
+abbrev pub entry_of_move : List ClockLine → Move → SystemEntry
+entry_of_move clock m = entry_of_shown clock m.shown
 
 -- the labels along the order
 abbrev pub labels : Witness → List Label
-labels w = map (λ m. m.line.label) w.moves
+labels w = map (λ m. m.label) w.moves
 
 -- the entries in the order
-abbrev pub entries_in : Witness → List TimerEntry
+abbrev pub entries_in : Witness → List SystemEntry
 entries_in w = map (entry_of_move w.run.clock) w.moves
 
--- all timers and bases after so many entries of all timers
+-- all timers and bases after so many of their entries
 abbrev pub system_along : Witness → ℕ → System
 system_along w n = system_of (declareds_of w.script) (terms_of w.script) (take n (entries_in w))
 
--- a timer after so many entries of all timers
+-- a timer after so many entries of all timers and bases
 abbrev pub timer_along : Witness → ℕ → ℕ → Timer
 timer_along w n t = (system_along w n).timers t
 
--- the order is one of all entries, and all together are one history that a library on one thread gives: each is a step of its timer and of the base
--- that it is on, is sent only to a base that is there, and each claim takes the first timer of its context in the base's queues
+-- whether a base is on line, after so many entries of all timers and bases
+abbrev pub standing_along : Witness → ℕ → ℕ → Standing
+standing_along w n b = ((system_along w n).bases b).standing
+
+-- The order is one of all entries, and all together are one history that a library on one thread gives: each is a step of its timer and of the base
+-- that it is on, is sent only to a base that is there, and is started only on one that is on line; each claim takes the first timer of its context in the
+-- base's queues; and a base is taken off line only while it has no timer.
 pub record IsOneHistory (w : Witness) : Type 0 where
-  pub all : (t : ℕ) → moves_on t w.moves ≡ moves_from t 0 (lines_of_timer w.run t)
+  pub all : (o : Owner) → moves_on o w.moves ≡ moves_from 0 (lines_at w.run o)
   pub history : IsSystemHistory w.script.bases (declareds_of w.script) (terms_of w.script) (entries_in w)

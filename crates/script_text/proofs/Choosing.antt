@@ -11,13 +11,15 @@ use Rattle.std.proofs.lemmas.Str.Parse.{digit_from_value}
 use Rattle.ktime.specs.Times.{last_time}
 use Rattle.record_text.specs.declared.version.Version.{Version}
 use Rattle.record_text.specs.declared.version.Version.TheVariants as versions
+use Rattle.script_text.specs.declared.form.Field.{Field}
+use Rattle.script_text.specs.declared.form.Field.TheVariants as fields
 use Rattle.script_text.specs.declared.form.Form.{Form}
 use Rattle.script_text.specs.declared.form.Form.TheVariants as forms
 use Rattle.script_text.specs.declared.refusal.Cause.{Cause}
 use Rattle.script_text.specs.declared.form.Value.{Value}
 use Rattle.script_text.specs.declared.form.Value.TheVariants as values
-use Rattle.script_text.specs.Forms.{Spot, Key, At, call_forms, called, has_form, plain_forms, raw, raw_forms, comes_by, row, soft, soft_forms}
-use Rattle.script_text.specs.Grammar.{Fills, fill_form}
+use Rattle.script_text.specs.Forms.{Spot, Key, At, Numeral, call_forms, called_by, has_form, plain_forms, raw, raw_forms, comes_by, row, soft, soft_forms, sort}
+use Rattle.script_text.specs.Grammar.{Fills, IsOfSort, fill_form}
 use Rattle.script_text.specs.Reading.{begins_with_digit, find_form_by_first, form_in, find_form}
 use Rattle.script_text.proofs.Numbers.{own}
 use Rattle.script_text.proofs.Rows.{HasKeys, is_row, same_Ok}
@@ -38,13 +40,32 @@ decimal_begins n small = begins (decimal n) (digits_decimal own n (omega arith))
 abbrev Chooses : Version → List Spot → Form → Type 0
 Chooses version spots form = (vs : List Value) → Fills spots vs → form_in version (fill_form spots vs) ≡ Ok form
 
-call : (version : Version) (name : List ℕ) (more : List Spot) (form : Form) → find_form version call_forms name ≡ Ok form
-    → Chooses version (called name more) form
+-- the field of a call's lane
+abbrev lane_of : Form → Field
+lane_of forms.Offline = fields.FirstLane
+lane_of forms.Online = fields.FirstLane
+lane_of form = fields.Lane
+
+filled_call : (field : Field) (version : Version) (name : List ℕ) (more : List Spot) (form : Form)
+    → find_form version call_forms name ≡ Ok form
+    → (v : Value) (vs : List Value) → IsOfSort Numeral v → form_in version (fill_form (called_by field name more) (v ∷ vs)) ≡ Ok form
 unfolding form_in find_form_by_first
-call version name more form e [] h = absurd h
-call version name more form e (values.Clock c ∷ vs) h = absurd h.0
-call version name more form e (values.Mode m ∷ vs) h = absurd h.0
-call version name more form e (values.Number n ∷ vs) h = rw (decimal_begins n h.0) e
+filled_call field version name more form e (values.Clock c) vs none = absurd none
+filled_call field version name more form e (values.Mode m) vs none = absurd none
+filled_call field version name more form e (values.Number n) vs few = rw (decimal_begins n few) e
+
+call_by : (field : Field) → sort field ≡ Numeral → (version : Version) (name : List ℕ) (more : List Spot) (form : Form)
+    → find_form version call_forms name ≡ Ok form → Chooses version (called_by field name more) form
+call_by field is version name more form e [] h = absurd h
+call_by field is version name more form e (v ∷ vs) h = filled_call field version name more form e v vs (subst (λ s. IsOfSort s v) is h.0)
+
+call : (version : Version) (name : List ℕ) (more : List Spot) (form : Form) → find_form version call_forms name ≡ Ok form
+    → Chooses version (called_by fields.Lane name more) form
+call version name more form e = call_by fields.Lane refl version name more form e
+
+first_call : (version : Version) (name : List ℕ) (more : List Spot) (form : Form) → find_form version call_forms name ≡ Ok form
+    → Chooses version (called_by fields.FirstLane name more) form
+first_call version name more form e = call_by fields.FirstLane refl version name more form e
 
 callback : (version : Version) (key : List ℕ) (more : List Spot) (form : Form) → find_form version raw_forms key ≡ Ok form
     → Chooses version (raw key more) form
@@ -92,6 +113,8 @@ form_again version forms.Accept = (λ has. call version (codes "accept") (drop 2
 form_again version forms.Overrun = (λ has. call version (codes "overrun") (drop 2 (row forms.Overrun)) _ refl, refl)
 form_again version forms.Read = (λ has. call version (codes "read") (drop 2 (row forms.Read)) _ refl, refl)
 form_again version forms.Readable = (λ has. call version (codes "readable") (drop 2 (row forms.Readable)) _ refl, refl)
+form_again version forms.Offline = (λ has. first_call version (codes "offline") (drop 2 (row forms.Offline)) _ (rw has refl), refl)
+form_again version forms.Online = (λ has. first_call version (codes "online") (drop 2 (row forms.Online)) _ (rw has refl), refl)
 
 -- ---- the form that words choose has their key words, and the version has it
 
@@ -169,20 +192,21 @@ soft_chosen version (timer ∷ clock ∷ key ∷ words) form e =
     (chosen soft 4 key form _ found.0 (λ more none. (refl, (refl, no_keys more words none))), found.1)
 
 -- each row of a call begins with its lane and its name
-call_rows : AllByRecursion (λ f. Begins called 2 f.0 f.1) call_forms
+call_rows : AllByRecursion (λ f. Begins (called_by (lane_of f.1)) 2 f.0 f.1) call_forms
 call_rows =
     ((refl, refl), ((refl, refl), ((refl, refl), ((refl, refl), ((refl, refl), ((refl, refl), ((refl, refl), ((refl, refl), ((refl, refl), others)))))))))
   where
-    others : AllByRecursion (λ f. Begins called 2 f.0 f.1) (drop 9 call_forms)
-    others = ((refl, refl), ((refl, refl), ((refl, refl), ((refl, refl), ((refl, refl), ((refl, refl), tt))))))
+    others : AllByRecursion (λ f. Begins (called_by (lane_of f.1)) 2 f.0 f.1) (drop 9 call_forms)
+    others =
+        ((refl, refl), ((refl, refl), ((refl, refl), ((refl, refl), ((refl, refl), ((refl, refl), ((refl, refl), ((refl, refl), tt))))))))
 
 call_chosen : (version : Version) (lane : List ℕ) (words : List (List ℕ)) (form : Form) → find_form_by_first version call_forms words ≡ Ok form
     → IsChosen version form (lane ∷ words)
 unfolding find_form_by_first
 call_chosen version lane [] form e = absurd cc
 call_chosen version lane (name ∷ words) form e =
-    let found = found_holds version (Begins called 2) call_forms name form call_rows e in
-    (chosen called 2 name form _ found.0 (λ more none. (refl, no_keys more words none)), found.1)
+    let found = found_holds version (λ name form. Begins (called_by (lane_of form)) 2 name form) call_forms name form call_rows e in
+    (chosen (called_by (lane_of form)) 2 name form _ found.0 (λ more none. (refl, no_keys more words none)), found.1)
 
 pub form_spells : (version : Version) (words : List (List ℕ)) (form : Form) → form_in version words ≡ Ok form → IsChosen version form words
 unfolding form_in

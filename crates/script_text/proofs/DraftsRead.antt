@@ -80,13 +80,13 @@ version_told n (inl is) = subst (λ n. Goes (early versions.One 0 0 0 0) [] form
 version_told n (inr is) = subst (λ n. Goes (early versions.One 0 0 0 0) [] forms.Version (values.Number n ∷ [])) (sym is) (at_version versions.Two)
 
 from_start : (f : Form) (vs : List Value) → fits (row f) vs ≡ true → is_placed (early versions.One 0 0 0 0) (part f) ≡ true
-    → check_values (early versions.One 0 0 0 0) (row f) vs ≡ None → Goes (early versions.One 0 0 0 0) [] f vs
+    → check_values (early versions.One 0 0 0 0) 0 (row f) vs ≡ None → Goes (early versions.One 0 0 0 0) [] f vs
 unfolding is_placed check_values check_number draft_with_line with_part with_header
 from_start forms.Version (values.Number n ∷ []) fit placed e = version_told n (either_number n (holds _ _ (neither _ _ e).0))
 from_start _ _ fit placed e = absurd cc
 
 from_version : (v : Version) (f : Form) (vs : List Value) → fits (row f) vs ≡ true → is_placed (early v 1 0 0 0) (part f) ≡ true
-    → check_values (early v 1 0 0 0) (row f) vs ≡ None → Goes (early v 1 0 0 0) (take 1 (header_lines v 0 0 0)) f vs
+    → check_values (early v 1 0 0 0) 0 (row f) vs ≡ None → Goes (early v 1 0 0 0) (take 1 (header_lines v 0 0 0)) f vs
 unfolding is_placed check_values check_number draft_with_line with_part with_header
 from_version v forms.Bases (values.Number b ∷ []) fit placed e =
     let both = and_parts _ _ (holds _ _ (neither _ _ e).0) in
@@ -95,7 +95,7 @@ from_version v _ _ fit placed e = absurd cc
 
 from_bases : (v : Version) (b : ℕ) → 1 ≤ b → b ≤ most_bases v → (f : Form) (vs : List Value) → fits (row f) vs ≡ true
     → is_placed (early v 2 b 0 0) (part f) ≡ true
-    → check_values (early v 2 b 0 0) (row f) vs ≡ None
+    → check_values (early v 2 b 0 0) 0 (row f) vs ≡ None
     → Goes (early v 2 b 0 0) (take 2 (header_lines v b 0 0)) f vs
 unfolding is_placed check_values check_number draft_with_line with_part with_header
 from_bases v b some few forms.Lanes (values.Number l ∷ []) fit placed e =
@@ -104,7 +104,7 @@ from_bases v b some few forms.Lanes (values.Number l ∷ []) fit placed e =
 from_bases v b some few _ _ fit placed e = absurd cc
 
 from_lanes : (v : Version) (b l : ℕ) → 1 ≤ b → b ≤ most_bases v → 1 ≤ l → l ≤ most_lanes v → (f : Form) (vs : List Value) → fits (row f) vs ≡ true
-    → is_placed (early v 3 b l 0) (part f) ≡ true → check_values (early v 3 b l 0) (row f) vs ≡ None
+    → is_placed (early v 3 b l 0) (part f) ≡ true → check_values (early v 3 b l 0) 0 (row f) vs ≡ None
     → Goes (early v 3 b l 0) (take 3 (header_lines v b l 0)) f vs
 unfolding is_placed check_values check_number draft_with_line with_part with_header
 from_lanes v b l some few any only forms.Limit (values.Number m ∷ []) fit placed e =
@@ -200,7 +200,7 @@ one_round v b l m calls ts ended begun stands =
         kinds = stands.ranges.kinds;
         count = subst (λ cs. length cs ≤ most_calls) same stands.ranges.count;
         callers = subst (λ cs. AllByRecursion (λ c. c.lane < l) cs) same stands.ranges.callers;
-        calls = subst (λ cs. AllByRecursion (λ c. IsCallInRange b ts c.call) cs) same stands.ranges.calls;
+        calls = subst (λ cs. AllByRecursion (λ c. IsCallInRange c.lane b ts c.call) cs) same stands.ranges.calls;
       };
       unbegun = λ none. absurd cc;
       count = subst (λ cs. length cs ≡ calls) same stands.count;
@@ -225,7 +225,7 @@ lines-push ended cs c =
     ∙ ap (λ (ls : List Line). ls ++ call_line c.lane c.call ∷ []) (sym (flat_map-push round_lines ended (record { calls = cs })))
 
 one_call : (v : Version) (b l m calls : ℕ) (ts : List Declaration) (ended : List Round) (cs : List LaneCall) (c : LaneCall)
-    → Stands (full v b l m ts ended (Some cs) calls) → calls < most_calls → c.lane < l → IsCallInRange b ts c.call
+    → Stands (full v b l m ts ended (Some cs) calls) → calls < most_calls → c.lane < l → IsCallInRange c.lane b ts c.call
     → has_form v (call_line c.lane c.call).form ≡ true
     → DraftOf (full v b l m ts ended (Some (cs ++ c ∷ [])) (calls + 1))
     (script_lines (script_of (full v b l m ts ended (Some cs) calls)) ++ call_line c.lane c.call ∷ [])
@@ -253,8 +253,8 @@ one_call v b l m calls ts ended cs c stands few lane range form =
         count = subst (λ cs. length cs ≤ most_calls) same (omega (arith, sum, few, stands.count));
         callers = subst (λ cs. AllByRecursion (λ c. c.lane < l) cs) same
             (All-append (λ c. c.lane < l) before (c ∷ []) stands.ranges.callers (lane, tt));
-        calls = subst (λ cs. AllByRecursion (λ c. IsCallInRange b ts c.call) cs) same
-            (All-append (λ c. IsCallInRange b ts c.call) before (c ∷ []) stands.ranges.calls (range, tt));
+        calls = subst (λ cs. AllByRecursion (λ c. IsCallInRange c.lane b ts c.call) cs) same
+            (All-append (λ c. IsCallInRange c.lane b ts c.call) before (c ∷ []) stands.ranges.calls (range, tt));
       };
       unbegun = λ none. absurd cc;
       count = subst (λ cs. length cs ≡ calls + 1) same (omega (arith, sum, stands.count));
@@ -306,7 +306,7 @@ module _ (v : Version) (b l m calls : ℕ) (ts : List Declaration) (f : Form) (v
       absurd cc
   next_call ended (Some cs) stands a is =
       let count : check_count (now ended (Some cs)) parts.Call ≡ None = subst (λ p. check_count (now ended (Some cs)) p ≡ None) is a.accepts.count in
-      let c = calls_for (now ended (Some cs)) f vs is a.line a.accepts.values a.accepts.kind in
+      let c = calls_for (now ended (Some cs)) (omega (arith, stands.ranges.lanes.0)) f vs is a.line a.accepts.values a.accepts.kind in
       let few : calls < most_calls = ltb-true calls most_calls (holds _ _ count) in
       let told : draft_with_line (now ended (Some cs)) (record { form = f; values = vs }) ≡ full v b l m ts ended (Some (cs ++ c.0 ∷ []))
       (calls + 1) =

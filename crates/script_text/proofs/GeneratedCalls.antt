@@ -59,7 +59,7 @@ two_digits n small = length-decimal-le 2 n (omega arith) (omega arith) (omega ar
 -- a lane's call of a generated script: it keeps to the limits, and its line is short
 pub record IsPlainCall (lanes : ℕ) (c : LaneCall) : Type 0 where
   pub lane : c.lane < lanes
-  pub call : IsCallInRange lanes (lane_timers lanes) c.call
+  pub call : IsCallInRange c.lane lanes (lane_timers lanes) c.call
   pub line : IsShortLine (call_line c.lane c.call)
 
 abbrev IsRaw : Kind → Type 0

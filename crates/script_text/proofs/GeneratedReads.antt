@@ -150,7 +150,7 @@ module _ (lanes : ℕ) (some : 1 ≤ lanes) (few : lanes ≤ 8) where
             (All-range _ 0 lanes (λ k small. (tt, (tt, tt))));
         count = few_calls seed count turned;
         callers = All-weaker (IsPlainCall lanes) (λ c. c.lane < lanes) (λ c p. p.lane) all plain;
-        calls = All-weaker (IsPlainCall lanes) (λ c. IsCallInRange lanes (lane_timers lanes) c.call) (λ c p. p.call) all plain;
+        calls = All-weaker (IsPlainCall lanes) (λ c. IsCallInRange c.lane lanes (lane_timers lanes) c.call) (λ c p. p.call) all plain;
       }
 
 -- law: a generated script is read from its bytes

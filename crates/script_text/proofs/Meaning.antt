@@ -1,5 +1,5 @@
 -- A line that no cause refuses means a declaration or a call in range, whose line it is; and such a line is accepted.
-use Rattle.std.proofs.Common.{◌≡◌, ℕ, ◌<◌, Bool, true, false, List, [], ◌∷◌, length, Option, Some, None, refl, sym, subst, ◌∙◌, ◌&&◌}
+use Rattle.std.proofs.Common.{arith, ◌≡◌, ℕ, ◌<◌, Bool, true, false, List, [], ◌∷◌, length, Option, Some, None, refl, sym, subst, ◌∙◌, ◌&&◌}
 use Rattle.std.specs.Option.{option_or}
 use Rattle.std.proofs.lemmas.Bool.{and_from, ltb-true, lt-ltb, leb-true, le-leb, eqb-true, eq-eqb}
 use Rattle.ktime.specs.declared.clock_id.ClockId.{ClockId}
@@ -72,13 +72,14 @@ pub record Declares (d : Draft) (f : Form) (vs : List Value) (t : Declaration) :
   pub range : IsKindInRange d.bases t.kind
 
 -- an object's number is the next, and its base exists
-object_on : (d : Draft) (i b : ℕ) → option_or (check_number d fields.NewTimer i) (option_or (check_number d fields.Base b) None) ≡ None
+object_on : (d : Draft) (i b : ℕ) → option_or (check_number d 0 fields.NewTimer i) (option_or (check_number d 0 fields.Base b) None) ≡ None
     → (i ≡ length d.timers) × (b < d.bases)
 unfolding check_number
 object_on d i b e = let both =
     neither _ _ e in (eqb-true i (length d.timers) (holds _ _ both.0), ltb-true b d.bases (holds _ _ (neither _ _ both.1).0))
 
-pub declares : (d : Draft) (f : Form) (vs : List Value) → part f ≡ parts.Declaration → fits (row f) vs ≡ true → check_values d (row f) vs ≡ None
+pub declares : (d : Draft) (f : Form) (vs : List Value) → part f ≡ parts.Declaration → fits (row f) vs ≡ true
+    → check_values d 0 (row f) vs ≡ None
     → (t : Declaration) × Declares d f vs t
 unfolding declaration_of check_values check_number
 declares d forms.RawOnce (values.Number i ∷ values.Clock c ∷ []) is fit e =
@@ -113,7 +114,7 @@ declares d _ _ is fit e = absurd cc
 pub record IsDeclarationOf (d : Draft) (f : Form) (vs : List Value) (t : Declaration) : Type 0 where
   pub means : declaration_of f vs ≡ Some t
   pub part : part f ≡ parts.Declaration
-  pub values : check_values d (row f) vs ≡ None
+  pub values : check_values d 0 (row f) vs ≡ None
   pub kind : check_kind d f (row f) vs ≡ None
 
 pub declaration_again : (d : Draft) (clock : ClockId) (kind : Kind) → IsKindInRange d.bases kind
@@ -146,13 +147,13 @@ pub record Calls (d : Draft) (f : Form) (vs : List Value) (c : LaneCall) : Type 
   pub means : call_of f vs ≡ Some c
   pub line : record { form = f; values = vs } ≡ call_line c.lane c.call
   pub lane : c.lane < d.lanes
-  pub range : IsCallInRange d.bases d.timers c.call
+  pub range : IsCallInRange c.lane d.bases d.timers c.call
 
 -- a line reads as this call, and no cause refuses it but where it stands and the count of its like
 pub record IsCallOf (d : Draft) (f : Form) (vs : List Value) (c : LaneCall) : Type 0 where
   pub means : call_of f vs ≡ Some c
   pub part : part f ≡ parts.Call
-  pub values : check_values d (row f) vs ≡ None
+  pub values : check_values d 0 (row f) vs ≡ None
   pub kind : check_kind d f (row f) vs ≡ None
 
 -- a call on a timer: behind its lane and its timer stand other values
@@ -160,14 +161,14 @@ module _ (d : Draft) (f : Form) (name : List ℕ) (spots : List Spot) (k i : ℕ
     (is : row f ≡ called name (At fields.Timer ∷ spots)) where
   timer_call : call_of f (values.Number k ∷ values.Number i ∷ more) ≡ Some (record { lane = k; call = call })
       → record { form = f; values = values.Number k ∷ values.Number i ∷ more } ≡ call_line k call
-      → (check_values d spots more ≡ None → HasTimerFor d.timers i f → IsCallInRange d.bases d.timers call)
-      → check_values d (row f) (values.Number k ∷ values.Number i ∷ more) ≡ None
+      → (check_values d 0 spots more ≡ None → HasTimerFor d.timers i f → IsCallInRange k d.bases d.timers call)
+      → check_values d 0 (row f) (values.Number k ∷ values.Number i ∷ more) ≡ None
       → check_kind d f (row f) (values.Number k ∷ values.Number i ∷ more) ≡ None
       → (c : LaneCall) × Calls d f (values.Number k ∷ values.Number i ∷ more) c
   unfolding check_values check_number check_kind
   timer_call means line range none kind =
       let vs : List Value = values.Number k ∷ values.Number i ∷ more in
-      let lane = neither _ _ (subst (λ spots. check_values d spots vs ≡ None) is none) in
+      let lane = neither _ _ (subst (λ spots. check_values d 0 spots vs ≡ None) is none) in
       let timer = neither _ _ lane.1 in
       let suit = holds _ _ (subst (λ spots. check_kind d f spots vs ≡ None) is kind) in (
         record { lane = k; call = call },
@@ -181,7 +182,7 @@ module _ (d : Draft) (f : Form) (name : List ℕ) (spots : List Spot) (k i : ℕ
       )
 
   timer_call_again : call_of f (values.Number k ∷ values.Number i ∷ more) ≡ Some (record { lane = k; call = call }) → part f ≡ parts.Call
-      → k < d.lanes → HasTimerFor d.timers i f → check_values d spots more ≡ None
+      → k < d.lanes → HasTimerFor d.timers i f → check_values d 0 spots more ≡ None
       → IsCallOf d f (values.Number k ∷ values.Number i ∷ more) (record { lane = k; call = call })
   unfolding check_values check_number check_kind
   timer_call_again means call_part lane suit none = record {
@@ -195,11 +196,11 @@ module _ (d : Draft) (f : Form) (name : List ℕ) (spots : List Spot) (k i : ℕ
 clock_call : (d : Draft) (f : Form) (name : List ℕ) (k n : ℕ) (write : Write)
     → call_of f (values.Number k ∷ values.Number n ∷ []) ≡ Some (record { lane = k; call = calls.Clock write })
     → record { form = f; values = values.Number k ∷ values.Number n ∷ [] } ≡ call_line k (calls.Clock write)
-    → row f ≡ called name (At fields.Free ∷ []) → check_values d (row f) (values.Number k ∷ values.Number n ∷ []) ≡ None
+    → row f ≡ called name (At fields.Free ∷ []) → check_values d 0 (row f) (values.Number k ∷ values.Number n ∷ []) ≡ None
     → (c : LaneCall) × Calls d f (values.Number k ∷ values.Number n ∷ []) c
 unfolding check_values check_number
 clock_call d f name k n write means line is none =
-    let lane = neither _ _ (subst (λ spots. check_values d spots (values.Number k ∷ values.Number n ∷ []) ≡ None) is none) in
+    let lane = neither _ _ (subst (λ spots. check_values d 0 spots (values.Number k ∷ values.Number n ∷ []) ≡ None) is none) in
     (record { lane = k; call = calls.Clock write }, record { means = means; line = line; lane = ltb-true k d.lanes (holds _ _ lane.0); range = tt })
 
 -- an expiry: behind its lane stand the base and the budget
@@ -207,11 +208,12 @@ expire_call : (d : Draft) (f : Form) (name : List ℕ) (k b n : ℕ) (context : 
     → call_of f (values.Number k ∷ values.Number b ∷ values.Number n ∷ []) ≡ Some (record { lane = k; call = calls.Expire context b n })
     → record { form = f; values = values.Number k ∷ values.Number b ∷ values.Number n ∷ [] } ≡ call_line k (calls.Expire context b n)
     → row f ≡ called name (At fields.Base ∷ At fields.Budget ∷ [])
-    → check_values d (row f) (values.Number k ∷ values.Number b ∷ values.Number n ∷ []) ≡ None
+    → check_values d 0 (row f) (values.Number k ∷ values.Number b ∷ values.Number n ∷ []) ≡ None
     → (c : LaneCall) × Calls d f (values.Number k ∷ values.Number b ∷ values.Number n ∷ []) c
 unfolding check_values check_number
 expire_call d f name k b n context means line is none =
-    let lane = neither _ _ (subst (λ spots. check_values d spots (values.Number k ∷ values.Number b ∷ values.Number n ∷ []) ≡ None) is none) in
+    let vs : List Value = values.Number k ∷ values.Number b ∷ values.Number n ∷ [] in
+    let lane = neither _ _ (subst (λ spots. check_values d 0 spots vs ≡ None) is none) in
     let base = neither _ _ lane.1 in
     let budget = neither _ _ base.1 in (
       record { lane = k; call = calls.Expire context b n },
@@ -222,6 +224,44 @@ expire_call d f name k b n context means line is none =
         range = (ltb-true b d.bases (holds _ _ base.0), leb-true n most_budget (holds _ _ budget.0));
       },
     )
+
+-- a call of the first lane that takes a base off line: behind it stand the base, the heir and the budget
+offline_call : (d : Draft) (some : 0 < d.lanes) (k b h n : ℕ)
+    → check_values d 0 (row forms.Offline) (values.Number k ∷ values.Number b ∷ values.Number h ∷ values.Number n ∷ []) ≡ None
+    → Calls d forms.Offline (values.Number k ∷ values.Number b ∷ values.Number h ∷ values.Number n ∷ [])
+    (record { lane = k; call = calls.Offline b h n })
+unfolding call_of plain_call_of object_call_of check_values check_number
+offline_call d some k b h n none =
+    let lane = neither _ _ none in
+    let base = neither _ _ lane.1 in
+    let heir = neither _ _ base.1 in
+    let first = eqb-true k 0 (holds _ _ lane.0) in
+    record {
+      means = refl;
+      line = refl;
+      lane = omega (arith, first, some);
+      range = (
+        first,
+        ltb-true b d.bases (holds _ _ base.0),
+        ltb-true h b (holds _ _ heir.0),
+        leb-true n most_budget (holds _ _ (neither _ _ heir.1).0),
+      );
+    }
+
+-- a call of the first lane that takes a base on line: behind it stands the base
+online_call : (d : Draft) (some : 0 < d.lanes) (k b : ℕ)
+    → check_values d 0 (row forms.Online) (values.Number k ∷ values.Number b ∷ []) ≡ None
+    → Calls d forms.Online (values.Number k ∷ values.Number b ∷ []) (record { lane = k; call = calls.Online b })
+unfolding call_of plain_call_of object_call_of check_values check_number
+online_call d some k b none =
+    let lane = neither _ _ none in
+    let first = eqb-true k 0 (holds _ _ lane.0) in
+    record {
+      means = refl;
+      line = refl;
+      lane = omega (arith, first, some);
+      range = (first, ltb-true b d.bases (holds _ _ (neither _ _ lane.1).0));
+    }
 
 -- the same timers can be started with a slack and without
 suits_range : (kind : Kind) → suits forms.StartRange kind ≡ suits forms.Start kind
@@ -235,55 +275,61 @@ as_start timers i suit = (suit.0, sym (suits_range _) ∙ suit.1)
 as_range : (timers : List Declaration) (i : ℕ) → HasTimerFor timers i forms.Start → HasTimerFor timers i forms.StartRange
 as_range timers i suit = (suit.0, suits_range _ ∙ suit.1)
 
-pub calls_for : (d : Draft) (f : Form) (vs : List Value) → part f ≡ parts.Call → fits (row f) vs ≡ true → check_values d (row f) vs ≡ None
+pub calls_for : (d : Draft) → 0 < d.lanes → (f : Form) (vs : List Value) → part f ≡ parts.Call → fits (row f) vs ≡ true
+    → check_values d 0 (row f) vs ≡ None
     → check_kind d f (row f) vs ≡ None
     → (c : LaneCall) × Calls d f vs c
 unfolding call_of plain_call_of object_call_of check_values check_number check_kind
-calls_for d forms.Start
+calls_for d some forms.Start
     (values.Number k ∷ values.Number i ∷ values.Mode modes.Rel ∷ values.Number n ∷ values.Number b ∷ []) is fit e kind =
     timer_call d forms.Start _ _ k i _ (calls.Start i (record { mode = modes.Rel; ns = n; slack = None; base = b })) refl refl refl
     (λ none suit. (suit, ltb-true b d.bases (holds _ _ (neither _ _ none).0), tt)) e kind
-calls_for d forms.Start
+calls_for d some forms.Start
     (values.Number k ∷ values.Number i ∷ values.Mode modes.Abs ∷ values.Number n ∷ values.Number b ∷ []) is fit e kind =
     timer_call d forms.Start _ _ k i _ (calls.Start i (record { mode = modes.Abs; ns = n; slack = None; base = b })) refl refl refl
     (λ none suit. (suit, ltb-true b d.bases (holds _ _ (neither _ _ none).0), tt)) e kind
-calls_for d forms.StartRange
+calls_for d some forms.StartRange
     (values.Number k ∷ values.Number i ∷ values.Mode modes.Rel ∷ values.Number n ∷ values.Number s ∷ values.Number b ∷ []) is fit e kind =
     timer_call d forms.StartRange _ _ k i _ (calls.Start i (record { mode = modes.Rel; ns = n; slack = Some s; base = b })) refl refl refl
     (λ none suit. (as_start d.timers i suit, ltb-true b d.bases (holds _ _ (neither _ _ none).0), tt)) e kind
-calls_for d forms.StartRange
+calls_for d some forms.StartRange
     (values.Number k ∷ values.Number i ∷ values.Mode modes.Abs ∷ values.Number n ∷ values.Number s ∷ values.Number b ∷ []) is fit e kind =
     timer_call d forms.StartRange _ _ k i _ (calls.Start i (record { mode = modes.Abs; ns = n; slack = Some s; base = b })) refl refl refl
     (λ none suit. (as_start d.timers i suit, ltb-true b d.bases (holds _ _ (neither _ _ none).0), tt)) e kind
-calls_for d forms.Cancel (values.Number k ∷ values.Number i ∷ []) is fit e kind =
+calls_for d some forms.Cancel (values.Number k ∷ values.Number i ∷ []) is fit e kind =
     timer_call d forms.Cancel _ _ k i _ (calls.Cancel i) refl refl refl (λ none suit. suit) e kind
-calls_for d forms.Peek (values.Number k ∷ values.Number i ∷ []) is fit e kind =
+calls_for d some forms.Peek (values.Number k ∷ values.Number i ∷ []) is fit e kind =
     timer_call d forms.Peek _ _ k i _ (calls.Peek i) refl refl refl (λ none suit. suit) e kind
-calls_for d forms.Expire (values.Number k ∷ values.Number b ∷ values.Number n ∷ []) is fit e kind =
+calls_for d some forms.Expire (values.Number k ∷ values.Number b ∷ values.Number n ∷ []) is fit e kind =
     expire_call d forms.Expire _ k b n contexts.Hard refl refl refl e
-calls_for d forms.SoftExpire (values.Number k ∷ values.Number b ∷ values.Number n ∷ []) is fit e kind =
+calls_for d some forms.SoftExpire (values.Number k ∷ values.Number b ∷ values.Number n ∷ []) is fit e kind =
     expire_call d forms.SoftExpire _ k b n contexts.Soft refl refl refl e
-calls_for d forms.Advance (values.Number k ∷ values.Number n ∷ []) is fit e kind = clock_call d forms.Advance _ k n
+calls_for d some forms.Advance (values.Number k ∷ values.Number n ∷ []) is fit e kind = clock_call d forms.Advance _ k n
     (writes.Advance n) refl refl refl e
-calls_for d forms.Set (values.Number k ∷ values.Number n ∷ []) is fit e kind = clock_call d forms.Set _ k n (writes.Set n) refl refl refl e
-calls_for d forms.Suspend (values.Number k ∷ values.Number n ∷ []) is fit e kind = clock_call d forms.Suspend _ k n
+calls_for d some forms.Set (values.Number k ∷ values.Number n ∷ []) is fit e kind =
+    clock_call d forms.Set _ k n (writes.Set n) refl refl refl e
+calls_for d some forms.Suspend (values.Number k ∷ values.Number n ∷ []) is fit e kind = clock_call d forms.Suspend _ k n
     (writes.Suspend n) refl refl refl e
-calls_for d forms.Settime
+calls_for d some forms.Settime
     (values.Number k ∷ values.Number i ∷ values.Number f ∷ values.Number vs ∷ values.Number vn ∷ values.Number is ∷ values.Number in_ ∷
     []) call fit e kind =
     timer_call d forms.Settime _ _ k i _ (calls.Settime i f (record { sec = vs; nsec = vn }) (record { sec = is; nsec = in_ })) refl refl refl
     (λ none suit. suit) e kind
-calls_for d forms.Gettime (values.Number k ∷ values.Number i ∷ []) is fit e kind =
+calls_for d some forms.Gettime (values.Number k ∷ values.Number i ∷ []) is fit e kind =
     timer_call d forms.Gettime _ _ k i _ (calls.Gettime i) refl refl refl (λ none suit. suit) e kind
-calls_for d forms.Accept (values.Number k ∷ values.Number i ∷ []) is fit e kind =
+calls_for d some forms.Accept (values.Number k ∷ values.Number i ∷ []) is fit e kind =
     timer_call d forms.Accept _ _ k i _ (calls.Accept i) refl refl refl (λ none suit. suit) e kind
-calls_for d forms.Overrun (values.Number k ∷ values.Number i ∷ []) is fit e kind =
+calls_for d some forms.Overrun (values.Number k ∷ values.Number i ∷ []) is fit e kind =
     timer_call d forms.Overrun _ _ k i _ (calls.Overrun i) refl refl refl (λ none suit. suit) e kind
-calls_for d forms.Read (values.Number k ∷ values.Number i ∷ values.Number n ∷ []) is fit e kind =
+calls_for d some forms.Read (values.Number k ∷ values.Number i ∷ values.Number n ∷ []) is fit e kind =
     timer_call d forms.Read _ _ k i _ (calls.Read i n) refl refl refl (λ none suit. suit) e kind
-calls_for d forms.Readable (values.Number k ∷ values.Number i ∷ []) is fit e kind =
+calls_for d some forms.Readable (values.Number k ∷ values.Number i ∷ []) is fit e kind =
     timer_call d forms.Readable _ _ k i _ (calls.Readable i) refl refl refl (λ none suit. suit) e kind
-calls_for d _ _ is fit e kind = absurd cc
+calls_for d some forms.Offline (values.Number k ∷ values.Number b ∷ values.Number h ∷ values.Number n ∷ []) is fit e kind =
+    (record { lane = k; call = calls.Offline b h n }, offline_call d some k b h n e)
+calls_for d some forms.Online (values.Number k ∷ values.Number b ∷ []) is fit e kind =
+    (record { lane = k; call = calls.Online b }, online_call d some k b e)
+calls_for d some _ _ is fit e kind = absurd cc
 
 start_again : (d : Draft) (lane timer : ℕ) (mode : Mode) (ns base : ℕ) (slack : Option ℕ) → lane < d.lanes
     → HasTimerFor d.timers timer forms.Start × (base < d.bases) × IsGivenMode mode
@@ -306,7 +352,7 @@ start_again d lane timer modes.Abs ns base (Some slack) own range =
     refl own (as_range d.timers timer range.0) (rw (lt-ltb base d.bases range.1) refl)
 start_again d lane timer modes.Keep ns base slack own range = absurd range.2
 
-pub call_again : (d : Draft) (lane : ℕ) (call : Call) → lane < d.lanes → IsCallInRange d.bases d.timers call
+pub call_again : (d : Draft) (lane : ℕ) (call : Call) → lane < d.lanes → IsCallInRange lane d.bases d.timers call
     → IsCallOf d (call_line lane call).form (call_line lane call).values (record { lane = lane; call = call })
 unfolding call_of plain_call_of object_call_of check_values check_number check_kind
 call_again d lane (calls.Start timer request) own range = start_again d lane timer request.mode request.ns request.base request.slack own range
@@ -324,6 +370,15 @@ call_again d lane (calls.Expire contexts.Soft base budget) own range = record {
   values = rw (lt-ltb lane d.lanes own, lt-ltb base d.bases range.0, le-leb budget most_budget range.1) refl;
   kind = refl;
 }
+call_again d lane (calls.Offline base heir budget) own range = record {
+  means = refl;
+  part = refl;
+  values =
+      rw (eq-eqb lane 0 range.0, lt-ltb base d.bases range.1, lt-ltb heir base range.2, le-leb budget most_budget range.3) refl;
+  kind = refl;
+}
+call_again d lane (calls.Online base) own range =
+    record { means = refl; part = refl; values = rw (eq-eqb lane 0 range.0, lt-ltb base d.bases range.1) refl; kind = refl }
 call_again d lane (calls.Clock (writes.Advance by)) own range =
     record { means = refl; part = refl; values = rw (lt-ltb lane d.lanes own) refl; kind = refl }
 call_again d lane (calls.Clock (writes.Set to)) own range =

@@ -54,7 +54,7 @@ version_room d n begun room =
       calls = room.calls;
     }
 
-header_room : (d : Draft) (f : Form) (vs : List Value) → d.headers < 4 → part f ≡ parts.Header d.headers → check_values d (row f) vs ≡ None
+header_room : (d : Draft) (f : Form) (vs : List Value) → d.headers < 4 → part f ≡ parts.Header d.headers → check_values d 0 (row f) vs ≡ None
     → IsWithinLimits d → IsWithinLimits (with_header d f vs)
 unfolding with_header check_values check_number
 header_room d forms.Version (values.Number n ∷ []) few is e room = let begun : d.headers ≡ 0 = cc in version_room d n begun room
@@ -109,7 +109,7 @@ call_room d (Some c) few room =
     record { first = room.first; headers = room.headers; bases = room.bases; lanes = room.lanes; timers = room.timers; calls = omega (arith, few) }
 
 part_room : (d : Draft) (f : Form) (vs : List Value) (p : Part) → part f ≡ p → is_placed d p ≡ true → check_count d p ≡ None
-    → check_values d (row f) vs ≡ None → IsWithinLimits d → IsWithinLimits (with_part d p f vs)
+    → check_values d 0 (row f) vs ≡ None → IsWithinLimits d → IsWithinLimits (with_part d p f vs)
 unfolding is_placed check_count with_part with_round
 part_room d f vs (parts.Header n) is placed count e room =
     let same = eqb-true d.headers n placed in

@@ -104,7 +104,7 @@ declaration_steps v b l m ts (d ∷ ds) few ranges n forms is =
 -- behind the header of these bases, lanes and limit and these declarations
 module _ (v : Version) (b l m : ℕ) (ts : List Declaration) where
   call_step : (ended : List Round) (cs : List LaneCall) (n : ℕ) (c : LaneCall) (f : Draft) (ls : List Line) → n < most_calls → c.lane < l
-      → IsCallInRange b ts c.call → has_form v (call_line c.lane c.call).form ≡ true
+      → IsCallInRange c.lane b ts c.call → has_form v (call_line c.lane c.call).form ≡ true
       → Steps (full v b l m ts ended (Some (cs ++ c ∷ [])) (n + 1)) ls f → Steps (full v b l m ts ended (Some cs) n) (call_line c.lane c.call ∷ ls) f
   unfolding is_placed check_count draft_with_line with_part with_call
   call_step ended cs n c f ls few lane range form rest =
@@ -120,7 +120,7 @@ module _ (v : Version) (b l m : ℕ) (ts : List Declaration) where
       one_step d (full v b l m ts ended (Some (cs ++ c ∷ [])) (n + 1)) f line ls form a (rw (is.part, is.means) refl) rest
 
   call_steps : (ended : List Round) (cs more : List LaneCall) (n : ℕ) → n + length more ≤ most_calls → AllByRecursion (λ c. c.lane < l) more
-      → AllByRecursion (λ c. IsCallInRange b ts c.call) more → HasForms v (map (λ c. call_line c.lane c.call) more)
+      → AllByRecursion (λ c. IsCallInRange c.lane b ts c.call) more → HasForms v (map (λ c. call_line c.lane c.call) more)
       → Steps (full v b l m ts ended (Some cs) n) (map (λ c. call_line c.lane c.call) more)
       (full v b l m ts ended (Some (cs ++ more)) (n + length more))
   call_steps ended cs [] n few lanes ranges forms =
@@ -151,7 +151,7 @@ module _ (v : Version) (b l m : ℕ) (ts : List Declaration) where
       × (script_of f ≡ record { version = v; bases = b; lanes = l; limit = m; timers = ts; rounds = rounds })
 
   round_steps : (rs : List Round) (ended : List Round) (begun : Option (List LaneCall)) (n : ℕ) → n + length (all_calls rs) ≤ most_calls
-      → AllByRecursion (λ c. c.lane < l) (all_calls rs) → AllByRecursion (λ c. IsCallInRange b ts c.call) (all_calls rs)
+      → AllByRecursion (λ c. c.lane < l) (all_calls rs) → AllByRecursion (λ c. IsCallInRange c.lane b ts c.call) (all_calls rs)
       → HasForms v (flat_map round_lines rs)
       → Ends ended begun n (flat_map round_lines rs) ((ended ++ last_round begun) ++ rs)
   round_steps [] ended begun n few lanes ranges forms = (
@@ -165,10 +165,10 @@ module _ (v : Version) (b l m : ℕ) (ts : List Declaration) where
       let before : List Round = ended ++ last_round begun in
       let sum : length (r.calls ++ all_calls rs) ≡ length r.calls + length (all_calls rs) = length-append _ _ in
       let here = call_steps before [] r.calls n (omega (arith, sum, few)) (All-front (λ c. c.lane < l) r.calls (all_calls rs) lanes)
-      (All-front (λ c. IsCallInRange b ts c.call) r.calls (all_calls rs) ranges)
+      (All-front (λ c. IsCallInRange c.lane b ts c.call) r.calls (all_calls rs) ranges)
       (All-front (λ l. has_form v l.form ≡ true) (map (λ c. call_line c.lane c.call) r.calls) (flat_map round_lines rs) forms.1) in
       let rest = round_steps rs before (Some r.calls) (n + length r.calls) (omega (arith, sum, few))
-      (All-back (λ c. c.lane < l) r.calls (all_calls rs) lanes) (All-back (λ c. IsCallInRange b ts c.call) r.calls (all_calls rs) ranges)
+      (All-back (λ c. c.lane < l) r.calls (all_calls rs) lanes) (All-back (λ c. IsCallInRange c.lane b ts c.call) r.calls (all_calls rs) ranges)
       (All-back (λ l. has_form v l.form ≡ true) (map (λ c. call_line c.lane c.call) r.calls) (flat_map round_lines rs) forms.1) in
       let ls : List Line = map (λ c. call_line c.lane c.call) r.calls ++ flat_map round_lines rs in
       let steps : Steps (full v b l m ts before (Some []) n) ls rest.0 =

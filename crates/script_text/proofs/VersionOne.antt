@@ -55,6 +55,8 @@ hard_call lane (calls.Accept timer) has = tt
 hard_call lane (calls.Overrun timer) has = tt
 hard_call lane (calls.Read timer len) has = tt
 hard_call lane (calls.Readable timer) has = tt
+hard_call lane (calls.Offline base heir budget) has = absurd cc
+hard_call lane (calls.Online base) has = absurd cc
 
 hard_calls : (cs : List LaneCall) → HasForms versions.One (map (λ c. call_line c.lane c.call) cs) → AllByRecursion (λ c. IsHardCall c.call) cs
 hard_calls [] has = tt

@@ -4,11 +4,12 @@ use Rattle.ktime.specs.declared.clock_id.ClockId.{ClockId}
 use Rattle.ktime.specs.declared.clock_id.ClockId.TheVariants as clocks
 use Rattle.ktime.specs.declared.mode.Mode.{Mode}
 use Rattle.seq_timer.specs.Tables.{no_declared}
-use Rattle.seq_timer.specs.Steps.{limited}
 use Rattle.seq_timer.specs.declared.context.Context.{Context}
 use Rattle.seq_timer.specs.declared.context.Context.TheVariants as contexts
 use Rattle.seq_timer.specs.declared.context.Declared.{Declared}
 use Rattle.seq_timer.specs.declared.context.Terms.{Terms}
+use Rattle.record_text.specs.declared.version.Version.{Version}
+use Rattle.record_text.specs.declared.version.Version.TheVariants as versions
 use Rattle.script_text.specs.declared.script.Callback.TheVariants as callbacks
 use Rattle.script_text.specs.declared.script.Declaration.{Declaration}
 use Rattle.script_text.specs.declared.script.Kind.{Kind}
@@ -48,9 +49,14 @@ declareds_of s = map declared_as s.timers
 abbrev pub declared_of : Script → ℕ → Declared
 declared_of s timer = get_or (declareds_of s) timer no_declared
 
+-- how many entries past its limit may move a timer off a base that goes off line; in version 1 none does
+abbrev pub reach_of : Version → ℕ
+reach_of versions.One = 0
+reach_of versions.Two = 1024
+
 -- the terms on which a script's timers take entries
 abbrev pub terms_of : Script → Terms
-terms_of s = limited s.limit
+terms_of s = record { limit = s.limit; reach = reach_of s.version }
 
 -- the slack that a request asks for
 abbrev pub asked_slack : StartRequest → ℕ

@@ -84,6 +84,9 @@ plain_call_of forms.SoftExpire (values.Number k ∷ values.Number b ∷ values.N
 plain_call_of forms.Advance (values.Number k ∷ values.Number n ∷ []) = Some (record { lane = k; call = calls.Clock (writes.Advance n) })
 plain_call_of forms.Set (values.Number k ∷ values.Number n ∷ []) = Some (record { lane = k; call = calls.Clock (writes.Set n) })
 plain_call_of forms.Suspend (values.Number k ∷ values.Number n ∷ []) = Some (record { lane = k; call = calls.Clock (writes.Suspend n) })
+plain_call_of forms.Offline (values.Number k ∷ values.Number b ∷ values.Number h ∷ values.Number n ∷ []) =
+    Some (record { lane = k; call = calls.Offline b h n })
+plain_call_of forms.Online (values.Number k ∷ values.Number b ∷ []) = Some (record { lane = k; call = calls.Online b })
 plain_call_of form vs = None
 
 -- the call of an object that a line asks for, and its lane, by its form and values
@@ -155,8 +158,10 @@ abbrev pub IsShort : Field → ℕ → Type 0
 IsShort fields.Bases n = n < 2 ^ 32
 IsShort fields.Lanes n = n < 2 ^ 32
 IsShort fields.Lane n = n < 2 ^ 32
+IsShort fields.FirstLane n = n < 2 ^ 32
 IsShort fields.Timer n = n < 2 ^ 32
 IsShort fields.Base n = n < 2 ^ 32
+IsShort fields.Heir n = n < 2 ^ 32
 IsShort field n = Unit
 
 -- each number that fills the fields of a row is as short as its field asks for

@@ -42,9 +42,16 @@ raw callback more = Key (codes "raw") ∷ At fields.NewTimer ∷ At fields.Clock
 abbrev pub soft : List ℕ → List Spot → List Spot
 soft callback more = Key (codes "soft") ∷ At fields.NewTimer ∷ At fields.Clock ∷ Key callback ∷ more
 
--- the words of a call
+-- the words of a call, whose lane fills this field
+abbrev pub called_by : Field → List ℕ → List Spot → List Spot
+called_by lane name more = At lane ∷ Key name ∷ more
+
+-- those of a call of any lane, and of one of the first lane alone
 abbrev pub called : List ℕ → List Spot → List Spot
-called name more = At fields.Lane ∷ Key name ∷ more
+called name more = called_by fields.Lane name more
+
+abbrev pub called_first : List ℕ → List Spot → List Spot
+called_first name more = called_by fields.FirstLane name more
 
 -- the words of each form
 abbrev pub row : Form → List Spot
@@ -77,6 +84,8 @@ row forms.Accept = called (codes "accept") (At fields.Timer ∷ [])
 row forms.Overrun = called (codes "overrun") (At fields.Timer ∷ [])
 row forms.Read = called (codes "read") (At fields.Timer ∷ At fields.Free ∷ [])
 row forms.Readable = called (codes "readable") (At fields.Timer ∷ [])
+row forms.Offline = called_first (codes "offline") (At fields.Base ∷ At fields.Heir ∷ At fields.Budget ∷ [])
+row forms.Online = called_first (codes "online") (At fields.Base ∷ [])
 
 -- the first version that has a form
 abbrev pub since : Form → Version
@@ -84,6 +93,8 @@ since forms.SoftOnce = versions.Two
 since forms.SoftEvery = versions.Two
 since forms.StartRange = versions.Two
 since forms.SoftExpire = versions.Two
+since forms.Offline = versions.Two
+since forms.Online = versions.Two
 since form = versions.One
 
 -- whether what comes with one version has come by another
@@ -151,4 +162,5 @@ call_forms =
     ∷ (codes "expire", forms.Expire) ∷ (codes "softexpire", forms.SoftExpire)
     ∷ (codes "advance", forms.Advance) ∷ (codes "set", forms.Set) ∷ (codes "suspend", forms.Suspend)
     ∷ (codes "settime", forms.Settime) ∷ (codes "gettime", forms.Gettime) ∷ (codes "accept", forms.Accept) ∷ (codes "overrun", forms.Overrun)
-    ∷ (codes "read", forms.Read) ∷ (codes "readable", forms.Readable) ∷ []
+    ∷ (codes "read", forms.Read) ∷ (codes "readable", forms.Readable)
+    ∷ (codes "offline", forms.Offline) ∷ (codes "online", forms.Online) ∷ []

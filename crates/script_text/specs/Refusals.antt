@@ -46,29 +46,36 @@ check_count d parts.Declaration = unless (nat_lt (length d.timers) (most_timers 
 check_count d parts.Call = unless (nat_lt d.calls most_calls) causes.CallLimit
 check_count d part = None
 
--- the cause that refuses a number in its field
-unfoldable pub check_number : Draft → Field → ℕ → Option Cause
-check_number d fields.Version n = unless (nat_eq n 1 || nat_eq n 2) causes.Version
-check_number d fields.Bases n = unless (nat_le 1 n && nat_le n (most_bases d.version)) causes.BaseLimit
-check_number d fields.Base n = unless (nat_lt n d.bases) causes.BaseLimit
-check_number d fields.Lanes n = unless (nat_le 1 n && nat_le n (most_lanes d.version)) causes.LaneLimit
-check_number d fields.Lane n = unless (nat_lt n d.lanes) causes.LaneLimit
-check_number d fields.Limit n = unless (nat_le 1 n && nat_le n (most_events d.version)) causes.EventLimit
-check_number d fields.NewTimer n = unless (nat_eq n (length d.timers)) causes.BadId
-check_number d fields.Timer n = unless (nat_lt n (length d.timers)) causes.NoTimer
-check_number d fields.Budget n = unless (nat_le n most_budget) causes.BudgetLimit
-check_number d field n = None
+-- the cause that refuses a number in its field, behind the base that its line has named
+unfoldable pub check_number : Draft → ℕ → Field → ℕ → Option Cause
+check_number d base fields.Version n = unless (nat_eq n 1 || nat_eq n 2) causes.Version
+check_number d base fields.Bases n = unless (nat_le 1 n && nat_le n (most_bases d.version)) causes.BaseLimit
+check_number d base fields.Base n = unless (nat_lt n d.bases) causes.BaseLimit
+check_number d base fields.Lanes n = unless (nat_le 1 n && nat_le n (most_lanes d.version)) causes.LaneLimit
+check_number d base fields.Lane n = unless (nat_lt n d.lanes) causes.LaneLimit
+check_number d base fields.FirstLane n = unless (nat_eq n 0) causes.LaneLimit
+check_number d base fields.Limit n = unless (nat_le 1 n && nat_le n (most_events d.version)) causes.EventLimit
+check_number d base fields.NewTimer n = unless (nat_eq n (length d.timers)) causes.BadId
+check_number d base fields.Timer n = unless (nat_lt n (length d.timers)) causes.NoTimer
+check_number d base fields.Heir n = unless (nat_lt n base) causes.HeirLimit
+check_number d base fields.Budget n = unless (nat_le n most_budget) causes.BudgetLimit
+check_number d base field n = None
 
 -- the cause that refuses what fills a field
-abbrev pub check_value : Draft → Field → Value → Option Cause
-check_value d field (values.Number n) = check_number d field n
-check_value d field v = None
+abbrev pub check_value : Draft → ℕ → Field → Value → Option Cause
+check_value d base field (values.Number n) = check_number d base field n
+check_value d base field v = None
 
--- the first cause in what fills the fields of a row
-unfoldable pub check_values : Draft → List Spot → List Value → Option Cause
-check_values d (Key word ∷ spots) vs = check_values d spots vs
-check_values d (At field ∷ spots) (v ∷ vs) = option_or (check_value d field v) (check_values d spots vs)
-check_values d spots vs = None
+-- the base that a line has named, after one more of its fields
+abbrev pub base_named : ℕ → Value → Field → ℕ
+base_named base (values.Number n) fields.Base = n
+base_named base v field = base
+
+-- the first cause in what fills the fields of a row, behind the base that its line has named
+unfoldable pub check_values : Draft → ℕ → List Spot → List Value → Option Cause
+check_values d base (Key word ∷ spots) vs = check_values d base spots vs
+check_values d base (At field ∷ spots) (v ∷ vs) = option_or (check_value d base field v) (check_values d (base_named base v field) spots vs)
+check_values d base spots vs = None
 
 -- the kind of the timer of a number
 abbrev pub drafted_kind : Draft → ℕ → Kind
@@ -83,7 +90,7 @@ check_kind d form spots vs = None
 unfoldable pub check_line : Draft → Line → Option Cause
 check_line d l =
     option_or (unless (is_placed d (part l.form)) causes.BadPlace)
-    (option_or (check_count d (part l.form)) (option_or (check_values d (row l.form) l.values) (check_kind d l.form (row l.form) l.values)))
+    (option_or (check_count d (part l.form)) (option_or (check_values d 0 (row l.form) l.values) (check_kind d l.form (row l.form) l.values)))
 
 -- this, unless a cause refuses it
 abbrev pub unless_refused : {A : Type 0} → Option Cause → A → Result A Cause
@@ -136,6 +143,7 @@ cause_word causes.LaneLimit = codes "LaneLimit"
 cause_word causes.EventLimit = codes "EventLimit"
 cause_word causes.BadId = codes "BadId"
 cause_word causes.NoTimer = codes "NoTimer"
+cause_word causes.HeirLimit = codes "HeirLimit"
 cause_word causes.BudgetLimit = codes "BudgetLimit"
 cause_word causes.WrongKind = codes "WrongKind"
 cause_word causes.Unfinished = codes "Unfinished"

@@ -54,7 +54,7 @@ most_events versions.Two = 2 ^ 48 - 2048
 abbrev pub most_calls : ℕ
 most_calls = 65536
 
--- how many timers one expire may claim
+-- how many timers one expire may claim, or one call may move off a base
 abbrev pub most_budget : ℕ
 most_budget = 4096
 
@@ -113,6 +113,8 @@ call_line lane (calls.Accept timer) = of_numbers forms.Accept (lane ∷ timer �
 call_line lane (calls.Overrun timer) = of_numbers forms.Overrun (lane ∷ timer ∷ [])
 call_line lane (calls.Read timer len) = of_numbers forms.Read (lane ∷ timer ∷ len ∷ [])
 call_line lane (calls.Readable timer) = of_numbers forms.Readable (lane ∷ timer ∷ [])
+call_line lane (calls.Offline base heir budget) = of_numbers forms.Offline (lane ∷ base ∷ heir ∷ budget ∷ [])
+call_line lane (calls.Online base) = of_numbers forms.Online (lane ∷ base ∷ [])
 
 -- the lines of a round: one that begins it, and its calls in order
 abbrev pub round_lines : Round → List Line
@@ -159,20 +161,23 @@ abbrev pub IsGivenMode : Mode → Type 0
 IsGivenMode modes.Keep = ⊥
 IsGivenMode mode = Unit
 
--- a call is of a timer and on a base that exist, and suits the timer's kind
-abbrev pub IsCallInRange : ℕ → List Declaration → Call → Type 0
-IsCallInRange bases timers (calls.Start timer request) =
+-- a lane's call is of a timer and on a base that exist, and suits the timer's kind; lane 0 alone takes a base off line, with a lower one as its heir,
+-- and on line again
+abbrev pub IsCallInRange : ℕ → ℕ → List Declaration → Call → Type 0
+IsCallInRange lane bases timers (calls.Start timer request) =
     HasTimerFor timers timer forms.Start × (request.base < bases) × IsGivenMode request.mode
-IsCallInRange bases timers (calls.Cancel timer) = HasTimerFor timers timer forms.Cancel
-IsCallInRange bases timers (calls.Peek timer) = HasTimerFor timers timer forms.Peek
-IsCallInRange bases timers (calls.Expire context base budget) = (base < bases) × (budget ≤ most_budget)
-IsCallInRange bases timers (calls.Clock write) = Unit
-IsCallInRange bases timers (calls.Settime timer flags value interval) = HasTimerFor timers timer forms.Settime
-IsCallInRange bases timers (calls.Gettime timer) = HasTimerFor timers timer forms.Gettime
-IsCallInRange bases timers (calls.Accept timer) = HasTimerFor timers timer forms.Accept
-IsCallInRange bases timers (calls.Overrun timer) = HasTimerFor timers timer forms.Overrun
-IsCallInRange bases timers (calls.Read timer len) = HasTimerFor timers timer forms.Read
-IsCallInRange bases timers (calls.Readable timer) = HasTimerFor timers timer forms.Readable
+IsCallInRange lane bases timers (calls.Cancel timer) = HasTimerFor timers timer forms.Cancel
+IsCallInRange lane bases timers (calls.Peek timer) = HasTimerFor timers timer forms.Peek
+IsCallInRange lane bases timers (calls.Expire context base budget) = (base < bases) × (budget ≤ most_budget)
+IsCallInRange lane bases timers (calls.Clock write) = Unit
+IsCallInRange lane bases timers (calls.Settime timer flags value interval) = HasTimerFor timers timer forms.Settime
+IsCallInRange lane bases timers (calls.Gettime timer) = HasTimerFor timers timer forms.Gettime
+IsCallInRange lane bases timers (calls.Accept timer) = HasTimerFor timers timer forms.Accept
+IsCallInRange lane bases timers (calls.Overrun timer) = HasTimerFor timers timer forms.Overrun
+IsCallInRange lane bases timers (calls.Read timer len) = HasTimerFor timers timer forms.Read
+IsCallInRange lane bases timers (calls.Readable timer) = HasTimerFor timers timer forms.Readable
+IsCallInRange lane bases timers (calls.Offline base heir budget) = (lane ≡ 0) × (base < bases) × (heir < base) × (budget ≤ most_budget)
+IsCallInRange lane bases timers (calls.Online base) = (lane ≡ 0) × (base < bases)
 
 -- lines are of forms that a version has
 abbrev pub HasForms : Version → List Line → Type 0
@@ -188,7 +193,7 @@ pub record IsInRange (s : Script) : Type 0 where
   pub kinds : AllByRecursion (λ d. IsKindInRange s.bases d.kind) s.timers
   pub count : length (all_calls s.rounds) ≤ most_calls
   pub callers : AllByRecursion (λ c. c.lane < s.lanes) (all_calls s.rounds)
-  pub calls : AllByRecursion (λ c. IsCallInRange s.bases s.timers c.call) (all_calls s.rounds)
+  pub calls : AllByRecursion (λ c. IsCallInRange c.lane s.bases s.timers c.call) (all_calls s.rounds)
 
 -- ---- reading
 

@@ -1,4 +1,4 @@
--- What a script of the first version never asks for: a slack, or the soft context.
+-- What a script of the first version never asks for: a slack, the soft context, or a base off line.
 use Rattle.std.specs.Prelude.{◌≡◌, None}
 use Rattle.std.specs.List.{AllByRecursion}
 use Rattle.seq_timer.specs.declared.context.Context.TheVariants as contexts
@@ -8,10 +8,12 @@ use Rattle.script_text.specs.declared.script.Script.{Script}
 use Rattle.script_text.specs.Declarations.{context_of}
 use Rattle.script_text.specs.Scripts.{all_calls}
 
--- a call asks for no slack, and runs no callbacks of the soft context
+-- a call asks for no slack, runs no callbacks of the soft context, and takes no base off line
 abbrev pub IsHardCall : Call → Type 0
 IsHardCall (calls.Start timer request) = request.slack ≡ None
 IsHardCall (calls.Expire context base budget) = context ≡ contexts.Hard
+IsHardCall (calls.Offline base heir budget) = ⊥
+IsHardCall (calls.Online base) = ⊥
 IsHardCall call = Unit
 
 -- each timer of a script is of the hard context, and each of its calls asks for no more

@@ -37,6 +37,8 @@ pub enum Form {
     Overrun,
     Read,
     Readable,
+    Offline,
+    Online,
 }
 
 /// What a field of a line is filled with: the name of a clock, a mode of starting, or a number that
@@ -52,8 +54,12 @@ pub enum Field {
     /// The number of the timer that is declared.
     NewTimer,
     Lane,
+    /// The first lane, which alone may be named here.
+    FirstLane,
     Timer,
     Base,
+    /// A base below the one that the line has named.
+    Heir,
     Budget,
     /// A number without a limit of its own.
     Free,
@@ -92,6 +98,8 @@ const CLOCK: Option<Field> = Some(Field::Clock);
 const NEW_TIMER: Option<Field> = Some(Field::NewTimer);
 
 const LANE: Option<Field> = Some(Field::Lane);
+
+const FIRST_LANE: Option<Field> = Some(Field::FirstLane);
 
 const TIMER: Option<Field> = Some(Field::Timer);
 
@@ -143,6 +151,14 @@ impl Form {
             Form::Overrun => &[LANE, KEY, TIMER],
             Form::Read => &[LANE, KEY, TIMER, FREE],
             Form::Readable => &[LANE, KEY, TIMER],
+            Form::Offline => &[
+                FIRST_LANE,
+                KEY,
+                BASE,
+                Some(Field::Heir),
+                Some(Field::Budget),
+            ],
+            Form::Online => &[FIRST_LANE, KEY, BASE],
         }
     }
 
@@ -151,7 +167,12 @@ impl Form {
         ensures { result ≡ since self }
     {
         match self {
-            Form::SoftOnce | Form::SoftEvery | Form::StartRange | Form::SoftExpire => Version::Two,
+            Form::SoftOnce
+            | Form::SoftEvery
+            | Form::StartRange
+            | Form::SoftExpire
+            | Form::Offline
+            | Form::Online => Version::Two,
             _ => Version::One,
         }
     }

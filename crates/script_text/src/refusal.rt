@@ -34,6 +34,8 @@ pub enum Cause {
     BadId,
     /// No timer has this number.
     NoTimer,
+    /// A base that can't take the timers of another, whose number isn't greater.
+    HeirLimit,
     BudgetLimit,
     /// The call isn't for a timer of this kind.
     WrongKind,
@@ -57,7 +59,7 @@ impl Cause {
     {
         name_of!(self;
             TooLong BadByte BadSpace UnknownWord WordCount BadNumber BadPlace TimerLimit CallLimit
-            Version BaseLimit LaneLimit EventLimit BadId NoTimer BudgetLimit WrongKind Unfinished
+            Version BaseLimit LaneLimit EventLimit BadId NoTimer HeirLimit BudgetLimit WrongKind Unfinished
         )
     }
 }

@@ -95,6 +95,16 @@ pub enum Call {
     Readable {
         timer: u32,
     },
+    /// Takes the base off line, and moves at most so many timers to the heir.
+    Offline {
+        base: u32,
+        heir: u32,
+        budget: u64,
+    },
+    /// Brings the base on line again.
+    Online {
+        base: u32,
+    },
 }
 
 /// A call line: the lane that makes the call, and the call.

@@ -11,8 +11,11 @@ use Rattle.seq_timer.specs.declared.context.Terms.{Terms}
 use Rattle.ktime.specs.declared.clock_id.ClockId.TheVariants as clocks
 use Rattle.seq_timer.specs.Events.{Event}
 use Rattle.seq_timer.specs.Effects.{effect}
+use Rattle.seq_timer.specs.declared.system.BaseEntry.{BaseEntry}
+use Rattle.seq_timer.specs.declared.system.SystemEntry.{SystemEntry}
+use Rattle.seq_timer.specs.declared.system.SystemEntry.TheVariants as entries
 use Rattle.seq_timer.specs.declared.system.TimerEntry.{TimerEntry}
-use Rattle.seq_timer.specs.Steps.{Timer, after, greatest_limit, limited, opening}
+use Rattle.seq_timer.specs.Steps.{Timer, HasRoom, after, limited, opening}
 use Rattle.seq_timer.specs.Tables.{in_context, is_context, no_declared, runs_on, seen_in, timer_at}
 use Rattle.timer_queue.specs.Pairs.{expiry_of, IsByExpiry}
 use Rattle.seq_timer.specs.declared.context.Context.{Context}
@@ -20,12 +23,12 @@ use Rattle.seq_timer.specs.declared.context.Context.TheVariants as contexts
 use Rattle.seq_timer.specs.Halves.{IsHalfOf, generation_in, no_half, queue_of, running_on, wanted}
 use Rattle.seq_timer.specs.Contents.{IsContentOf, content_after, half_of, no_content}
 use Rattle.seq_timer.specs.Histories as seq
-use Rattle.seq_timer.specs.Systems.{AreSystemSteps, BaseContent, BeginsInTurn, IsFresh, IsSystemHistory, IsSystemStep, System, after_entries, after_entry, changed, entries_of, first_system, openings, system_after, system_of}
+use Rattle.seq_timer.specs.Systems.{AreSystemSteps, BaseContent, BeginsInTurn, IsFresh, IsSystemHistory, IsSystemStep, MayCome, System, after_entries, after_entry, after_one, after_shift, changed, entries_of, first_system, openings, system_after, system_of}
 use Rattle.seq_timer.proofs.Effects.{IsApart, free_by}
 use Rattle.seq_timer.proofs.Halves.{Changes, apart-after}
 use Rattle.seq_timer.proofs.Contents.{IsContentOf-after, IsContentOf-elsewhere, seen_else, seen_here, seen_own}
 use Rattle.seq_timer.proofs.Limits.{soft-after_all, stamp-after_all}
-use Rattle.seq_timer.proofs.Systems.{after_entries-entries_of, base_else, base_here, timer_else, timer_here}
+use Rattle.seq_timer.proofs.Systems.{after_entries-entries_of, all_timers_shift, base_else, base_here, content_shift, timer_else, timer_here}
 
 -- the bases agree with the timers, and who is on the move is neither armed nor runs
 pub record Agrees (w : System) : Type 0 where
@@ -56,7 +59,7 @@ module _ (bases count : ℕ) where
             ∙ content_of_changed id t e.event (w.bases t.base)))
             (IsContentOf-after w.timers w'.timers id e.event changes (w.bases t.base).content ok.needs (agrees.apart id)
             (free_by (BeginsInTurn (w.bases t.base) id t) bases (half_of t.declared.context (w.bases t.base).content) (λ reading begins. begins.0)
-            (effect t e.event).function (effect t e.event).sent ok.base) (agrees.contents t.base))))
+            (effect t e.event).function (effect t e.event).sent ok.base.needs) (agrees.contents t.base))))
             (λ n. subst (λ (x : BaseContent). IsContentOf w'.timers b x.content) (sym (base_else w e b n))
             (IsContentOf-elsewhere w.timers w'.timers id e.event changes b (w.bases b).content ok.needs n (agrees.contents b)))
             (cases_eq b t.base);
@@ -67,14 +70,26 @@ module _ (bases count : ℕ) where
             (cases_eq k id);
       }
 
-  agrees_all : (w : System) (log : List TimerEntry) → AreSystemSteps bases count w log → Agrees w → Agrees (after_entries w log)
+  pub agrees_shift : (w : System) (c : BaseEntry) → Agrees w → Agrees (after_shift w c)
+  agrees_shift w c agrees = record {
+    contents = λ b. subst (λ x. IsContentOf x b ((after_shift w c).bases b).content) (sym (all_timers_shift w c))
+        (subst (λ x. IsContentOf w.timers b x) (sym (content_shift w c b)) (agrees.contents b));
+    apart = λ t. subst (λ x. IsApart (x t)) (sym (all_timers_shift w c)) (agrees.apart t);
+  }
+
+  pub agrees_one : (w : System) (x : SystemEntry) → MayCome bases count w x → Agrees w → Agrees (after_one w x)
+  agrees_one w (entries.Timer e) ok agrees = agrees_next w e ok agrees
+  agrees_one w (entries.Base c) ok agrees = agrees_shift w c agrees
+
+  agrees_all : (w : System) (log : List SystemEntry) → AreSystemSteps bases count w log → Agrees w → Agrees (after_entries w log)
   agrees_all w [] all agrees = agrees
-  agrees_all w (e ∷ es) all agrees = agrees_all (after_entry w e) es all.1 (agrees_next w e all.0 agrees)
+  agrees_all w (x ∷ xs) all agrees = agrees_all (after_one w x) xs all.1 (agrees_one w x all.0 agrees)
 
   -- each timer's part is steps of that timer
-  pub parts : (w : System) (log : List TimerEntry) → AreSystemSteps bases count w log → (t : ℕ) → seq.AreSteps (w.timers t) (entries_of t log)
+  pub parts : (w : System) (log : List SystemEntry) → AreSystemSteps bases count w log → (t : ℕ) → seq.AreSteps (w.timers t) (entries_of t log)
   parts w [] all t = tt
-  parts w (e ∷ es) all t =
+  parts w (entries.Base c ∷ es) all t = subst (λ x. seq.AreSteps (x t) (entries_of t es)) (all_timers_shift w c) (parts (after_shift w c) es all.1 t)
+  parts w (entries.Timer e ∷ es) all t =
       let rest : seq.AreSteps ((after_entry w e).timers t) (entries_of t es) = parts (after_entry w e) es all.1 t in
       let here : seq.Entry = record { event = e.event; reply = e.reply } in
       ⊎_elim
@@ -135,15 +150,15 @@ agrees_first opened fresh = record {
     no_one x b id = idle b (in_context x (timer_at opened) id) (still x id).1
 
 -- and after every history of them
-pub agrees : (bases : ℕ) (opened : List Timer) (log : List TimerEntry) → ((t : ℕ) → IsFresh (timer_at opened t))
+pub agrees : (bases : ℕ) (opened : List Timer) (log : List SystemEntry) → ((t : ℕ) → IsFresh (timer_at opened t))
     → AreSystemSteps bases (length opened) (first_system opened) log → Agrees (system_after opened log)
 agrees bases opened log fresh all = agrees_all bases (length opened) (first_system opened) log all (agrees_first opened fresh)
 
--- each timer is first as it was declared
+-- each timer is first as it was declared, and what stands for one that isn't there has a limit alone
 opening_at : (list : List Declared) (terms : Terms) (t : ℕ) → (clock : Declared) × (most : Terms) × (timer_at (openings list terms) t ≡ opening clock most)
-    × (most.limit ≤ terms.limit ⊎ (most.limit ≡ 1))
+    × (most ≡ terms ⊎ (most ≡ limited 1))
 opening_at [] terms t = (no_declared, limited 1, refl, inr refl)
-opening_at (clock ∷ rest) terms zero = (clock, terms, refl, inl (omega arith))
+opening_at (clock ∷ rest) terms zero = (clock, terms, refl, inl refl)
 opening_at (clock ∷ rest) terms (suc t) = opening_at rest terms t
 
 pub opened_at : (list : List Declared) (terms : Terms) (t : ℕ) (clock : Declared) → slice_get list t ≡ Some clock
@@ -158,11 +173,11 @@ fresh_opening clock terms = record { armed = refl; running = refl; still = refl;
 pub all_fresh : (list : List Declared) (terms : Terms) (t : ℕ) → IsFresh (timer_at (openings list terms) t)
 all_fresh list terms t = let o = opening_at list terms t in subst IsFresh (sym o.2) (fresh_opening o.0 o.1)
 
-pub limits_within : (list : List Declared) (terms : Terms) → terms.limit ≤ greatest_limit → (t : ℕ)
-    → (timer_at (openings list terms) t).terms.limit ≤ greatest_limit
-limits_within list terms few t =
+pub rooms_within : (list : List Declared) (terms : Terms) → HasRoom terms → (t : ℕ) → HasRoom (timer_at (openings list terms) t).terms
+rooms_within list terms room t =
     let o = opening_at list terms t in
-    subst (λ (x : Timer). x.terms.limit ≤ greatest_limit) (sym o.2) (⊎_elim (λ less. omega (arith, less, few)) (λ one. omega (arith, one)) o.3)
+    subst (λ (x : Timer). HasRoom x.terms) (sym o.2)
+    (⊎_elim (λ same. subst HasRoom (sym same) room) (λ none. subst HasRoom (sym none) (record { few = omega arith; far = λ some. omega (arith, some) })) o.3)
 
 pub first_stamp : (list : List Declared) (terms : Terms) (t : ℕ) → (timer_at (openings list terms) t).stamp ≡ 0
 first_stamp list terms t = ap (λ (x : Timer). x.stamp) (opening_at list terms t).2
@@ -170,7 +185,7 @@ first_stamp list terms t = ap (λ (x : Timer). x.stamp) (opening_at list terms t
 pub first_agrees : (list : List Declared) (terms : Terms) → Agrees (first_system (openings list terms))
 first_agrees list terms = agrees_first (openings list terms) (all_fresh list terms)
 
-module _ (bases : ℕ) (terms : Terms) (list : List Declared) (log : List TimerEntry) (history : IsSystemHistory bases list terms log) where
+module _ (bases : ℕ) (terms : Terms) (list : List Declared) (log : List SystemEntry) (history : IsSystemHistory bases list terms log) where
   pub part_legal : (t : ℕ) (clock : Declared) → slice_get list t ≡ Some clock → seq.IsLegal clock terms (entries_of t log)
   part_legal t clock here = subst (λ x. seq.AreSteps x (entries_of t log)) (opened_at list terms t clock here)
       (parts bases (length list) (first_system (openings list terms)) log history t)
@@ -196,7 +211,7 @@ module _ (bases : ℕ) (terms : Terms) (list : List Declared) (log : List TimerE
       one_only None base t u x y a b first second = grind (arith, nat_tests)
       one_only (Some r) base t u x y a b first second = grind (arith, nat_tests)
 
-pub stamp_counts : (terms : Terms) (list : List Declared) (log : List TimerEntry) (t : ℕ)
+pub stamp_counts : (terms : Terms) (list : List Declared) (log : List SystemEntry) (t : ℕ)
     → ((system_of list terms log).timers t).stamp ≡ length (entries_of t log)
 stamp_counts terms list log t =
     let first = first_system (openings list terms) in
@@ -209,7 +224,7 @@ stamp_counts terms list log t =
     )
 
 -- a timer's soft expiry is no later than its expiry, also as a context sees it
-pub soft_within : (terms : Terms) (list : List Declared) (log : List TimerEntry) (t : ℕ)
+pub soft_within : (terms : Terms) (list : List Declared) (log : List SystemEntry) (t : ℕ)
     → ((system_of list terms log).timers t).soft ≤ ((system_of list terms log).timers t).expires
 soft_within terms list log t =
     let first = first_system (openings list terms) in
@@ -217,7 +232,7 @@ soft_within terms list log t =
     subst (λ (x : Timer). x.soft ≤ x.expires) (sym (after_entries-entries_of first t log))
     (soft-after_all (first.timers t) (entries_of t log) (subst (λ (x : Timer). x.soft ≤ x.expires) (sym o.2) (omega arith)))
 
-pub soft_within_context : (terms : Terms) (list : List Declared) (log : List TimerEntry) (x : Context) (t : ℕ)
+pub soft_within_context : (terms : Terms) (list : List Declared) (log : List SystemEntry) (x : Context) (t : ℕ)
     → (in_context x (system_of list terms log).timers t).soft ≤ (in_context x (system_of list terms log).timers t).expires
 soft_within_context terms list log x t = ⊎_elim
     (λ own. subst (λ (k : Timer). k.soft ≤ k.expires) (sym (seen_here x ((system_of list terms log).timers t) own)) (soft_within terms list log t))

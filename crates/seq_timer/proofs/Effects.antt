@@ -16,7 +16,7 @@ use Rattle.seq_timer.specs.declared.effect.RunEffect.TheVariants as functions
 use Rattle.seq_timer.specs.Events.{Event}
 use Rattle.seq_timer.specs.declared.event.EventBy.TheVariants as events
 use Rattle.seq_timer.specs.Effects.{NeedsOfBases, effect}
-use Rattle.seq_timer.specs.Steps.{Timer, Needs, after, arms_again, entries_left, expiry_from, reply_to}
+use Rattle.seq_timer.specs.Steps.{Timer, Needs, after, arms_again, entries_left, expiry_from, most_entries, reply_to}
 use Rattle.seq_timer.specs.Halves.{Half, IsFreeFor, wanted}
 use Rattle.seq_timer.specs.Histories.{told_in}
 
@@ -40,7 +40,7 @@ IsApart t = t.moving ≡ true → (t.armed ≡ None) × (t.running ≡ None)
 
 -- the timer has so many entries left, and isn't both on the move and armed or running
 pub record HasLeft (t : Timer) : Type 0 where
-  pub few : t.stamp + entries_left t ≤ t.terms.limit + 3
+  pub few : t.stamp + entries_left t ≤ most_entries t.terms
   pub apart : t.moving && (is_some t.armed || is_some t.running) ≡ false
 
 -- a timer whose function runs isn't on the move
@@ -112,7 +112,7 @@ RunNeeds functions.Ends by_claimer t now = MayEnd by_claimer t now
 -- what is needed of a timer that is sent: it has no function running, and is then neither armed nor running; one that isn't is on the move no more
 abbrev pub SentNeeds : Option ℕ → Timer → Timer → Type 0
 SentNeeds None t now = IsApart t → now.moving ≡ false
-SentNeeds (Some base) t now = (t.running ≡ None) × (t.moving ≡ false) × (now.armed ≡ None) × (now.running ≡ None)
+SentNeeds (Some base) t now = (t.running ≡ None) × (now.armed ≡ None) × (now.running ≡ None)
 
 -- what an event needs
 pub record NeedsBy (t now : Timer) (d : Effect) : Type 0 where
@@ -165,7 +165,7 @@ by_effect t (events.Out base) = record {
   needs = λ needs. record {
     queue = tt;
     function = tt;
-    sent = (none_of t.running needs.0, needs.1, refl, none_of t.running needs.0);
+    sent = (none_of t.running needs.0, refl, none_of t.running needs.0);
     left = λ left. record { few = grind (arith, nat_tests, needs, left.few, left.apart); apart = grind (arith, nat_tests, needs) };
   };
 }

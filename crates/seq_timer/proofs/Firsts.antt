@@ -13,7 +13,7 @@ use Rattle.seq_timer.specs.Steps.{Timer}
 use Rattle.seq_timer.specs.Tables.{IsNextDue, IsStopped, in_context, is_armed_on, is_context, no_timer, rank, seen_in, timer_at}
 use Rattle.seq_timer.specs.Halves.{Half, IsHalfOf, IsQueueOf, first_in, reached}
 use Rattle.seq_timer.specs.Contents.{Content, IsContentOf, first_due, half_of}
-use Rattle.seq_timer.specs.declared.system.TimerEntry.{TimerEntry}
+use Rattle.seq_timer.specs.declared.system.SystemEntry.{SystemEntry}
 use Rattle.seq_timer.specs.Systems.{AreSystemSteps, BaseContent, IsFresh, IsOn, first_system, next_on, system_after}
 use Rattle.seq_timer.proofs.Agreement.{agrees}
 use Rattle.seq_timer.proofs.Systems.{shows, untouched}
@@ -70,7 +70,7 @@ module _ (x : Context) (timers : ℕ → Timer) (base : ℕ) (reading : ClockRea
 pub on_armed : (base : ℕ) (t : Timer) → is_armed_on base t ≡ true → IsOn base t
 on_armed base t armed = record { at = grind (arith, nat_tests); still = grind (arith, nat_tests) }
 
-module _ (bases : ℕ) (opened : List Timer) (log : List TimerEntry) (fresh : (t : ℕ) → IsFresh (timer_at opened t))
+module _ (bases : ℕ) (opened : List Timer) (log : List SystemEntry) (fresh : (t : ℕ) → IsFresh (timer_at opened t))
     (all : AreSystemSteps bases (length opened) (first_system opened) log) (base : ℕ) (x : Context) where
   abbrev timers_then : ℕ → Timer
   timers_then = (system_after opened log).timers

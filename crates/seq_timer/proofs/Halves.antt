@@ -29,7 +29,7 @@ apart-after t e needs apart = by_sent (effect t e).sent ((by_effect t e).needs n
   where
     by_sent : (sent : Option ℕ) → SentNeeds sent t (after t e) → IsApart (after t e)
     by_sent None still moves = absurd (true≢false (sym moves ∙ still apart))
-    by_sent (Some base) told moves = (told.2, told.3)
+    by_sent (Some base) told moves = (told.1, told.2)
 
 wanted-armed : (clock : ClockId) (t : Timer) → is_some t.armed ≡ true → t.moving ≡ false
     → wanted t.base clock t ≡ (if nat_eq (rank t.clock) (rank clock) then Some t.expires else None)
@@ -155,7 +155,7 @@ running-queued id now c queues.Armed = running-enqueued now.clock now.expires id
 runs_on-same : (t now : Timer) (sent : Option ℕ) → IsSent sent t now → SentNeeds sent t now → now.running ≡ t.running
     → running_on t.base now ≡ running_on t.base t
 runs_on-same t now None is needs same = λ i. if nat_eq (is.0 i) t.base then same i else None
-runs_on-same t now (Some base) is needs same = running_on-none t.base now needs.3 ∙ sym (running_on-none t.base t needs.0)
+runs_on-same t now (Some base) is needs same = running_on-none t.base now needs.2 ∙ sym (running_on-none t.base t needs.0)
 
 running-after : (f g : ℕ → Timer) (id : ℕ) (now : Timer) (c new : Half) (r : RunEffect) (by_claimer : Bool) → Changes f g id now → new.running ≡ c.running
     → now.running ≡ running_afterwards r (f id) → RunNeeds r by_claimer (f id) now → IsFreeFor c r
@@ -199,7 +199,7 @@ far-after t e base needs far = by_sent (effect t e).sent (by_effect t e).sent ((
     by_sent None is told =
         let off = λ (same : base ≡ (after t e).base). far (same ∙ is.0) in
         ((λ clock. wanted-elsewhere base clock (after t e) off), running_on-elsewhere base (after t e) off)
-    by_sent (Some to) is told = ((λ clock. wanted-unarmed base clock (after t e) told.2), running_on-none base (after t e) told.3)
+    by_sent (Some to) is told = ((λ clock. wanted-unarmed base clock (after t e) told.1), running_on-none base (after t e) told.2)
 
 pub IsHalfOf-elsewhere : (f g : ℕ → Timer) (id : ℕ) (e : Event) (base : ℕ) (c : Half) → Needs (f id) e → base ≢ (f id).base
     → Changes f g id (after (f id) e) → IsHalfOf f base c → IsHalfOf g base c

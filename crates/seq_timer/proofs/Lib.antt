@@ -5,8 +5,10 @@ pub mod Effects
 pub mod Halves
 pub mod Due
 pub mod Firsts
+pub mod Fronts
 pub mod Generations
 pub mod Limits
+pub mod OffLine
 pub mod Queues
 pub mod Spans
 pub mod StepKinds

@@ -1,9 +1,12 @@
 -- A timer's stamp counts its entries, and a history ends soon after the limit.
-use Rattle.std.proofs.Common.{◌≡◌, ◌+◌, ◌<◌, ◌≤◌, ◌^◌, List, [], ◌∷◌, length, arith, refl, ap}
+use Rattle.std.proofs.Common.{◌≡◌, ◌+◌, ◌<◌, ◌≤◌, ◌^◌, ℕ, List, [], ◌∷◌, length, arith, refl, ap}
+use Rattle.std.proofs.Math.Logic.{⊎_elim}
+use Rattle.std.proofs.lemmas.Bool.{cases_lt}
+use Rattle.std.proofs.lemmas.Bool.Decides.{nat_tests}
 use Rattle.seq_timer.specs.declared.context.Declared.{Declared}
 use Rattle.seq_timer.specs.declared.context.Terms.{Terms}
 use Rattle.seq_timer.specs.Events.{Event}
-use Rattle.seq_timer.specs.Steps.{Timer, opening, Needs, after, greatest_limit}
+use Rattle.seq_timer.specs.Steps.{Timer, HasRoom, opening, Needs, after, most_entries}
 use Rattle.seq_timer.specs.Histories.{Entry, AreSteps, IsLegal, after_all, state_after}
 use Rattle.seq_timer.proofs.Effects.{HasLeft, by_effect}
 
@@ -23,20 +26,33 @@ stamp-after_all t (e ∷ es) =
 pub stamp-state_after : (clock : Declared) (terms : Terms) (history : List Entry) → (state_after clock terms history).stamp ≡ length history
 stamp-state_after clock terms history = let counted = stamp-after_all (opening clock terms) history in omega (arith, counted)
 
-pub few_entries : (t : Timer) (history : List Entry) → AreSteps t history → HasLeft t → t.stamp + length history ≤ t.terms.limit + 3
+pub few_entries : (t : Timer) (history : List Entry) → AreSteps t history → HasLeft t → t.stamp + length history ≤ most_entries t.terms
 few_entries t [] steps left = let few = left.few in omega (arith, few)
 few_entries t (e ∷ es) steps left =
     let rest = few_entries (after t e.event) es steps.2 (left-after t e.event steps.0 left) in
     let counted = stamp-after t e.event in
-    omega (arith, rest, counted.0, counted.1)
+    omega (arith, rest, counted.0, ap most_entries (by_effect t e.event).terms)
 
-pub legal_few : (clock : Declared) (terms : Terms) (history : List Entry) → IsLegal clock terms history → length history ≤ terms.limit + 3
-legal_few clock terms history legal = let few = few_entries (opening clock terms) history legal
-    (record { few = omega arith; apart = refl }) in omega (arith, few)
+pub legal_most : (clock : Declared) (terms : Terms) (history : List Entry) → IsLegal clock terms history → length history ≤ most_entries terms
+legal_most clock terms history legal =
+    let few = few_entries (opening clock terms) history legal (record { few = grind (arith, nat_tests); apart = refl }) in omega (arith, few)
 
-pub legal_short : (clock : Declared) (terms : Terms) (history : List Entry) → terms.limit ≤ greatest_limit → IsLegal clock terms history
-    → length history < 2 ^ 48
-legal_short clock terms history most legal = let few = legal_few clock terms history legal in omega (arith, few, most)
+-- with no reach, and with any
+pub legal_few : (clock : Declared) (terms : Terms) (history : List Entry) → terms.reach ≡ 0 → IsLegal clock terms history → length history ≤ terms.limit + 3
+legal_few clock terms history none legal = let few = legal_most clock terms history legal in grind (arith, nat_tests, few)
+
+pub legal_within : (clock : Declared) (terms : Terms) (history : List Entry) → IsLegal clock terms history → length history ≤ terms.limit + terms.reach + 80
+legal_within clock terms history legal = let few = legal_most clock terms history legal in grind (arith, nat_tests, few)
+
+-- a timer on terms that leave room has a stamp that a word can hold
+pub small_entries : (terms : Terms) (n : ℕ) → HasRoom terms → n ≤ most_entries terms → n < 2 ^ 48
+small_entries terms n room few = ⊎_elim
+    (λ (some : 0 < terms.reach). let far = room.far some in grind (arith, nat_tests, few))
+    (λ none. let less = room.few in grind (arith, nat_tests, few))
+    (cases_lt 0 terms.reach)
+
+pub legal_short : (clock : Declared) (terms : Terms) (history : List Entry) → HasRoom terms → IsLegal clock terms history → length history < 2 ^ 48
+legal_short clock terms history room legal = small_entries terms (length history) room (legal_most clock terms history legal)
 
 -- ---- the soft expiry is no later than the other
 

@@ -13,6 +13,9 @@ use Rattle.timer_queue.specs.Pairs.{IsByExpiry, expiry_of, first_of, has_id, put
 use Rattle.timer_queue.proofs.Pairs.{IsByExpiry-without, expiry_of-first, has_id-expiry_of}
 use Rattle.seq_timer.specs.Events.{Event}
 use Rattle.seq_timer.specs.declared.event.EventBy.TheVariants as events
+use Rattle.seq_timer.specs.declared.system.BaseEntry.{BaseEntry}
+use Rattle.seq_timer.specs.declared.system.SystemEntry.{SystemEntry}
+use Rattle.seq_timer.specs.declared.system.SystemEntry.TheVariants as entries
 use Rattle.seq_timer.specs.declared.system.TimerEntry.{TimerEntry}
 use Rattle.seq_timer.specs.declared.effect.QueueEffect.{QueueEffect}
 use Rattle.seq_timer.specs.declared.effect.QueueEffect.TheVariants as queues
@@ -23,15 +26,16 @@ use Rattle.seq_timer.specs.declared.context.Context.{Context}
 use Rattle.seq_timer.specs.declared.context.Context.TheVariants as contexts
 use Rattle.seq_timer.specs.Halves.{Half, IsHalfOf, dequeued, generation_in, half_after, queue_of, queued_by, reached, requeued, running_on, wanted}
 use Rattle.seq_timer.specs.Contents.{content_after, first_due, half_of, no_content, running_in}
-use Rattle.seq_timer.specs.Systems.{AreSystemSteps, BaseContent, FitsBase, IsSystemHistory, IsSystemStep, System, after_entries, after_entry, armed_after, armed_in, arms, first_system, next_on, openings, system_of, updated}
-use Rattle.seq_timer.specs.Turns.{IsTurn, MayFollow}
-use Rattle.seq_timer.proofs.Agreement.{Agrees, agrees_next, all_agree, all_fresh, content_of_changed, first_agrees}
+use Rattle.seq_timer.specs.Systems.{AreSystemSteps, BaseContent, FitsBase, IsClear, IsSystemHistory, MayCome, System, after_entries, after_entry, after_one, after_shift, armed_after, armed_in, arms, first_system, next_on, openings, system_of, updated}
+use Rattle.seq_timer.specs.Turns.{IsTurn, MayFollow, MayStandBehind}
+use Rattle.seq_timer.proofs.Agreement.{Agrees, agrees_next, agrees_shift, all_agree, all_fresh, content_of_changed, first_agrees}
 use Rattle.seq_timer.proofs.Halves.{wanted-elsewhere}
 use Rattle.seq_timer.proofs.Contents.{half_of-else, half_of-here, same_context, seen_else, seen_here, seen_own}
 use Rattle.seq_timer.proofs.Due.{expiry-kept, first_reached, or_some, rank-injective}
 use Rattle.seq_timer.proofs.Firsts.{first_due-next, next_on-seen}
+use Rattle.seq_timer.proofs.OffLine.{all_clear, online_named, unused}
 use Rattle.seq_timer.proofs.Queues.{has_id-without, queue_of-dequeued, queue_of-enqueued, queue_of-run_by}
-use Rattle.seq_timer.proofs.Systems.{base_else, base_here, steps_part, updated_else, updated_here}
+use Rattle.seq_timer.proofs.Systems.{base_else, base_here, content_shift, steps_part, updated_else, updated_here}
 
 -- each of the pairs that expires when the first does was armed later
 abbrev Behind : (ℕ → ℕ) → ℕ × ℕ → List (ℕ × ℕ) → Type 0
@@ -215,11 +219,20 @@ module _ (bases timers : ℕ) where
             | false ↦ o.each b x clock
           ]
 
-  pub ordered_all : (w : System) (armed : ℕ → ℕ) (count : ℕ) (log : List TimerEntry) → AreSystemSteps bases timers w log → Agrees w
+  ordered_shift : (w : System) (armed : ℕ → ℕ) (count : ℕ) (c : BaseEntry) → Ordered w armed count → Ordered (after_shift w c) armed (count + 1)
+  ordered_shift w armed count c o = record {
+    below = λ k. omega (arith, o.below k);
+    each = λ b x clock. subst (λ k. InOrder armed (queue_of (half_of x k) clock)) (sym (content_shift w c b)) (o.each b x clock);
+  }
+
+  pub ordered_all : (w : System) (armed : ℕ → ℕ) (count : ℕ) (log : List SystemEntry) → AreSystemSteps bases timers w log → Agrees w
       → Ordered w armed count → Ordered (after_entries w log) (armed_after w armed count log) (count + length log)
   ordered_all w armed count [] all agrees o = subst (λ n. Ordered w armed n) (omega arith) o
-  ordered_all w armed count (e ∷ es) all agrees o =
-      subst (λ n. Ordered (after_entries w (e ∷ es)) (armed_after w armed count (e ∷ es)) n) (omega arith)
+  ordered_all w armed count (entries.Base c ∷ es) all agrees o =
+      subst (λ n. Ordered (after_entries (after_shift w c) es) (armed_after (after_shift w c) armed (count + 1) es) n) (omega arith)
+      (ordered_all (after_shift w c) armed (count + 1) es all.1 (agrees_shift bases timers w c agrees) (ordered_shift w armed count c o))
+  ordered_all w armed count (entries.Timer e ∷ es) all agrees o =
+      subst (λ n. Ordered (after_entries w (entries.Timer e ∷ es)) (armed_after w armed count (entries.Timer e ∷ es)) n) (omega arith)
       (ordered_all (after_entry w e) (if arms (w.timers e.timer) e.event then updated armed e.timer (count + 1) else armed)
       (count + 1) es all.1 (agrees_next bases timers w e all.0 agrees) (ordered_next w armed count e agrees o))
 
@@ -282,17 +295,17 @@ module _ (w : System) (agrees : Agrees w) (base t : ℕ) (reading : ClockReading
       ((((agrees.contents base).each x).queues (w.timers t).clock).exact u
       ∙ (ap (λ b. if b then Some (seen_in x (w.timers u)).expires else None) kept ∙ ap (λ e. Some e) same))
 
-pub step_at : (bases timers : ℕ) (w : System) (before later : List TimerEntry) (e : TimerEntry) → AreSystemSteps bases timers w (before ++ e ∷ later)
-    → IsSystemStep bases timers (after_entries w before) e
-step_at bases timers w [] later e all = all.0
-step_at bases timers w (x ∷ xs) later e all = step_at bases timers (after_entry w x) xs later e all.1
+pub step_at : (bases timers : ℕ) (w : System) (before later : List SystemEntry) (x : SystemEntry) → AreSystemSteps bases timers w (before ++ x ∷ later)
+    → MayCome bases timers (after_entries w before) x
+step_at bases timers w [] later x all = all.0
+step_at bases timers w (y ∷ ys) later x all = step_at bases timers (after_one w y) ys later x all.1
 
 no_one_runs : (running : Option (ℕ × ℕ)) (base u : ℕ) (t : Timer) → running ≡ None → generation_in u running ≡ running_on base t → runs_on base t ≡ false
 no_one_runs None base u t none is = grind (arith, nat_tests, is)
 no_one_runs (Some r) base u t none is = cc
 
-module _ (bases : ℕ) (terms : Terms) (list : List Declared) (before later : List TimerEntry) (e : TimerEntry)
-    (history : IsSystemHistory bases list terms (before ++ e ∷ later)) where
+module _ (bases : ℕ) (terms : Terms) (list : List Declared) (before later : List SystemEntry) (e : TimerEntry)
+    (history : IsSystemHistory bases list terms (before ++ entries.Timer e ∷ later)) where
   -- a claim takes the timer whose turn it is
   turn : (base : ℕ) (reading : ClockReading) → e.event ≡ events.Claim base reading
       → IsTurn (in_context ((system_of list terms before).timers e.timer).declared.context (system_of list terms before).timers)
@@ -301,13 +314,13 @@ module _ (bases : ℕ) (terms : Terms) (list : List Declared) (before later : Li
       let first = first_system (openings list terms) in
       let w = system_of list terms before in
       let t = w.timers e.timer in
-      let part = steps_part bases (length list) first before (e ∷ later) history in
-      let step = step_at bases (length list) first before later e history in
+      let part = steps_part bases (length list) first before (entries.Timer e ∷ later) history in
+      let step = step_at bases (length list) first before later (entries.Timer e) history in
       let there : t.base ≡ base = sym (subst (λ x. Needs t x) is step.needs).1 in
       let x = t.declared.context in
       let fits : (running_in x (w.bases base).content ≡ None) × (next_on x (w.bases base) reading ≡ Some (t.expires, e.timer)) =
       subst (λ b. (running_in x (w.bases b).content ≡ None) × (next_on x (w.bases b) reading ≡ Some (t.expires, e.timer))) there
-      (subst (λ x. FitsBase bases (w.bases t.base) e.timer t x) is step.base) in
+      (subst (λ x. FitsBase bases (w.bases t.base) e.timer t x) is step.base).needs in
       let agrees = all_agree bases terms list before part in
       let whole = subst (λ n. AreSystemSteps bases n first before) (sym (length-map list (λ d. opening d terms))) part in
       let first_is : first_due x w.timers (w.bases base).content reading ≡ Some (t.expires, e.timer) =
@@ -333,12 +346,28 @@ module _ (bases : ℕ) (terms : Terms) (list : List Declared) (before later : Li
 
   pub may_follow : MayFollow bases list terms before e
   may_follow =
-      let step = step_at bases (length list) (first_system (openings list terms)) before later e history in
+      let step = step_at bases (length list) (first_system (openings list terms)) before later (entries.Timer e) history in
       let w = system_of list terms before in
+      let part = steps_part bases (length list) (first_system (openings list terms)) before (entries.Timer e ∷ later) history in
       record {
         within = step.within;
         needs = step.needs;
         reply = step.reply;
-        sent = λ base is. subst (λ x. FitsBase bases (w.bases (w.timers e.timer).base) e.timer (w.timers e.timer) x) is step.base;
+        sent = λ base is. (subst (λ x. FitsBase bases (w.bases (w.timers e.timer).base) e.timer (w.timers e.timer) x) is step.base).needs;
+        online = online_named bases (length list) w e step (all_agree bases terms list before part) (all_clear bases terms list before part);
         turn = turn;
+      }
+
+module _ (bases : ℕ) (terms : Terms) (list : List Declared) (before later : List SystemEntry) where
+  pub may_stand_behind : (x : SystemEntry) → IsSystemHistory bases list terms (before ++ x ∷ later) → MayStandBehind bases list terms before x
+  may_stand_behind (entries.Timer e) history = may_follow bases terms list before later e history
+  may_stand_behind (entries.Base c) history =
+      let w = system_of list terms before in
+      let step = step_at bases (length list) (first_system (openings list terms)) before later (entries.Base c) history in
+      let part = steps_part bases (length list) (first_system (openings list terms)) before (entries.Base c ∷ later) history in
+      record {
+        within = step.within;
+        may = step.may;
+        clear = λ heir is. unused w (all_agree bases terms list before part) c.base (subst (λ x. IsClear (w.bases c.base) x) is step.clear);
+        reach = step.reach;
       }

@@ -6,7 +6,7 @@ use Rattle.std.specs.List.{IsDistinct}
 use Rattle.ktime.specs.declared.clock_id.ClockId.{ClockId}
 use Rattle.ktime.specs.declared.clock_id.ClockId.TheVariants as clocks
 use Rattle.ktime.specs.Readings.{ClockReading}
-use Rattle.timer_queue.specs.Pairs.{expiry_of, put, without, IsByExpiry}
+use Rattle.timer_queue.specs.Pairs.{expiry_of, first_of, put, without, IsByExpiry}
 use Rattle.seq_timer.specs.Events.{Event}
 use Rattle.seq_timer.specs.declared.effect.QueueEffect.{QueueEffect}
 use Rattle.seq_timer.specs.declared.effect.QueueEffect.TheVariants as queues
@@ -42,6 +42,10 @@ reached timers now (p ∷ ps) = if nat_le (timers p.1).soft now then Some p else
 abbrev pub first_in : (ℕ → Timer) → Half → ClockReading → Option (ℕ × ℕ)
 first_in timers c reading =
     option_or (reached timers reading.mono c.monotonic) (option_or (reached timers reading.real c.realtime) (reached timers reading.boot c.boottime))
+
+-- the first pair of the first queue, in the order of the clocks, that isn't empty
+abbrev pub front_in : Half → Option (ℕ × ℕ)
+front_in c = option_or (first_of c.monotonic) (option_or (first_of c.realtime) (first_of c.boottime))
 
 -- ---- what an event makes of the base that its timer is on
 

@@ -6,6 +6,8 @@ pub mod Events
 pub mod Halves
 pub mod Histories
 pub mod Laws
+pub mod Moves
+pub mod Standings
 pub mod Steps
 pub mod Systems
 pub mod Tables

@@ -66,9 +66,20 @@ expiry_from modes.Rel ns clock reading = sat (value_of clock reading + ns)
 abbrev pub arms_again : Timer → Bool → Bool
 arms_again t restart = restart && not (is_some t.armed) && nat_lt t.stamp t.terms.limit
 
+-- a timer with a reach is sent to bases below this number only; so one start has at most so many Outs
+abbrev pub most_bases : ℕ
+most_bases = 64
+
+-- whether a timer may be sent to a base. With no reach: one that rests, below its limit. With a reach, and to a base of a lower number than 64: one that
+-- rests, below its limit, and so far past it as its reach goes where it is armed; and one that is on its way, to a base of a lower number
+abbrev pub may_send : Timer → ℕ → Bool
+may_send t base = if nat_lt 0 t.terms.reach
+    then nat_lt base most_bases && (if t.moving then nat_lt base t.base else nat_lt t.stamp (t.terms.limit + (if is_some t.armed then t.terms.reach else 0)))
+    else not t.moving && nat_lt t.stamp t.terms.limit
+
 -- what an event needs
 abbrev pub Needs : Timer → Event → Type 0
-Needs t (events.Out base) = IsNone t.running × (t.moving ≡ false) × (base ≡ t.base → ⊥) × (t.stamp < t.terms.limit)
+Needs t (events.Out base) = IsNone t.running × (base ≡ t.base → ⊥) × (may_send t base ≡ true)
 Needs t (events.Start asked) = (IsSome t.running ⊎ (asked.base ≡ t.base)) × ((t.stamp < t.terms.limit) ⊎ (t.moving ≡ true))
 Needs t events.Cancel = IsSome t.armed × IsNone t.running × (t.moving ≡ false)
 Needs t (events.Claim base reading) = IsSome t.armed × (base ≡ t.base) × IsNone t.running × (t.moving ≡ false) × (t.soft ≤ now_of t reading)
@@ -150,16 +161,26 @@ reply_to t (events.Finish restart) = finish_reply t restart
 abbrev pub greatest_limit : ℕ
 greatest_limit = 2 ^ 48 - 16
 
--- how many entries can follow once the limit is reached
+-- how many entries can follow once the limit, and the reach past it, are reached
 abbrev pub entries_left : Timer → ℕ
-entries_left t = if t.moving then 3 else (if is_some t.armed then 2 else 0) + (if is_some t.running then 1 else 0)
+entries_left t = if t.moving then 3 + (if nat_lt 0 t.terms.reach then t.base else 0)
+    else (if is_some t.armed then 2 else 0) + (if is_some t.running then 1 else 0)
+
+-- no timer on these terms has more entries
+abbrev pub most_entries : Terms → ℕ
+most_entries terms = terms.limit + 3 + (if nat_lt 0 terms.reach then terms.reach + most_bases else 0)
+
+-- the limit and the reach leave room for the stamp in a word
+pub record HasRoom (terms : Terms) : Type 0 where
+  pub few : terms.limit ≤ greatest_limit
+  pub far : 0 < terms.reach → terms.limit + terms.reach + 80 < 2 ^ 48
 
 -- what holds of a timer at all times: the stamp stays near its limit, the expiry within time and no earlier than the soft one, generations are
 -- numbers of entries, and a timer on the move is neither armed nor running
 pub record IsBounded (t : Timer) : Type 0 where
-  pub limit : t.terms.limit ≤ greatest_limit
+  pub room : HasRoom t.terms
   pub some : 0 < t.terms.limit
-  pub stamp : t.stamp + entries_left t ≤ t.terms.limit + 3
+  pub stamp : t.stamp + entries_left t ≤ most_entries t.terms
   pub expires : t.expires ≤ last_time
   pub soft : t.soft ≤ t.expires
   pub armed : unwrap_or t.armed 0 ≤ t.stamp

@@ -80,3 +80,8 @@ pub record IsNextDue (timers : ℕ → Timer) (base : ℕ) (reading : ClockReadi
   pub due : is_due_on base reading (timers id) ≡ true
   pub ahead : (clock : ClockId) → nat_lt (rank clock) (rank (timers id).clock) ≡ true → IsStopped timers base reading clock
   pub smaller : (other : ℕ) → is_smaller base (timers id).clock (timers id).expires (timers other) ≡ false
+
+-- no timer is armed on a base, and no function runs there
+pub record IsUnused (timers : ℕ → Timer) (base : ℕ) : Type 0 where
+  pub unarmed : (t : ℕ) → is_armed_on base (timers t) ≡ false
+  pub idle : (t : ℕ) → runs_on base (timers t) ≡ false

@@ -1,12 +1,18 @@
--- The history of all timers by the timers alone: no base's queue, and nothing else that a library keeps, stands in it.
-use Rattle.std.specs.Prelude.{ℕ, ◌≡◌, ◌≢◌, ◌<◌, true, false, List, ◌∷◌, ◌++◌, length}
+-- The history of all timers and bases by the timers and standings alone: no base's queue, and nothing else that a library keeps, stands in it.
+use Rattle.std.specs.Prelude.{ℕ, ◌≡◌, ◌≢◌, ◌<◌, true, false, None, List, ◌∷◌, ◌++◌, length}
 use Rattle.seq_timer.specs.declared.context.Declared.{Declared}
 use Rattle.seq_timer.specs.declared.context.Terms.{Terms}
 use Rattle.ktime.specs.Readings.{ClockReading}
+use Rattle.seq_timer.specs.Events.{Event}
 use Rattle.seq_timer.specs.declared.event.EventBy.TheVariants as events
+use Rattle.seq_timer.specs.declared.standing.BaseEvent.TheVariants as shifts
+use Rattle.seq_timer.specs.declared.system.BaseEntry.{BaseEntry}
+use Rattle.seq_timer.specs.declared.system.SystemEntry.{SystemEntry}
+use Rattle.seq_timer.specs.declared.system.SystemEntry.TheVariants as entries
 use Rattle.seq_timer.specs.declared.system.TimerEntry.{TimerEntry}
-use Rattle.seq_timer.specs.Steps.{Timer, Needs, reply_to}
-use Rattle.seq_timer.specs.Tables.{IsNextDue, in_context, is_kept_on, runs_on}
+use Rattle.seq_timer.specs.Standings.{MayShift}
+use Rattle.seq_timer.specs.Steps.{Timer, Needs, arms_again, reply_to}
+use Rattle.seq_timer.specs.Tables.{IsNextDue, IsUnused, in_context, is_kept_on, runs_on}
 use Rattle.seq_timer.specs.Systems.{armed_in, system_of}
 
 -- It is a timer's turn on a base: no function runs there, the timer is the next to expire there, and of those that are kept on its clock for the same
@@ -16,16 +22,41 @@ pub record IsTurn (timers : ℕ → Timer) (armed : ℕ → ℕ) (base : ℕ) (r
   pub next : IsNextDue timers base reading t
   pub ties : (u : ℕ) → u ≢ t → is_kept_on base (timers t).clock (timers u) ≡ true → (timers u).expires ≡ (timers t).expires → armed t < armed u
 
--- an entry may stand behind these: it is a step of one of the timers, which is sent to one of the bases, and claimed in its turn
-pub record MayFollow (bases : ℕ) (declareds : List Declared) (terms : Terms) (before : List TimerEntry) (e : TimerEntry) : Type 0 where
+-- an event of a timer names a base: it is a start, a claim, or a finish that arms again, of a timer on that base
+abbrev pub Names : ℕ → Timer → Event → Type 0
+Names base t (events.Out to) = ⊥
+Names base t (events.Start asked) = t.base ≡ base
+Names base t events.Cancel = ⊥
+Names base t (events.Claim on reading) = t.base ≡ base
+Names base t (events.Forward reading interval) = ⊥
+Names base t (events.Finish restart) = (t.base ≡ base) × (arms_again t restart ≡ true)
+
+-- an entry of a timer may stand behind these: it is a step of one of the timers, which is sent to one of the bases, names none that is off line, and is
+-- claimed in its turn
+pub record MayFollow (bases : ℕ) (declareds : List Declared) (terms : Terms) (before : List SystemEntry) (e : TimerEntry) : Type 0 where
   pub within : e.timer < length declareds
   pub needs : Needs ((system_of declareds terms before).timers e.timer) e.event
   pub reply : e.reply ≡ reply_to ((system_of declareds terms before).timers e.timer) e.event
   pub sent : (base : ℕ) → e.event ≡ events.Out base → base < bases
+  pub online : (base : ℕ) → Names base ((system_of declareds terms before).timers e.timer) e.event
+      → ((system_of declareds terms before).bases base).standing.heir ≡ None
   pub turn : (base : ℕ) (reading : ClockReading) → e.event ≡ events.Claim base reading
       → IsTurn (in_context ((system_of declareds terms before).timers e.timer).declared.context (system_of declareds terms before).timers)
       (armed_in declareds terms before) base reading e.timer
 
+-- and an entry of a base: it goes by turns, and off line where no timer is armed on it and no function runs there, and each timer has a reach
+pub record MayShiftAfter (bases : ℕ) (declareds : List Declared) (terms : Terms) (before : List SystemEntry) (c : BaseEntry) : Type 0 where
+  pub within : c.base < bases
+  pub may : MayShift c.base ((system_of declareds terms before).bases c.base).standing c.event
+  pub clear : (heir : ℕ) → c.event ≡ shifts.Offline heir → IsUnused (system_of declareds terms before).timers c.base
+  pub reach : (t : ℕ) → t < length declareds → 0 < ((system_of declareds terms before).timers t).terms.reach
+
+-- an entry of a timer or of a base
+abbrev pub MayStandBehind : ℕ → List Declared → Terms → List SystemEntry → SystemEntry → Type 0
+MayStandBehind bases declareds terms before (entries.Timer e) = MayFollow bases declareds terms before e
+MayStandBehind bases declareds terms before (entries.Base c) = MayShiftAfter bases declareds terms before c
+
 -- each entry may stand behind those before it
-abbrev pub IsInTurn : ℕ → List Declared → Terms → List TimerEntry → Type 0
-IsInTurn bases declareds terms log = (before later : List TimerEntry) (e : TimerEntry) → log ≡ before ++ e ∷ later → MayFollow bases declareds terms before e
+abbrev pub IsInTurn : ℕ → List Declared → Terms → List SystemEntry → Type 0
+IsInTurn bases declareds terms log = (before later : List SystemEntry) (x : SystemEntry) → log ≡ before ++ x ∷ later
+    → MayStandBehind bases declareds terms before x

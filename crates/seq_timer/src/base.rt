@@ -1,7 +1,7 @@
 //! A base: for each context the queues of the timers that are armed on it, and the timer whose function runs there.
 ghost use Rattle.std.specs.Prelude.{◌≡◌, ◌<◌, ◌≤◌, IfOk, length};
 ghost use Rattle.seq_timer.specs.Bases.{BaseState, IsQueuedAs, base_after, empty_base};
-ghost use Rattle.seq_timer.specs.Contents.{first_due, running_in};
+ghost use Rattle.seq_timer.specs.Contents.{first_due, front_of, running_in};
 ghost use Rattle.seq_timer.specs.Steps.{Needs, after, reply_to};
 ghost use Rattle.seq_timer.specs.Tables.{timer_at};
 
@@ -65,6 +65,15 @@ impl<Q: Queue> Base<Q> {
             Context::Hard => self.hard.first(timers, reading),
             Context::Soft => self.soft.first(timers, reading),
         }
+    }
+
+    /// The timer that an evacuation moves next, with its expiry: the first of the first queue that isn't empty. The hard context's queues stand
+    /// before the soft one's.
+    pub fn front(&self) -> Option<(u64, u32)>
+        ensures { result ≡ front_of self.now.content }
+    {
+        let hard = self.hard.front();
+        hard.or(self.soft.front())
     }
 
     /// Makes one entry of a timer that is on this base: steps the timer, and the base with it.

@@ -1,7 +1,7 @@
 //! What a base has for one context: the queues of the timers that are armed on it, and the timer whose function runs there.
 ghost use Rattle.std.specs.Prelude.{◌≡◌, ◌<◌, ◌≤◌, ℕ, IfOk, length};
 ghost use Rattle.seq_timer.specs.Bases.{HalfState, IsInNone, IsQueuedIn, half_state_after, empty_half};
-ghost use Rattle.seq_timer.specs.Halves.{dequeued, enqueued, first_in, queued_by, reached, requeued, run_by};
+ghost use Rattle.seq_timer.specs.Halves.{dequeued, enqueued, first_in, front_in, queued_by, reached, requeued, run_by};
 ghost use Rattle.seq_timer.specs.Steps.{Needs, after, reply_to};
 ghost use Rattle.seq_timer.specs.Tables.{timer_at};
 
@@ -63,6 +63,16 @@ impl<Q: Queue> Half<Q> {
         let first = due(&self.monotonic, timers, reading.mono);
         let second = due(&self.realtime, timers, reading.real);
         let third = due(&self.boottime, timers, reading.boot);
+        first.or(second.or(third))
+    }
+
+    /// The first timer of the first queue that isn't empty, with its expiry.
+    pub fn front(&self) -> Option<(u64, u32)>
+        ensures { result ≡ front_in self.now.half }
+    {
+        let first = self.monotonic.first();
+        let second = self.realtime.first();
+        let third = self.boottime.first();
         first.or(second.or(third))
     }
 

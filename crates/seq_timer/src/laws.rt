@@ -6,7 +6,9 @@ ghost use Rattle.seq_timer.specs.declared.context.Terms.{Terms};
 ghost use Rattle.seq_timer.specs.declared.observation.Observation.TheVariants as seen;
 ghost use Rattle.seq_timer.specs.Histories.{Entry, HoldsAt, IsLegal, spans_of, state_after};
 ghost use Rattle.seq_timer.specs.Laws.{AreApart, IsInOne, IsOfOneGeneration, is_cancelled, is_claimed};
-ghost use Rattle.seq_timer.specs.Steps.{greatest_limit};
+ghost use Rattle.ktime.specs.Readings.{ClockReading};
+ghost use Rattle.seq_timer.specs.Moves.{IsMovedTo, moved};
+ghost use Rattle.seq_timer.specs.Steps.{HasRoom, IsBounded, Timer};
 
 /// A generation that a cancel has answered is never claimed, neither before nor after: its function doesn't run.
 pub fn a_cancelled_generation_never_runs()
@@ -34,8 +36,14 @@ pub fn a_stamp_counts_entries()
     ensures { (declared : Declared) (terms : Terms) (history : List Entry) → IsLegal declared terms history → (state_after declared terms history).stamp ≡ length history }
 {}
 
-/// Few entries follow once the limit is reached.
+/// Few entries follow once the limit is reached, and once the reach past it is.
 pub fn histories_end()
-    ensures limit { (declared : Declared) (terms : Terms) (history : List Entry) → IsLegal declared terms history → length history ≤ terms.limit + 3 }
-    ensures stamp { (declared : Declared) (terms : Terms) (history : List Entry) → terms.limit ≤ greatest_limit → IsLegal declared terms history → length history < 2 ^ 48 }
+    ensures limit { (declared : Declared) (terms : Terms) (history : List Entry) → terms.reach ≡ 0 → IsLegal declared terms history → length history ≤ terms.limit + 3 }
+    ensures reach { (declared : Declared) (terms : Terms) (history : List Entry) → IsLegal declared terms history → length history ≤ terms.limit + terms.reach + 80 }
+    ensures stamp { (declared : Declared) (terms : Terms) (history : List Entry) → HasRoom terms → IsLegal declared terms history → length history < 2 ^ 48 }
+{}
+
+/// A timer that an evacuation moves is armed once more, on the heir, for the same times of the same clock.
+pub fn a_move_keeps_the_expiry()
+    ensures { (t : Timer) (heir : ℕ) (reading : ClockReading) → IsBounded t → IsMovedTo heir t (moved heir reading t) }
 {}

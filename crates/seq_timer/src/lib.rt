@@ -7,13 +7,15 @@ pub use context::{Context, Declared, Terms, all_hard};
 pub use effect::{Effect, QueueEffect, RunEffect};
 pub use event::{Asked, AskedBy, Event, EventBy, Moved, Placement, Reply, Restarted};
 pub use laws::{
-    a_cancelled_generation_never_runs, a_span_has_one_generation, a_stamp_counts_entries,
-    histories_end, running_is_told_inside_the_span, spans_do_not_overlap,
+    a_cancelled_generation_never_runs, a_move_keeps_the_expiry, a_span_has_one_generation,
+    a_stamp_counts_entries, histories_end, running_is_told_inside_the_span, spans_do_not_overlap,
 };
 pub use observation::{Observation, Peek};
+pub use standing::{BaseEvent, Standing};
 pub use system::{
-    TimerEntry, bases_agree_with_timers, each_claim_is_in_turn, each_part_is_legal,
-    no_expiry_is_missed, one_function_runs_on_a_base, stamps_count_entries,
+    BaseEntry, SystemEntry, TimerEntry, an_off_line_base_is_unused, bases_agree_with_timers,
+    each_base_goes_by_turns, each_claim_is_in_turn, each_part_is_legal, no_expiry_is_missed,
+    one_function_runs_on_a_base, stamps_count_entries, the_front_is_armed,
 };
 pub use timer_state::{TimerState, make_timers};
 
@@ -25,5 +27,6 @@ mod event;
 mod half;
 mod laws;
 mod observation;
+mod standing;
 mod system;
 mod timer_state;

@@ -5,7 +5,7 @@ ghost use Rattle.seq_timer.specs.declared.event.EventBy.TheVariants as events;
 ghost use Rattle.seq_timer.specs.declared.event.Reply.TheVariants as replies;
 ghost use Rattle.seq_timer.specs.Effects.{effect, restart_effect};
 ghost use Rattle.seq_timer.specs.Histories.{peek_of};
-ghost use Rattle.seq_timer.specs.Steps.{Timer, IsBounded, Needs, after, placement_of, finish_reply, finished, forward_reply, forwarded, greatest_limit, opening, reply_to, start_reply, started};
+ghost use Rattle.seq_timer.specs.Steps.{Timer, HasRoom, IsBounded, Needs, after, placement_of, finish_reply, finished, forward_reply, forwarded, opening, reply_to, start_reply, started};
 ghost use Rattle.seq_timer.specs.Systems.{openings};
 
 use crate::context::{Declared, Terms};
@@ -42,7 +42,7 @@ impl TimerState {
     /// A timer of which nothing has happened yet.
     pub fn make(declared: Declared, terms: Terms) -> TimerState
         requires some { 0 < terms.limit }
-        requires few { terms.limit ≤ greatest_limit }
+        requires room { HasRoom terms }
         ensures { result ≡ opening declared terms }
     {
         TimerState {
@@ -136,6 +136,13 @@ impl TimerState {
         ensures { result ≡ self.now.terms.limit }
     {
         self.terms.limit
+    }
+
+    /// How many entries past the limit an evacuation may make; 0 where there are no evacuations.
+    pub fn reach(&self) -> u64
+        ensures { result ≡ self.now.terms.reach }
+    {
+        self.terms.reach
     }
 
     /// What holds of a timer at all times.
@@ -317,7 +324,8 @@ pub fn make_timers(
     declareds: &[Declared],
     terms: Terms,
 ) -> Result<Vec<TimerState>, AllocError>
-    requires limit { (0 < terms.limit) × (terms.limit ≤ greatest_limit) }
+    requires some { 0 < terms.limit }
+    requires room { HasRoom terms }
     ensures timers { IfOk result (λ v. v.items ≡ openings declareds.now terms) }
     ensures len { IfOk result (λ v. length v.items ≡ length declareds.now) }
 {

@@ -1,28 +1,27 @@
 -- Entries that passes have made, added up.
-use Rattle.std.proofs.Common.{◌≡◌, ℕ, ◌+◌, ◌^◌, ◌≢◌, false, true, eqb, ◌&&◌, List, [], ◌∷◌, length, refl, ap, sym, ◌∙◌, subst, length-append, arith}
-use Rattle.std.specs.Prelude.{Bool, if◌then◌else◌}
+use Rattle.std.proofs.Common.{◌≡◌, ℕ, ◌+◌, ◌≢◌, eqb, ◌&&◌, List, [], ◌∷◌, length, refl, ap, sym, ◌∙◌, subst, length-append, arith}
 use Rattle.std.proofs.lemmas.Bool.{ne_eqb}
-use Rattle.std.proofs.lemmas.Nat.{pow_pos}
-use Rattle.ktime.specs.declared.mode.Mode.TheVariants as modes
-use Rattle.ktime.specs.Readings.{ClockReading}
 use Rattle.pass_names.specs.Counts.{count, one_if}
 use Rattle.pass_names.specs.Passes.{is_place, places}
 use Rattle.pass_names.proofs.Counts.{total-append}
 use Rattle.pass_names.proofs.Passes.{begins_refl, begins_trans, places_of_one}
-use Rattle.seq_timer.specs.declared.event.EventBy.TheVariants as events
-use Rattle.seq_timer.specs.declared.event.Placement.{Placement}
+use Rattle.seq_timer.specs.Events.{Asked}
 use Rattle.seq_timer.specs.declared.observation.Peek.{Peek}
-use Rattle.seq_timer.specs.declared.system.TimerEntry.{TimerEntry}
+use Rattle.seq_timer.specs.declared.system.SystemEntry.{SystemEntry}
 use Rattle.seq_timer.specs.Histories as seq
 use Rattle.seq_timer.specs.Steps.{Timer}
 use Rattle.seq_timer.specs.Systems.{entries_of}
 use Rattle.seq_timer.specs.Tables.{timer_at}
 use Rattle.seq_timer.proofs.Limits.{stamp-after_all}
-use Rattle.seq_timer.specs.Calls.{asked_for, moves_first, entries_along}
 use Rattle.base_row.specs.declared.view.Opening.{Opening}
-use Rattle.hr_timers.specs.declared.answer.StartAnswer.TheVariants as starts
+use Rattle.base_row.specs.Logs.{all_pushed, receipts_of}
+use Rattle.base_row.specs.declared.log.Receipt.{Receipt}
+use Rattle.hr_timers.specs.declared.answer.StartAnswer.{StartAnswer}
 use Rattle.hr_timers.specs.Known.{HasEachPlace, KnownOfTimers, MadeAt, timer_then}
-use Rattle.hr_timers.specs.Calls.{Peeks, StartsTimer}
+use Rattle.hr_timers.specs.Calls.{Peeks, start_entries}
+use Rattle.hr_timers.specs.Logged.{StartsLogged}
+use Rattle.shared_timer_uses.specs.Counting.{counted}
+use Rattle.shared_timer_uses.specs.declared.sink.Counted.{Counted}
 use Rattle.shared_timer_uses.specs.Callers.{MakesEntries, known_timer}
 use Rattle.hr_timers.proofs.Moments.{timer_after, timer_own}
 use Rattle.shared_timer_uses.proofs.Knowing.{no_places}
@@ -42,7 +41,7 @@ places_else t n i m (e ∷ es) apart =
       ap (λ b. one_if (b && eqb (n + 1) m)) (ne_eqb t i (λ e. apart (sym e))),
     )
 
-pub makes_made : (v w : KnownOfTimers) (t : ℕ) (x : List TimerEntry) (es : List seq.Entry) → MadeAt v w t x es → w.claims ≡ v.claims → MakesEntries t (length es) v w
+pub makes_made : (v w : KnownOfTimers) (t : ℕ) (x : List SystemEntry) (es : List seq.Entry) → MadeAt v w t x es → w.claims ≡ v.claims → MakesEntries t (length es) v w
 makes_made v w t x es made claims =
     let own = places t (length (entries_of t x)) es in
     record {
@@ -63,41 +62,30 @@ makes_made v w t x es made claims =
 
 -- ---- starts
 
-abbrev along : Timer → ℕ → ℕ → ClockReading → Bool → List seq.Entry
-along u ns asked reading b =
-    let start = events.Start (asked_for modes.Rel ns 0 asked reading) in
-    entries_along u (if b then events.Out asked ∷ start ∷ [] else start ∷ [])
+-- a sink that counts has counted as many as it was given
+pub all_counted : (s : Counted) (rs : List Receipt) → (all_pushed counted s rs).made ≡ s.made + length rs
+all_counted s [] = omega arith
+all_counted s (r ∷ rs) = omega (arith, all_counted (counted s r) rs)
 
-stays : (u : Timer) (ns asked : ℕ) (reading : ClockReading) (b : Bool) → (if b then 2 ^ asked else 0) ≡ 0 → length (along u ns asked reading b) ≡ 1
-stays u ns asked reading false is = refl
-stays u ns asked reading true is = absurd (omega (arith, is, pow_pos asked))
+receipts_length : (t n : ℕ) (es : List seq.Entry) → length (receipts_of t n es) ≡ length es
+receipts_length t n [] = refl
+receipts_length t n (e ∷ es) = omega (arith, receipts_length t (n + 1) es)
 
-moves : (u : Timer) (ns asked : ℕ) (reading : ClockReading) (b : Bool) → ((if b then 2 ^ asked else 0) ≡ 0 → ⊥) → length (along u ns asked reading b) ≡ 2
-moves u ns asked reading true is = refl
-moves u ns asked reading false is = absurd (is refl)
-
-same_outs : (a b : Bool) (g n e f : ℕ) (k l : Placement) → starts.Started a g e k ≡ starts.Started b n f l → e ≡ f
-same_outs a b g n e f k l is = cc
-
-module _ (o : Opening) (v w : KnownOfTimers) (t ns asked : ℕ) (reading : ClockReading) where
-  pub start_stays : (was : Bool) (g outs : ℕ) (placement : Placement) → outs ≡ 0
-      → StartsTimer o v w t (asked_for modes.Rel ns 0 asked reading) (starts.Started was g outs placement) → MakesEntries t 1 v w
-  start_stays was g outs placement none s =
-      let u = timer_then o s.at t in
-      subst (λ n. MakesEntries t n v w)
-      (stays u ns asked reading (moves_first u asked) (sym (same_outs _ _ _ _ _ _ _ _ s.fits.2) ∙ none))
-      (makes_made v w t s.at _ s.made s.claims)
-
-  pub start_moves : (was : Bool) (g outs : ℕ) (placement : Placement) → (outs ≡ 0 → ⊥)
-      → StartsTimer o v w t (asked_for modes.Rel ns 0 asked reading) (starts.Started was g outs placement) → MakesEntries t 2 v w
-  start_moves was g outs placement some s =
-      let u = timer_then o s.at t in
-      subst (λ n. MakesEntries t n v w)
-      (moves u ns asked reading (moves_first u asked) (λ e. some (same_outs _ _ _ _ _ _ _ _ s.fits.2 ∙ e)))
-      (makes_made v w t s.at _ s.made s.claims)
-
-  pub start_refused : (n : ℕ) → StartsTimer o v w t (asked_for modes.Rel ns 0 asked reading) (starts.Spent n) → MakesEntries t 0 v w
-  start_refused n s = makes_made v w t s.at [] s.made s.claims
+-- a start has made as many entries as it gave receipts of
+pub start_makes : (o : Opening) (v w : KnownOfTimers) (t : ℕ) (asked : Asked) (a : StartAnswer) (s s' : Counted) → s.made ≡ 0
+    → StartsLogged counted o v w t asked a s s' → MakesEntries t s'.made v w
+start_makes o v w t asked a s s' none l =
+    let r = l.starts in
+    let u = timer_then o r.at t in
+    let es = start_entries u asked r.sent r.last a in
+    subst (λ n. MakesEntries t n v w)
+    (omega (
+      arith,
+      ap (λ (k : Counted). k.made) l.logged,
+      all_counted s (receipts_of t u.stamp es),
+      receipts_length t u.stamp es,
+      none,
+    )) (makes_made v w t r.at es r.made r.claims)
 
 -- ---- threads
 

@@ -1,6 +1,6 @@
 -- What a pass knows of a timer after calls on it.
-use Rattle.std.proofs.Common.{◌≡◌, ℕ, ◌+◌, ◌≤◌, List, [], ◌∷◌, ◌++◌, length, refl, ap, sym, ◌∙◌, subst, true, false, arith, length-append}
-use Rattle.std.specs.Prelude.{Bool, Some, if◌then◌else◌}
+use Rattle.std.proofs.Common.{◌≡◌, ℕ, ◌+◌, ◌≤◌, List, [], ◌∷◌, ◌++◌, length, refl, ap, sym, ◌∙◌, subst, arith, length-append}
+use Rattle.std.specs.Prelude.{Bool, Some}
 use Rattle.std.proofs.lemmas.List.{append-nil}
 use Rattle.ktime.specs.declared.mode.Mode.TheVariants as modes
 use Rattle.ktime.specs.Readings.{ClockReading}
@@ -8,7 +8,7 @@ use Rattle.ktime.specs.Times.{sat}
 use Rattle.pass_names.specs.Passes.{Begins, places}
 use Rattle.seq_timer.specs.declared.event.EventBy.TheVariants as events
 use Rattle.seq_timer.specs.declared.event.Placement.{Placement}
-use Rattle.seq_timer.specs.declared.system.TimerEntry.{TimerEntry}
+use Rattle.seq_timer.specs.declared.system.SystemEntry.{SystemEntry}
 use Rattle.seq_timer.specs.Histories as seq
 use Rattle.seq_timer.specs.Steps.{Timer, after, now_of, reply_to}
 use Rattle.seq_timer.specs.Systems.{AreSystemSteps, entries_of, first_system}
@@ -16,22 +16,24 @@ use Rattle.seq_timer.specs.Tables.{timer_at}
 use Rattle.seq_timer.proofs.Agreement.{parts}
 use Rattle.seq_timer.specs.declared.answer.CancelAnswer.{CancelAnswer}
 use Rattle.seq_timer.specs.declared.answer.CancelAnswer.TheVariants as cancels
-use Rattle.seq_timer.specs.Calls.{asked_for, moves_first, start_events, step_all}
+use Rattle.seq_timer.specs.Calls.{asked_for, step_all}
 use Rattle.base_row.specs.declared.view.Opening.{Opening}
 use Rattle.base_row.proofs.Begun.{entries_of-begins}
 use Rattle.hr_timers.specs.declared.answer.StartAnswer.TheVariants as starts
 use Rattle.hr_timers.specs.Known.{KnownOfTimers, MadeAt, timer_then}
 use Rattle.hr_timers.specs.Calls.{Cancels, StartsTimer}
+use Rattle.hr_timers.specs.Ways.{start_on}
+use Rattle.hr_timers.proofs.Answered.{start_tells}
 use Rattle.hr_timers.proofs.Moments.{along, timer_after, timer_own}
 use Rattle.shared_timer_uses.specs.Callers.{known_timer}
 
 -- ---- entries
 
 -- no place is added where no entry is made
-pub no_places : (v w : KnownOfTimers) (t : ℕ) (x : List TimerEntry) → MadeAt v w t x [] → w.mine ≡ v.mine
+pub no_places : (v w : KnownOfTimers) (t : ℕ) (x : List SystemEntry) → MadeAt v w t x [] → w.mine ≡ v.mine
 no_places v w t x made = made.mine ∙ append-nil v.mine
 
-pub one_place : (v w : KnownOfTimers) (t : ℕ) (x : List TimerEntry) (e : seq.Entry) → MadeAt v w t x (e ∷ []) → length w.mine ≡ length v.mine + 1
+pub one_place : (v w : KnownOfTimers) (t : ℕ) (x : List SystemEntry) (e : seq.Entry) → MadeAt v w t x (e ∷ []) → length w.mine ≡ length v.mine + 1
 one_place v w t x e made = omega (arith, ap length made.mine, length-append v.mine (places t (length (entries_of t x)) (e ∷ [])))
 
 -- the reply of an entry is that of its step
@@ -39,7 +41,7 @@ reply_there : (t : Timer) (xs ys : List seq.Entry) (e : seq.Entry) → seq.AreSt
 reply_there t [] ys e all = all.1
 reply_there t (x ∷ xs) ys e all = reply_there (after t x.event) xs ys e all.2
 
-pub reply_made : (o : Opening) (v w : KnownOfTimers) (t : ℕ) (x log : List TimerEntry) (e : seq.Entry) → MadeAt v w t x (e ∷ []) → Begins w.seen log
+pub reply_made : (o : Opening) (v w : KnownOfTimers) (t : ℕ) (x log : List SystemEntry) (e : seq.Entry) → MadeAt v w t x (e ∷ []) → Begins w.seen log
     → AreSystemSteps o.bases (length o.timers) (first_system o.timers) log → e.reply ≡ reply_to (timer_then o x t) e.event
 reply_made o v w t x log e made begins history =
     let own = entries_of-begins t w.seen log begins in
@@ -50,38 +52,32 @@ reply_made o v w t x log e made begins history =
 
 -- ---- start
 
-abbrev started_now : Timer → ℕ → ℕ → ClockReading → Bool → Timer
-started_now t ns asked reading b =
-    let start = events.Start (asked_for modes.Rel ns 0 asked reading) in
-    step_all t (if b then events.Out asked ∷ start ∷ [] else start ∷ [])
+module _ (ns asked : ℕ) (reading : ClockReading) where
+  -- a timer after a start that was sent to these bases
+  abbrev started_now : Timer → List ℕ → ℕ → Timer
+  started_now t sent last = step_all t (start_on (asked_for modes.Rel ns 0 asked reading) sent last)
 
-now_armed : (t : Timer) (ns asked : ℕ) (reading : ClockReading) (b : Bool) →
-    (started_now t ns asked reading b).armed ≡ Some (started_now t ns asked reading b).stamp
-now_armed t ns asked reading true = refl
-now_armed t ns asked reading false = refl
+  now_armed : (t : Timer) (sent : List ℕ) (last : ℕ) → (started_now t sent last).armed ≡ Some (started_now t sent last).stamp
+  now_armed t [] last = refl
+  now_armed t (b ∷ bs) last = now_armed (after t (events.Out b)) bs last
 
-now_expires : (t : Timer) (ns asked : ℕ) (reading : ClockReading) (b : Bool) →
-    (started_now t ns asked reading b).expires ≡ sat (now_of (started_now t ns asked reading b) reading + ns)
-now_expires t ns asked reading true = omega arith
-now_expires t ns asked reading false = omega arith
+  now_expires : (t : Timer) (sent : List ℕ) (last : ℕ) → (started_now t sent last).expires ≡ sat (now_of (started_now t sent last) reading + ns)
+  now_expires t [] last = omega arith
+  now_expires t (b ∷ bs) last = now_expires (after t (events.Out b)) bs last
 
-same_generation : (a b : Bool) (g n e f : ℕ) (k l : Placement) → starts.Started a g e k ≡ starts.Started b n f l → g ≡ n
-same_generation a b g n e f k l is = cc
+  module _ (o : Opening) (v w : KnownOfTimers) (t : ℕ) (was : Bool) (generation base outs : ℕ) (placement : Placement)
+      (s : StartsTimer o v w t (asked_for modes.Rel ns 0 asked reading) (starts.Started was generation base outs placement)) where
+    now : known_timer o w t ≡ started_now (timer_then o s.at t) s.sent s.last
+    now = timer_after o v w t s.at _ s.made ∙ along (timer_then o s.at t) (start_on (asked_for modes.Rel ns 0 asked reading) s.sent s.last)
 
-module _ (o : Opening) (v w : KnownOfTimers) (t ns asked : ℕ) (reading : ClockReading) (was : Bool) (generation outs : ℕ) (placement : Placement)
-    (s : StartsTimer o v w t (asked_for modes.Rel ns 0 asked reading) (starts.Started was generation outs placement)) where
-  now : known_timer o w t ≡ started_now (timer_then o s.at t) ns asked reading (moves_first (timer_then o s.at t) asked)
-  now = timer_after o v w t s.at _ s.made ∙ along (timer_then o s.at t) (start_events (timer_then o s.at t) (asked_for modes.Rel ns 0 asked reading))
+    pub start_armed : (known_timer o w t).armed ≡ Some generation
+    start_armed =
+        ap (λ (x : Timer). x.armed) now ∙ (now_armed (timer_then o s.at t) s.sent s.last
+        ∙ ap (λ n. Some n) (ap (λ (x : Timer). x.stamp) (sym now) ∙ sym (start_tells o v w t _ _ s)))
 
-  pub start_armed : (known_timer o w t).armed ≡ Some generation
-  start_armed =
-      let u = timer_then o s.at t in
-      ap (λ (x : Timer). x.armed) now ∙ (now_armed u ns asked reading (moves_first u asked) ∙ ap (λ n. Some n) (sym (same_generation _ _ _ _ _ _ _ _ s.fits.2)))
-
-  pub start_expires : (known_timer o w t).expires ≡ sat (now_of (known_timer o w t) reading + ns)
-  start_expires =
-      let u = timer_then o s.at t in
-      subst (λ (x : Timer). x.expires ≡ sat (now_of x reading + ns)) (sym now) (now_expires u ns asked reading (moves_first u asked))
+    pub start_expires : (known_timer o w t).expires ≡ sat (now_of (known_timer o w t) reading + ns)
+    start_expires =
+        subst (λ (x : Timer). x.expires ≡ sat (now_of x reading + ns)) (sym now) (now_expires (timer_then o s.at t) s.sent s.last)
 
 pub start_spent : (o : Opening) (v w : KnownOfTimers) (t ns asked : ℕ) (reading : ClockReading) (n : ℕ) → StartsTimer o v w t (asked_for modes.Rel ns 0 asked reading) (starts.Spent n)
     → (known_timer o w t).terms.limit ≤ (known_timer o w t).stamp

@@ -1,4 +1,5 @@
 pub mod Counting
 pub mod Knowing
+pub mod Near
 pub mod Nesting
 pub mod Turning

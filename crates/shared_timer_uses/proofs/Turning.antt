@@ -7,7 +7,7 @@ use Rattle.seq_timer.specs.declared.context.Context.TheVariants as contexts
 use Rattle.seq_timer.specs.declared.event.EventBy.TheVariants as events
 use Rattle.seq_timer.specs.declared.event.Moved.{Moved}
 use Rattle.seq_timer.specs.declared.event.Reply.TheVariants as replies
-use Rattle.seq_timer.specs.declared.system.TimerEntry.{TimerEntry}
+use Rattle.seq_timer.specs.declared.system.SystemEntry.{SystemEntry}
 use Rattle.seq_timer.specs.Steps.{Timer, moved_by, restarted_by}
 use Rattle.seq_timer.specs.Systems.{AreSystemSteps, first_system}
 use Rattle.seq_timer.specs.Tables.{IsNextDue, in_context}
@@ -94,7 +94,7 @@ module _ (o : Opening) (base : ℕ) (reading : ClockReading) (k k' : KnownOfTime
     ticked_turn h h' by turn (Some tick) did =
         let c = turn.claim in
         let f = turn.ran.finishes in
-        let at : List TimerEntry = did.2.0 in
+        let at : List SystemEntry = did.2.0 in
         let made = did.2.1 in
         let after = begins_trans f.made.from f.made.seen in
         let here : tick.timer ≡ c.timer = did.1 in

@@ -7,7 +7,7 @@ use Rattle.pass_names.specs.Passes.{Begins, is_place}
 use Rattle.seq_timer.specs.declared.event.EventBy.TheVariants as events
 use Rattle.seq_timer.specs.declared.event.Reply.TheVariants as replies
 use Rattle.seq_timer.specs.declared.event.Restarted.TheVariants as restarteds
-use Rattle.seq_timer.specs.declared.system.TimerEntry.{TimerEntry}
+use Rattle.seq_timer.specs.declared.system.SystemEntry.{SystemEntry}
 use Rattle.seq_timer.specs.Histories.{IsIdle}
 use Rattle.seq_timer.specs.Steps.{Timer, moved_by, now_of}
 use Rattle.seq_timer.specs.Tables.{IsNextDue, in_context}
@@ -49,7 +49,7 @@ pub record KeepsRunner (timers : rows.BaseRowOf) (pass pass' : PassOf) (log log'
 
 -- the timer, of the hard context, was the next to expire on its base when it was claimed, its function has ended, and that armed nothing
 pub record RanOnce (o : Opening) (base : ℕ) (reading : ClockReading) (k k' : KnownOfTimers) (t : ℕ) (log log' : List Receipt) : Type 0 where
-  pub at : List TimerEntry
+  pub at : List SystemEntry
   pub from : Begins k.seen at
   pub seen : Begins at k'.seen
   pub context : (timer_then o at t).declared.context ≡ contexts.Hard
@@ -66,11 +66,11 @@ pub record RanOnce (o : Opening) (base : ℕ) (reading : ClockReading) (k k' : K
 -- The timer, of the hard context, was the next to expire on its base when it was claimed. Its function has moved the expiry on by so many intervals, to the first one
 -- past the reading.
 pub record Ticked (o : Opening) (base : ℕ) (reading : ClockReading) (interval : ℕ) (k k' : KnownOfTimers) (tick : Tick) : Type 0 where
-  pub at : List TimerEntry
+  pub at : List SystemEntry
   pub from : Begins k.seen at
   pub context : (timer_then o at tick.timer).declared.context ≡ contexts.Hard
   pub next : IsNextDue (in_context contexts.Hard (timer_then o at)) base reading tick.timer
-  pub late : List TimerEntry
+  pub late : List SystemEntry
   pub goes_on : Begins at late
   pub seen : Begins late k'.seen
   pub count : tick.moved.count ≡ passed (timer_then o late tick.timer).expires (now_of (timer_then o late tick.timer) reading) interval

@@ -3,7 +3,7 @@ use Rattle.std.specs.Prelude.{ℕ, ◌≡◌, [], ◌∷◌, List, Option, Some,
 use Rattle.ktime.specs.Readings.{ClockReading}
 use Rattle.seq_timer.specs.declared.event.EventBy.TheVariants as events
 use Rattle.seq_timer.specs.declared.event.Reply.TheVariants as replies
-use Rattle.seq_timer.specs.declared.system.TimerEntry.{TimerEntry}
+use Rattle.seq_timer.specs.declared.system.SystemEntry.{SystemEntry}
 use Rattle.hr_timers.specs.declared.numbers.ClaimNumbers.{ClaimNumbers}
 use Rattle.hr_timers.specs.Known.{KnownOfTimers, MadeAt}
 use Rattle.expire_pass.specs.declared.handler.Restart.{Restart}
@@ -26,7 +26,7 @@ one_shot = record {
 abbrev pub ForwardsBy : ℕ → Option Tick → KnownOfTimers → KnownOfTimers → ClaimNumbers → ClockReading → Restart → Type 0
 ForwardsBy interval None k k' c reading restart = restart ≡ restarts.Stop
 ForwardsBy interval (Some tick) k k' c reading restart = (restart ≡ restarts.Again) × (tick.timer ≡ c.timer)
-    × ((at : List TimerEntry)
+    × ((at : List SystemEntry)
     × MadeAt k k' c.timer at (record { event = events.Forward reading interval; reply = replies.Forward tick.moved } ∷ []))
 
 abbrev pub periodic : Meaning Periodic

@@ -1,2 +1,4 @@
+pub mod Counting
 pub mod Handlers
 pub mod Callers
+pub mod Rows

@@ -4,11 +4,13 @@
 pub use cancelling::{Stopped, stop_and_wait, stop_now};
 pub use once::{OneShot, expire_once, start_once};
 pub use periodic::{Periodic, Tick, expire_periodic};
+pub use sink::Counted;
 pub use threads::{Counts, expire_and_stop, start_anew, start_by_two, start_counted, start_often};
 
 mod cancelling;
 mod once;
 mod periodic;
+mod sink;
 #[cfg(test)]
 mod tests;
 mod threads;

@@ -4,20 +4,25 @@ ghost use Rattle.pass_names.specs.Counts.{count};
 ghost use Rattle.pass_names.specs.Names.{IsLast};
 ghost use Rattle.pass_names.specs.Passes.{is_place};
 ghost use Rattle.seq_timer.specs.Histories.{IsIdle};
+ghost use Rattle.seq_timer.specs.Tables.{timer_at};
 ghost use Rattle.hr_timers.specs.Known.{IsPassOf};
+ghost use Rattle.hr_timers.specs.Ways.{most_to_start};
 ghost use Rattle.expire_pass.specs.Handlers.{KeepsPass};
 ghost use Rattle.shared_timer_uses.specs.Callers.{KeepsRunner, MakesEntries, MayRunOne, RanOnce, known_timer};
 
 use crate::cancelling::stop_and_wait;
 use crate::once::expire_once;
+use crate::sink::Counted;
 use expire_pass::Log;
-use hr_timers::{Pass, StartAnswer, Timers};
+use hr_timers::{Pass, Timers};
 use ktime::{ClockId, Mode, Reading};
+use seq_timer::Asked;
 use std::alloc::{AllocError, Global};
 use std::sync::Wait;
 use std::thread::{Threads, join_mut};
 
-/// Arms a timer on a base, and answers how many entries that made: two where the timer was on another base, none where its history is full.
+/// Arms a timer on a base, and answers how many entries that made: two where the timer was moved to that base, more where it was sent on from
+/// bases that are off line, none where its history is full.
 pub fn start_counted<R: Wait>(
     rt: &R,
     timers: &Timers,
@@ -31,13 +36,18 @@ pub fn start_counted<R: Wait>(
     requires base { base < timers.now.about.bases }
     ensures pass { IsPassOf timers.now pass.new }
     ensures made { MakesEntries timer result pass.old.known pass.new.known }
-    ensures few { result ≤ 2 }
+    ensures few { result ≤ most_to_start (timer_at timers.now.about.timers timer).terms base }
 {
-    match timers.start(rt, pass, timer, Mode::Rel, 0, base, reading) {
-        StartAnswer::Started { outs: 0, .. } => 1,
-        StartAnswer::Started { .. } => 2,
-        StartAnswer::Spent { .. } => 0,
-    }
+    let mut counted = Counted { made: 0 };
+    let asked = Asked {
+        mode: Mode::Rel,
+        ns: 0,
+        slack: 0,
+        reading,
+        base,
+    };
+    timers.start_logged(rt, pass, &mut counted, timer, &asked);
+    counted.made
 }
 
 /// Arms a timer on a base so many times, and answers how many entries that made.
@@ -54,7 +64,7 @@ pub fn start_often<R: Wait>(
     requires base { base < timers.now.about.bases }
     ensures pass { IsPassOf timers.now pass.new }
     ensures made { MakesEntries timer result pass.old.known pass.new.known }
-    ensures few { result ≤ 2 * times }
+    ensures few { result ≤ most_to_start (timer_at timers.now.about.timers timer).terms base * times }
 {
     let mut made = 0;
     for _ in 0..times {
@@ -77,7 +87,7 @@ fn start_both<R: Threads + Wait + Sync>(
     requires bases { 1 < timers.now.about.bases }
     ensures pass { IsPassOf timers.now first.new × IsPassOf timers.now second.new }
     ensures made { MakesEntries timer result.0 first.old.known first.new.known × MakesEntries timer result.1 second.old.known second.new.known }
-    ensures few { (result.0 ≤ 2 * times) × (result.1 ≤ 2 * times) }
+    ensures few { (result.0 ≤ most_to_start (timer_at timers.now.about.timers timer).terms 0 * times) × (result.1 ≤ most_to_start (timer_at timers.now.about.timers timer).terms 1 * times) }
 {
     join_mut(
         rt,
@@ -103,7 +113,7 @@ pub fn start_by_two<R: Threads + Wait + Sync>(
     ensures elsewhere { (i k : ℕ) → i ≢ timer → count (is_place i k) main.new.known.mine ≡ count (is_place i k) main.old.known.mine }
     ensures last { IsLast main.old.known.id → IsLast main.new.known.id }
     ensures unclaimed { main.new.known.claims ≡ [] }
-    ensures few { (result.0 ≤ 2 * times) × (result.1 ≤ 2 * times) }
+    ensures few { (result.0 ≤ most_to_start (timer_at timers.now.about.timers timer).terms 0 * times) × (result.1 ≤ most_to_start (timer_at timers.now.about.timers timer).terms 1 * times) }
 {
     let mut other = timers.split(main);
     let made = start_both(rt, timers, main, &mut other, timer, times);

@@ -12,7 +12,7 @@ use Rattle.seq_timer.specs.Steps.{Timer, Needs, after}
 use Rattle.seq_timer.specs.Tables.{no_timer}
 use Rattle.seq_timer.specs.Bases.{BaseState, IsQueuedAs, base_after, empty_base}
 use Rattle.seq_timer.specs.Contents.{IsContentOf, half_of}
-use Rattle.seq_timer.proofs.Effects.{NeedsBy, RunNeeds, SentNeeds, by_effect, free_by, placed_by}
+use Rattle.seq_timer.proofs.Effects.{IsSent, RunNeeds, by_effect, free_by, placed_by}
 use Rattle.seq_timer.proofs.Halves.{Changes, apart-after}
 use Rattle.seq_timer.proofs.Contents.{IsContentOf-after, IsContentOf-elsewhere, IsQueuedAs-from}
 use Rattle.seq_timer.specs.Calls.{step_all}
@@ -131,25 +131,23 @@ still-after k new id es makes still now other = ⊎_elim
     (λ apart. ap (λ (t : Timer). t.moving) (makes.others other apart) ∙ still other)
     (cases_eq other id)
 
--- what comes after an Out needs nothing of the bases
-permits-moving : (k : Kept) (id : ℕ) (e : Event) → Needs (timer_in k id) e → (timer_in k id).moving ≡ true → Permits k id e
-permits-moving k id e needs moves = by (effect t e).function (effect t e).sent allowed.function allowed.sent
+-- what comes after an Out, and ends the move, needs nothing of the bases
+permits-moving : (k : Kept) (id : ℕ) (e : Event) → Needs (timer_in k id) e → (timer_in k id).moving ≡ true → (after (timer_in k id) e).moving ≡ false
+    → Permits k id e
+permits-moving k id e needs moves still = by (effect t e).function (effect t e).sent ((by_effect t e).needs needs).function (by_effect t e).sent
   where
     t : Timer
     t = timer_in k id
 
-    allowed : NeedsBy (timer_in k id) (after (timer_in k id) e) (effect (timer_in k id) e)
-    allowed = (by_effect (timer_in k id) e).needs needs
+    sent_within : (sent : Option ℕ) → IsSent sent t (after t e) → IsSentWithin (length k.bases) sent
+    sent_within None is = tt
+    sent_within (Some base) is = absurd (true≢false (sym is.1 ∙ still))
 
-    sent_within : (sent : Option ℕ) → SentNeeds sent t (after t e) → IsSentWithin (length k.bases) sent
-    sent_within None told = tt
-    sent_within (Some base) told = absurd (true≢false (sym moves ∙ told.1))
-
-    by : (f : RunEffect) (sent : Option ℕ) → RunNeeds f (effect t e).by_claimer t (after t e) → SentNeeds sent t (after t e)
+    by : (f : RunEffect) (sent : Option ℕ) → RunNeeds f (effect t e).by_claimer t (after t e) → IsSent sent t (after t e)
         → NeedsOfBases (λ reading. IsBaseFree k id) (length k.bases) f sent
-    by functions.Stays sent runs told = sent_within sent told
-    by (functions.Begins reading) sent runs told = absurd (true≢false (sym moves ∙ runs.still))
-    by functions.Ends sent runs told = sent_within sent told
+    by functions.Stays sent runs is = sent_within sent is
+    by (functions.Begins reading) sent runs is = absurd (true≢false (sym moves ∙ runs.still))
+    by functions.Ends sent runs is = sent_within sent is
 
 pub consistent-one : (k : Kept) (id : ℕ) (e : Event) → IsConsistent k → id < length k.timers → Needs (timer_in k id) e → Permits k id e
     → (after (timer_in k id) e).moving ≡ false → IsConsistent (after_event k id e)
@@ -164,10 +162,11 @@ pub needs-next : (k : Kept) (id : ℕ) (d e : Event) → id < length k.timers �
 needs-next k id d e within needs = subst (λ t. Needs t e) (sym (timer-itself k id d within)) needs
 
 pub permits-next : (k : Kept) (id base : ℕ) (e : Event) → id < length k.timers → Needs (after (timer_in k id) (events.Out base)) e
-    → Permits (after_event k id (events.Out base)) id e
-permits-next k id base e within needs =
+    → (after (after (timer_in k id) (events.Out base)) e).moving ≡ false → Permits (after_event k id (events.Out base)) id e
+permits-next k id base e within needs still =
     permits-moving (after_event k id (events.Out base)) id e (needs-next k id (events.Out base) e within needs)
     (ap (λ (t : Timer). t.moving) (timer-itself k id (events.Out base) within))
+    (ap (λ (t : Timer). (after t e).moving) (timer-itself k id (events.Out base) within) ∙ still)
 
 pub consistent-two : (k : Kept) (id base : ℕ) (e : Event) → IsConsistent k → id < length k.timers → base < length k.bases
     → AreAllowed (timer_in k id) (events.Out base ∷ e ∷ [])
@@ -178,6 +177,6 @@ consistent-two k id base e all within inside allowed still =
     let needs = needs-next k id out e within allowed.1.0 in
     let there = subst (λ n. id < n) (sym (size-after k id out).timers) within in
     let all_mid = agrees-after k id out all.agrees within allowed.0 inside in record {
-      agrees = agrees-after mid id e all_mid there needs (permits-next k id base e within allowed.1.0);
+      agrees = agrees-after mid id e all_mid there needs (permits-next k id base e within allowed.1.0 still);
       still = still-after k (after_event mid id e) id (out ∷ e ∷ []) (makes-two k id out e within allowed) all.still still;
     }

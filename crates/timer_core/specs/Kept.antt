@@ -33,8 +33,8 @@ abbrev pub IsSpent : Timer → Type 0
 IsSpent t = t.terms.limit ≤ t.stamp
 
 -- the timer is below its limit on entries
-abbrev pub HasRoom : Timer → Type 0
-HasRoom t = t.stamp < t.terms.limit
+abbrev pub IsBelowLimit : Timer → Type 0
+IsBelowLimit t = t.stamp < t.terms.limit
 
 -- so many bases, and timers of which nothing has happened yet, declared so and on these terms
 abbrev pub opened : ℕ → List Declared → Terms → Kept

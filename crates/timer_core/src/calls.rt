@@ -10,7 +10,7 @@ ghost use Rattle.timer_core.specs.declared.answer.ClaimAnswer.TheVariants as cla
 ghost use Rattle.seq_timer.specs.declared.answer.ForwardAnswer.TheVariants as forwards;
 ghost use Rattle.seq_timer.specs.Calls.{asked_for, forwarded_as, moves_first, start_events, step_all};
 ghost use Rattle.timer_core.specs.Answers.{IsClaim, started_as};
-ghost use Rattle.timer_core.specs.Kept.{AreAllowed, HasRoom, IsSameSize, IsSpent, Makes, content_at, timer_in};
+ghost use Rattle.timer_core.specs.Kept.{AreAllowed, IsBelowLimit, IsSameSize, IsSpent, Makes, content_at, timer_in};
 
 use crate::answer::{ClaimAnswer, StartAnswer};
 use crate::timers::Core;
@@ -34,8 +34,8 @@ impl<Q: Queue> Core<Q> {
         requires base { base < length self.old.bases }
         ensures still { (timer_in self.old id).moving ≡ false }
         ensures spent { IsSpent (timer_in self.old id) → (result ≡ starts.Spent (timer_in self.old id).stamp) × (self.new ≡ self.old) }
-        ensures started { HasRoom (timer_in self.old id) → result ≡ started_as (timer_in self.old id) (timer_in self.new id) base }
-        ensures entries { HasRoom (timer_in self.old id) → Makes self.old id (start_events (timer_in self.old id) (asked_for mode ns 0 base reading)) self.new }
+        ensures started { IsBelowLimit (timer_in self.old id) → result ≡ started_as (timer_in self.old id) (timer_in self.new id) base }
+        ensures entries { IsBelowLimit (timer_in self.old id) → Makes self.old id (start_events (timer_in self.old id) (asked_for mode ns 0 base reading)) self.new }
         ensures sizes { IsSameSize self.old self.new }
     {
         self.start_range(id, mode, ns, 0, base, reading)
@@ -56,8 +56,8 @@ impl<Q: Queue> Core<Q> {
         requires base { base < length self.old.bases }
         ensures still { (timer_in self.old id).moving ≡ false }
         ensures spent { IsSpent (timer_in self.old id) → (result ≡ starts.Spent (timer_in self.old id).stamp) × (self.new ≡ self.old) }
-        ensures started { HasRoom (timer_in self.old id) → result ≡ started_as (timer_in self.old id) (timer_in self.new id) base }
-        ensures entries { HasRoom (timer_in self.old id) → Makes self.old id (start_events (timer_in self.old id) (asked_for mode ns slack base reading)) self.new }
+        ensures started { IsBelowLimit (timer_in self.old id) → result ≡ started_as (timer_in self.old id) (timer_in self.new id) base }
+        ensures entries { IsBelowLimit (timer_in self.old id) → Makes self.old id (start_events (timer_in self.old id) (asked_for mode ns slack base reading)) self.new }
         ensures sizes { IsSameSize self.old self.new }
     {
         let old = self.state(id);
@@ -85,7 +85,7 @@ impl<Q: Queue> Core<Q> {
     fn arm(&mut self, id: u32, asked: Asked)
         requires timer { id < length self.old.timers }
         requires base { asked.base < length self.old.bases }
-        requires room { HasRoom (timer_in self.old id) }
+        requires room { IsBelowLimit (timer_in self.old id) }
         ensures makes { Makes self.old id (start_events (timer_in self.old id) asked) self.new }
         ensures sizes { IsSameSize self.old self.new }
     {
@@ -180,9 +180,9 @@ impl<Q: Queue> Core<Q> {
         requires timer { timer < length self.old.timers }
         requires running { IsSome (timer_in self.old timer).running }
         ensures spent { IsSpent (timer_in self.old timer) → (result ≡ forwards.Spent (timer_in self.old timer).stamp) × (self.new ≡ self.old) }
-        ensures armed { (g : ℕ) → HasRoom (timer_in self.old timer) → (timer_in self.old timer).armed ≡ Some g → (result ≡ forwards.Armed g (timer_in self.old timer).stamp) × (self.new ≡ self.old) }
-        ensures forwarded { HasRoom (timer_in self.old timer) → (timer_in self.old timer).armed ≡ None → result ≡ forwarded_as (timer_in self.old timer) reading interval }
-        ensures entry { HasRoom (timer_in self.old timer) → (timer_in self.old timer).armed ≡ None → Makes self.old timer (events.Forward reading interval ∷ []) self.new }
+        ensures armed { (g : ℕ) → IsBelowLimit (timer_in self.old timer) → (timer_in self.old timer).armed ≡ Some g → (result ≡ forwards.Armed g (timer_in self.old timer).stamp) × (self.new ≡ self.old) }
+        ensures forwarded { IsBelowLimit (timer_in self.old timer) → (timer_in self.old timer).armed ≡ None → result ≡ forwarded_as (timer_in self.old timer) reading interval }
+        ensures entry { IsBelowLimit (timer_in self.old timer) → (timer_in self.old timer).armed ≡ None → Makes self.old timer (events.Forward reading interval ∷ []) self.new }
         ensures sizes { IsSameSize self.old self.new }
     {
         let now = self.state(timer);

@@ -1,17 +1,19 @@
 -- A start behind a look, and the expiry that a start leaves which keeps its timer's clock.
-use Rattle.std.proofs.Common.{arith, sym, ap, subst, ◌≡◌, ◌∙◌, ℕ, ◌≤◌, Bool, true, false, List}
+use Rattle.std.proofs.Common.{arith, sym, ap, subst, ◌≡◌, ◌∙◌, ℕ, ◌≤◌, List, [], ◌∷◌}
 use Rattle.std.specs.Prelude.{Option, Some, None}
 use Rattle.ktime.specs.declared.mode.Mode.TheVariants as modes
 use Rattle.ktime.specs.Readings.{ClockReading}
 use Rattle.ktime.specs.Times.{sat}
 use Rattle.pass_names.proofs.Passes.{begins_trans}
 use Rattle.base_row.specs.declared.view.Opening.{Opening}
-use Rattle.seq_timer.specs.Steps.{Timer}
-use Rattle.seq_timer.specs.Calls.{asked_for, moves_first, start_events, step_all}
+use Rattle.seq_timer.specs.declared.event.EventBy.TheVariants as events
+use Rattle.seq_timer.specs.Steps.{Timer, after}
+use Rattle.seq_timer.specs.Calls.{asked_for, step_all}
 use Rattle.hr_timers.specs.declared.answer.StartAnswer.{StartAnswer}
 use Rattle.hr_timers.specs.declared.answer.StartAnswer.TheVariants as starts
 use Rattle.hr_timers.specs.Known.{KnownOfTimers, timer_then}
 use Rattle.hr_timers.specs.Calls.{StartsTimer}
+use Rattle.hr_timers.specs.Ways.{start_on}
 use Rattle.hr_timers.proofs.Moments.{along, stamp_rises, timer_after}
 use Rattle.base_row.specs.declared.log.Receipt.{Receipt}
 use Rattle.timer_setting.specs.declared.arming.Arm.{Arm}
@@ -22,19 +24,18 @@ use Rattle.timer_objects.specs.Arming.{ArmsFor, SeesTimer, arm_of, quiet_at, sta
 use Rattle.timer_objects.specs.Calls.{RearmsFor}
 use Rattle.timer_objects.specs.Valid.{end_by}
 use Rattle.timer_objects.proofs.Settings.{armed_end}
-use Rattle.timer_objects.proofs.Starting.{events_by}
 
 module _ (o : Opening) (v w : KnownOfTimers) (t ns asked : ℕ) (reading : ClockReading) where
-  kept_expiry : (u : Timer) (moves : Bool) → (step_all u (events_by (asked_for modes.Keep ns 0 asked reading) moves)).expires ≡ sat ns
-  kept_expiry u true = omega arith
-  kept_expiry u false = omega arith
+  kept_expiry : (sent : List ℕ) (last : ℕ) (u : Timer) → (step_all u (start_on (asked_for modes.Keep ns 0 asked reading) sent last)).expires ≡ sat ns
+  kept_expiry [] last u = omega arith
+  kept_expiry (b ∷ bs) last u = kept_expiry bs last (after u (events.Out b))
 
   pub expiry : (a : StartAnswer) (g : ℕ) → StartsTimer o v w t (asked_for modes.Keep ns 0 asked reading) a → arms.Armed g ≡ arm_of a
       → (timer_then o w.seen t).expires ≡ sat ns
-  expiry (starts.Started was_armed generation outs placement) g s e =
+  expiry (starts.Started was_armed generation base outs placement) g s e =
       let u = timer_then o s.at t in
-      ap (λ (x : Timer). x.expires) (timer_after o v w t s.at _ s.made ∙ along u (start_events u (asked_for modes.Keep ns 0 asked reading)))
-      ∙ kept_expiry u (moves_first u asked)
+      ap (λ (x : Timer). x.expires) (timer_after o v w t s.at _ s.made ∙ along u (start_on (asked_for modes.Keep ns 0 asked reading) s.sent s.last))
+      ∙ kept_expiry s.sent s.last u
   expiry (starts.Spent n) g s e = cc
 
 quiet_behind : (last : ℕ) (running : Option ℕ) (stamp : ℕ) → last ≤ quiet_at last running stamp

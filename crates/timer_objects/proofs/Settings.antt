@@ -1,5 +1,5 @@
 -- A settime: what its steps leave.
-use Rattle.std.proofs.Common.{arith, refl, sym, ap, subst, ◌≡◌, ◌≢◌, ◌∙◌, ℕ, ◌+◌, ◌≤◌, ◌<◌, Bool, true, false, nat_eq, List, []}
+use Rattle.std.proofs.Common.{arith, refl, sym, ap, subst, ◌≡◌, ◌≢◌, ◌∙◌, ℕ, ◌+◌, ◌≤◌, ◌<◌, Bool, true, false, nat_eq, List, [], ◌∷◌}
 use Rattle.std.specs.Prelude.{Option, Some, None, if◌then◌else◌}
 use Rattle.ktime.specs.declared.clock_id.ClockId.{ClockId}
 use Rattle.ktime.specs.declared.clock_id.ClockId.TheVariants as clocks
@@ -10,15 +10,18 @@ use Rattle.pass_names.specs.Passes.{Begins}
 use Rattle.pass_names.proofs.Passes.{begins_refl, begins_trans}
 use Rattle.ktime.specs.declared.mode.Mode.{Mode}
 use Rattle.seq_timer.specs.declared.context.Declared.{Declared}
-use Rattle.seq_timer.specs.declared.event.Placement.{Placement}
-use Rattle.seq_timer.specs.Steps.{Timer, expiry_from}
+use Rattle.seq_timer.specs.declared.event.EventBy.TheVariants as events
+use Rattle.seq_timer.specs.Steps.{Timer, after, expiry_from}
 use Rattle.seq_timer.specs.Tables.{timer_at}
-use Rattle.seq_timer.specs.Calls.{asked_for, moves_first, start_events, step_all}
+use Rattle.seq_timer.specs.Calls.{asked_for, step_all}
 use Rattle.base_row.specs.declared.view.Opening.{Opening}
 use Rattle.hr_timers.specs.declared.answer.StartAnswer.{StartAnswer}
 use Rattle.hr_timers.specs.declared.answer.StartAnswer.TheVariants as starts
 use Rattle.hr_timers.specs.Known.{KnownOfTimers, timer_then}
-use Rattle.hr_timers.specs.Calls.{StartsTimer, cancel_entries, start_answer}
+use Rattle.hr_timers.specs.Answered.{start_number}
+use Rattle.hr_timers.specs.Calls.{StartsTimer, cancel_entries}
+use Rattle.hr_timers.specs.Ways.{start_on}
+use Rattle.hr_timers.proofs.Answered.{start_tells}
 use Rattle.hr_timers.proofs.Moments.{along, declared_kept, stamp_made, timer_after}
 use Rattle.base_row.specs.declared.log.Receipt.{Receipt}
 use Rattle.timer_setting.specs.declared.arming.Arm.{Arm}
@@ -39,7 +42,6 @@ use Rattle.timer_objects.specs.declared.object.Object.{Object}
 use Rattle.timer_objects.specs.declared.object.Object.TheVariants as objects
 use Rattle.timer_objects.specs.Steps.{IsObjectOf, ObjectAllows, object_answer, object_step}
 use Rattle.timer_objects.specs.Arming.{ArmsFor, Disarms, arm_of, asked_by, stamp_seen}
-use Rattle.timer_objects.proofs.Starting.{events_by}
 use Rattle.timer_objects.specs.Calls.{BearsStart, SettimeTells, flags_of, phase_of, settime_call}
 use Rattle.timer_objects.specs.Valid.{IsSettimeReply, end_by}
 
@@ -50,18 +52,14 @@ module _ (o : Opening) (v w : KnownOfTimers) (t : ℕ) where
   pub disarmed_end : (last : ℕ) (span : Span) (log log' : List Receipt) → Disarms o v w t last span log log' → span.to ≡ stamp_seen o w t
   disarmed_end last span log log' d = omega (arith, d.to, d.from, stamp_made o v w t d.cancelled.at (cancel_entries d.answer) d.cancelled.made)
 
-  stamp_in : (u : Timer) (asked : ℕ) (now : Timer) (was : Bool) (g outs : ℕ) (placement : Placement)
-      → starts.Started was g outs placement ≡ start_answer u now asked → g ≡ now.stamp
-  stamp_in u asked now was g outs placement e = cc
+  number_by : (a : StartAnswer) (before : ℕ) → end_by (arm_of a) before ≡ start_number a
+  number_by (starts.Started was g base outs placement) before = refl
+  number_by (starts.Spent n) before = refl
 
   started_end : (wanted : Wanted) (base : ℕ) (reading : ClockReading) (before : ℕ) (a : StartAnswer) (arm : Arm) → arm ≡ arm_of a
       → StartsTimer o v w t (asked_by wanted base reading) a → end_by arm before ≡ stamp_seen o w t
-  started_end wanted base reading before (starts.Started was g outs placement) arm e s =
-      let u = timer_then o s.at t in
-      ap (λ a. end_by a before) e ∙ (stamp_in u base (step_all u (start_events u (asked_by wanted base reading))) was g outs placement s.fits.2
-      ∙ sym (ap (λ (x : Timer). x.stamp) (timer_after o v w t s.at _ s.made ∙ along u (start_events u (asked_by wanted base reading)))))
-  started_end wanted base reading before (starts.Spent n) arm e s =
-      ap (λ a. end_by a before) e ∙ (s.fits.2 ∙ sym (stamp_made o v w t s.at [] s.made ∙ omega arith))
+  started_end wanted base reading before a arm e s =
+      ap (λ x. end_by x before) e ∙ (number_by a before ∙ start_tells o v w t (asked_by wanted base reading) a s)
 
   -- and after the start that was wanted, if one was
   pub armed_end : (wanted : Option Wanted) (base : ℕ) (reading : ClockReading) (arm : Arm) (log log' : List Receipt) (before : ℕ)
@@ -178,22 +176,21 @@ module _ (o : Opening) (v w : KnownOfTimers) (t : ℕ) (d : Decl) (flags value b
   set_armed arm = armed_by arm (clock_by d.clock flags) (expiry_by d.clock flags value reading)
 
   -- the timer after a start that a settime wanted
-  started_as : (u : Timer) → u.declared.clock ≡ d.clock → (b : Bool) → let now = step_all u (events_by (asked_for (mode_by flags) value 0 base reading) b) in
+  started_as : (sent : List ℕ) (last : ℕ) (u : Timer) → u.declared.clock ≡ d.clock
+      → let now = step_all u (start_on (asked_for (mode_by flags) value 0 base reading) sent last) in
       (now.clock ≡ clock_by d.clock flags) × (now.expires ≡ expiry_by d.clock flags value reading)
-  started_as u declared true =
-      let clock = ap (λ c. effective_clock c (mode_by flags) u.clock) declared ∙ clock_same d.clock u.clock flags in
-      (clock, no_slack (mode_by flags) value _ reading ∙ expiry_same flags value _ reading few ∙ ap (λ c. if is_absolute flags then value else sat (value_of c reading + value)) clock)
-  started_as u declared false =
+  started_as (b ∷ bs) last u declared = started_as bs last (after u (events.Out b)) declared
+  started_as [] last u declared =
       let clock = ap (λ c. effective_clock c (mode_by flags) u.clock) declared ∙ clock_same d.clock u.clock flags in
       (clock, no_slack (mode_by flags) value _ reading ∙ expiry_same flags value _ reading few ∙ ap (λ c. if is_absolute flags then value else sat (value_of c reading + value)) clock)
 
   start_bears : (arm : Arm) (a : StartAnswer) → arm ≡ arm_of a → StartsTimer o v w t (asked_for (mode_by flags) value 0 base reading) a
       → BearsStart o w t arm (set_armed arm)
   start_bears arm (starts.Spent n) e s = subst (λ x. BearsStart o w t x (set_armed x)) (sym e) refl
-  start_bears arm (starts.Started was g outs placement) e s =
+  start_bears arm (starts.Started was g to outs placement) e s =
       let u = timer_then o s.at t in
-      let now = timer_after o v w t s.at _ s.made ∙ along u (start_events u (asked_for (mode_by flags) value 0 base reading)) in
-      let set = started_as u (ap (λ (x : Declared). x.clock) (declared_kept o s.at t) ∙ same) (moves_first u base) in
+      let now = timer_after o v w t s.at _ s.made ∙ along u (start_on (asked_for (mode_by flags) value 0 base reading) s.sent s.last) in
+      let set = started_as s.sent s.last u (ap (λ (x : Declared). x.clock) (declared_kept o s.at t) ∙ same) in
       subst (λ x. BearsStart o w t x (set_armed x)) (sym e)
       (ap (λ c. phases.Armed g c (expiry_by d.clock flags value reading)) (sym (ap (λ (x : Timer). x.clock) now ∙ set.0))
       ∙ ap (λ k. phases.Armed g (timer_then o w.seen t).clock k) (sym (ap (λ (x : Timer). x.expires) now ∙ set.1)))

@@ -122,10 +122,6 @@ module _ (o : Opening) (u v w : KnownOfTimers) (t last n : ℕ) (sees : SeesTime
   disarms_armed g number log log' c = disarms_by (cancels.Cancelled g number) (record { from = number - 1; to = number }) log log' c (λ h k e. cc)
       (omega (arith, c.cancels.fits.3)) (omega (arith, c.cancels.fits.3))
 
--- the events of a start, by whether it moves the timer
-abbrev pub events_by : Asked → Bool → List Event
-events_by asked moves = if moves then events.Out asked.base ∷ events.Start asked ∷ [] else events.Start asked ∷ []
-
 -- a start that was answered so was made, with the receipts of its entries
 pub starts_of : (o : Opening) (v w : KnownOfTimers) (t base : ℕ) (wanted : Wanted) (reading : ClockReading) (log log' : LogOf Receipt) (a : StartAnswer)
     → StartsLogged kept o v w t (asked_by wanted base reading) a log log'

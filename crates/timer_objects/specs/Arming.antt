@@ -28,7 +28,7 @@ asked_by wanted base reading = asked_for wanted.mode wanted.ns 0 base reading
 
 -- the outcome of a start, by what it answered
 abbrev pub arm_of : StartAnswer → Arm
-arm_of (starts.Started was_armed generation outs placement) = arms.Armed generation
+arm_of (starts.Started was_armed generation asked outs placement) = arms.Armed generation
 arm_of (starts.Spent n) = arms.Unarmed n
 
 -- a start that was wanted was made, with this outcome, and a receipt noted of each of its entries
@@ -37,7 +37,9 @@ pub record Starts (o : Opening) (v w : KnownOfTimers) (t : ℕ) (wanted : Wanted
   pub answer : StartAnswer
   pub starts : StartsTimer o v w t (asked_by wanted base reading) answer
   pub outcome : arm ≡ arm_of answer
-  pub receipts : log' ≡ log ++ receipts_of t (timer_then o starts.at t).stamp (start_entries (timer_then o starts.at t) (asked_by wanted base reading) answer)
+  pub receipts : log'
+      ≡ log ++ receipts_of t (timer_then o starts.at t).stamp
+      (start_entries (timer_then o starts.at t) (asked_by wanted base reading) starts.sent starts.last answer)
 
 -- the start that a step wants was made, or none was wanted and nothing is other than before
 abbrev pub ArmsFor : Opening → KnownOfTimers → KnownOfTimers → ℕ → Option Wanted → ℕ → ClockReading → Arm → List Receipt → List Receipt → Type 0

@@ -17,6 +17,7 @@ use Rattle.hr_timers.specs.declared.answer.StartAnswer.TheVariants as starts
 use Rattle.hr_timers.specs.declared.numbers.ClaimNumbers.{ClaimNumbers}
 use Rattle.hr_timers.specs.Known.{KnownOfTimers, timer_then}
 use Rattle.hr_timers.specs.Calls.{Cancels, Forwards, StartsTimer}
+use Rattle.hr_timers.specs.Ways.{asking}
 use Rattle.expire_pass.specs.declared.handler.Restart.{Restart}
 use Rattle.expire_pass.specs.declared.handler.Restart.TheVariants as restarts
 use Rattle.base_row.specs.declared.log.Noted.TheVariants as noteds
@@ -37,6 +38,11 @@ abbrev pub bases_of : List Callback → ℕ
 bases_of [] = 0
 bases_of (x ∷ xs) = max (bases_for x) (bases_of xs)
 
+-- a start that was made was sent to no base
+abbrev pub IsUnsent : List ℕ → StartAnswer → Type 0
+IsUnsent sent (starts.Started was_armed generation base outs placement) = sent ≡ []
+IsUnsent sent (starts.Spent n) = Unit {0}
+
 -- ---- receipts
 
 -- the receipt of what was seen of a claim's timer at this stamp, in place of an entry
@@ -49,9 +55,10 @@ forward_noted c t reading interval (forwards.Forwarded number moved) = receipts_
 forward_noted c t reading interval (forwards.Spent n) = look_receipt c n (events.Forward reading interval) observations.Spent ∷ []
 forward_noted c t reading interval (forwards.Armed g n) = look_receipt c n (events.Forward reading interval) (observations.Armed g) ∷ []
 
--- and of a start
+-- and of a start, by the base that it asked for last
 abbrev pub start_noted : ClaimNumbers → Timer → Asked → StartAnswer → List Receipt
-start_noted c t asked (starts.Started was_armed generation outs placement) = receipts_of c.timer t.stamp (entries_along t (events.Start asked ∷ []))
+start_noted c t asked (starts.Started was_armed generation base outs placement) =
+    receipts_of c.timer t.stamp (entries_along t (events.Start (asking asked base) ∷ []))
 start_noted c t asked (starts.Spent n) = look_receipt c n (events.Start asked) observations.Spent ∷ []
 
 -- ---- callbacks
@@ -69,11 +76,12 @@ module _ (o : Opening) (v w : KnownOfTimers) (c : ClaimNumbers) where
     pub cancels : Cancels o v w c.timer (cancels.Running c.generation stamp)
     pub receipt : log' ≡ log ++ look_receipt c stamp events.Cancel (observations.Running c.generation) ∷ []
 
-  -- the claim's timer was started, or its history is full. It ran, so it has kept its base.
+  -- the claim's timer was started, or its history is full. It ran, so it has kept its base, and was sent to none.
   pub record RunsStart (reading : ClockReading) (log log' : List Receipt) (ns asked : ℕ) : Type 0 where
     pub answer : StartAnswer
     pub starts : StartsTimer o v w c.timer (asked_for modes.Rel ns 0 asked reading) answer
     pub runs : (timer_then o starts.at c.timer).running ≡ Some c.generation
+    pub unsent : IsUnsent starts.sent answer
     pub receipts : log' ≡ log ++ start_noted c (timer_then o starts.at c.timer) (asked_for modes.Rel ns 0 asked reading) answer
 
   -- what a callback does, the receipts that it notes, and whether it asks for a restart

@@ -5,6 +5,7 @@ use Rattle.ktime.specs.declared.clock_id.ClockId.TheVariants as clocks
 use Rattle.pass_names.specs.Passes.{Adds, Begins, GoesOn, entries}
 use Rattle.seq_timer.specs.Tables.{timer_at}
 use Rattle.base_row.specs.declared.view.Opening.{Opening}
+use Rattle.hr_timers.specs.Ways.{most_to_start}
 use Rattle.counted_row.specs.declared.view.Entry.{Entry}
 use Rattle.counted_row.specs.declared.view.Locked.{Locked}
 use Rattle.counted_row.specs.Views.{IsPassOfRow, Knows, PassOfRow, RowOf, committed}
@@ -85,3 +86,7 @@ pub record KeepsObjectsPass (p q : ObjectsPass) : Type 0 where
   pub id : q.knows.pass.id ≡ p.knows.pass.id
   pub seen : GoesOn p.knows.pass.seen q.knows.pass.seen
   pub mine : Begins p.knows.pass.mine q.knows.pass.mine
+
+-- a call on an object notes at most so many receipts of its timer's entries: of a cancel and of a start on the object's base
+abbrev pub most_noted : ObjectsOf → Opening → ℕ → ℕ
+most_noted x o id = 1 + most_to_start (timer_at o.timers id).terms (decl_at x id).base

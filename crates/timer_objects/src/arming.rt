@@ -1,7 +1,9 @@
 //! What calls on objects do to the timers below.
 ghost use Rattle.std.specs.Prelude.{◌≡◌, ◌≤◌, ◌<◌, ◌+◌, length, IfNone, MatchOption};
 ghost use Rattle.pass_names.specs.SharedHistory.{LooksOn};
+ghost use Rattle.seq_timer.specs.Tables.{timer_at};
 ghost use Rattle.hr_timers.specs.Known.{IsPassOf};
+ghost use Rattle.hr_timers.specs.Ways.{most_to_start};
 ghost use Rattle.timer_setting.specs.Phases.{IsOutcomeOf};
 ghost use Rattle.timer_objects.specs.Arming.{ArmsFor, Disarms, SeesQuietly, SeesTimer, Starts, stamp_seen};
 ghost use Rattle.timer_objects.specs.Waiting.{IsHindered};
@@ -94,11 +96,11 @@ pub(crate) fn arm<R: Wait>(
     requires pass { IsPassOf timers.now pass.old }
     requires timer { timer < length timers.now.about.timers }
     requires base { base < timers.now.about.bases }
-    requires room { 2 ≤ log.old.spare }
+    requires room { most_to_start (timer_at timers.now.about.timers timer).terms base ≤ log.old.spare }
     ensures pass { IsPassOf timers.now pass.new }
     ensures arms { ArmsFor timers.now.about pass.old.known pass.new.known timer wanted base reading result log.old.receipts log.new.receipts }
     ensures outcome { IsOutcomeOf result wanted }
-    ensures room { log.old.spare ≤ log.new.spare + 2 }
+    ensures room { log.old.spare ≤ log.new.spare + most_to_start (timer_at timers.now.about.timers timer).terms base }
 {
     let Some(Wanted { mode, ns }) = wanted else {
         return Arm::NotAsked;

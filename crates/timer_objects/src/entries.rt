@@ -1,10 +1,12 @@
 //! The calls that make an entry of an object, and may set its timer before that; accept and read, which arm a periodic timer again.
 ghost use Rattle.std.specs.Prelude.{◌≡◌, ◌≤◌, ◌<◌, ◌+◌, length, IfNone, IfSome, IsSome, MatchOption};
 ghost use Rattle.pass_names.specs.SharedHistory.{LooksOn};
+ghost use Rattle.seq_timer.specs.Tables.{timer_at};
 ghost use Rattle.hr_timers.specs.Known.{IsPassOf};
+ghost use Rattle.hr_timers.specs.Ways.{most_to_start};
 ghost use Rattle.timer_setting.specs.Phases.{IsOutcomeOf};
 ghost use Rattle.timer_objects.specs.declared.object.Kind.TheVariants as kinds;
-ghost use Rattle.timer_objects.specs.Known.{IsObjectsPass, Suits, decl_at};
+ghost use Rattle.timer_objects.specs.Known.{IsObjectsPass, Suits, decl_at, most_noted};
 ghost use Rattle.timer_objects.specs.Arming.{stamp_seen};
 ghost use Rattle.timer_objects.specs.Calls.{Accepts, HasWaited, ReadsFd, RearmsFor};
 ghost use Rattle.timer_objects.specs.Waiting.{HasToWait, IsHindered};
@@ -45,12 +47,12 @@ impl Objects {
         requires suits { Suits self.now timers.now.about }
         requires within { id < length self.now.decls }
         requires kind { (decl_at self.now id).kind ≡ kinds.Posix }
-        requires room { (4 ≤ log.old.spare) × (1 ≤ object_log.old.spare) }
+        requires room { (most_noted self.now timers.now.about id ≤ log.old.spare) × (1 ≤ object_log.old.spare) }
         ensures pass { IsPassOf timers.now pass.new }
         ensures objects { IsObjectsPass self.now objects_pass.new }
         ensures accepts { Accepts self.now timers.now.about (caller_of pass.old objects_pass.old log.old object_log.old) (caller_of pass.new objects_pass.new log.new object_log.new) id reading result }
         ensures names { KeepsNames (caller_of pass.old objects_pass.old log.old object_log.old) (caller_of pass.new objects_pass.new log.new object_log.new) }
-        ensures room { (log.old.spare ≤ log.new.spare + 4) × (object_log.old.spare ≤ object_log.new.spare + 1) }
+        ensures room { (log.old.spare ≤ log.new.spare + most_noted self.now timers.now.about id) × (object_log.old.spare ≤ object_log.new.spare + 1) }
     {
         let asked = &EntryCall::Rearming(Rearming::Accepting, reading);
         match self.ask(rt, timers, pass, objects_pass, log, object_log, id, asked) {
@@ -81,12 +83,12 @@ impl Objects {
         requires suits { Suits self.now timers.now.about }
         requires within { id < length self.now.decls }
         requires kind { (decl_at self.now id).kind ≡ kinds.Fd }
-        requires room { (4 ≤ log.old.spare) × (1 ≤ object_log.old.spare) }
+        requires room { (most_noted self.now timers.now.about id ≤ log.old.spare) × (1 ≤ object_log.old.spare) }
         ensures pass { IsPassOf timers.now pass.new }
         ensures objects { IsObjectsPass self.now objects_pass.new }
         ensures reads { ReadsFd self.now timers.now.about (caller_of pass.old objects_pass.old log.old object_log.old) (caller_of pass.new objects_pass.new log.new object_log.new) id len reading result }
         ensures names { KeepsNames (caller_of pass.old objects_pass.old log.old object_log.old) (caller_of pass.new objects_pass.new log.new object_log.new) }
-        ensures room { (log.old.spare ≤ log.new.spare + 4) × (object_log.old.spare ≤ object_log.new.spare + 1) }
+        ensures room { (log.old.spare ≤ log.new.spare + most_noted self.now timers.now.about id) × (object_log.old.spare ≤ object_log.new.spare + 1) }
     {
         if len < COUNT_LENGTH {
             return ReadAnswer::ShortBuffer;
@@ -115,11 +117,11 @@ impl Objects {
         asked: &EntryCall,
     ) -> Ended
         requires may { MayAsk self.now timers.now pass.old objects_pass.old id asked.now }
-        requires room { (4 ≤ log.old.spare) × (1 ≤ object_log.old.spare) }
+        requires room { (most_noted self.now timers.now.about id ≤ log.old.spare) × (1 ≤ object_log.old.spare) }
         ensures leaves { LeavesPasses self.now timers.now pass.new objects_pass.new }
         ensures ends { Ends self.now timers.now.about (caller_of pass.old objects_pass.old log.old object_log.old) (caller_of pass.new objects_pass.new log.new object_log.new) id asked.now result }
         ensures names { KeepsNames (caller_of pass.old objects_pass.old log.old object_log.old) (caller_of pass.new objects_pass.new log.new object_log.new) }
-        ensures room { (log.old.spare ≤ log.new.spare + 4) × (object_log.old.spare ≤ object_log.new.spare + 1) }
+        ensures room { (log.old.spare ≤ log.new.spare + most_noted self.now timers.now.about id) × (object_log.old.spare ≤ object_log.new.spare + 1) }
     {
         for _ in Retries::new(rt) {
             let tried = self.try_once(rt, timers, pass, objects_pass, log, object_log, id, asked);
@@ -143,12 +145,12 @@ impl Objects {
         asked: &EntryCall,
     ) -> Option<Ended>
         requires may { MayAsk self.now timers.now pass.old objects_pass.old id asked.now }
-        requires room { (4 ≤ log.old.spare) × (1 ≤ object_log.old.spare) }
+        requires room { (most_noted self.now timers.now.about id ≤ log.old.spare) × (1 ≤ object_log.old.spare) }
         ensures leaves { LeavesPasses self.now timers.now pass.new objects_pass.new }
         ensures ends { MatchOption result (HasWaited (caller_of pass.old objects_pass.old log.old object_log.old) (caller_of pass.new objects_pass.new log.new object_log.new)) (λ e. Ends self.now timers.now.about (caller_of pass.old objects_pass.old log.old object_log.old) (caller_of pass.new objects_pass.new log.new object_log.new) id asked.now e) }
         ensures again { IfNone result ((log.new ≡ log.old) × (object_log.new ≡ object_log.old)) }
         ensures why { IfNone result (HasToWait self.now objects_pass.old objects_pass.new id (IsUnsettable timers.now.about pass.new.known id asked.now)) }
-        ensures room { (log.old.spare ≤ log.new.spare + 4) × (object_log.old.spare ≤ object_log.new.spare + 1) }
+        ensures room { (log.old.spare ≤ log.new.spare + most_noted self.now timers.now.about id) × (object_log.old.spare ≤ object_log.new.spare + 1) }
     {
         let held = self.lock(rt, objects_pass, id);
         if self.is_full(&held) {
@@ -208,12 +210,12 @@ fn set<R: Wait>(
     requires timer { timer < length timers.now.about.timers }
     requires base { base < timers.now.about.bases }
     requires object { HasEntryRoom cell.now.object }
-    requires room { 4 ≤ log.old.spare }
+    requires room { 1 + most_to_start (timer_at timers.now.about.timers timer).terms base ≤ log.old.spare }
     ensures pass { IsPassOf timers.now pass.new }
     ensures sets { MatchOption result (LooksOn pass.old.known pass.new.known × (log.new ≡ log.old)) (λ r. Sets timers.now.about pass.old.known pass.new.known timer asked.now cell.now base r.0 r.1 log.old.receipts log.new.receipts) }
     ensures outcome { IfSome result (λ r. IsOutcomeOf r.0 (start_asked asked.now cell.now.object)) }
     ensures why { IfNone result (IsUnsettable timers.now.about pass.new.known timer asked.now cell.now) }
-    ensures room { log.old.spare ≤ log.new.spare + 4 }
+    ensures room { log.old.spare ≤ log.new.spare + (1 + most_to_start (timer_at timers.now.about.timers timer).terms base) }
 {
     match asked {
         EntryCall::Settime(valid) => {

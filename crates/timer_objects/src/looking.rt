@@ -2,7 +2,7 @@
 ghost use Rattle.std.specs.Prelude.{◌≡◌, ◌≤◌, ◌<◌, ◌+◌, length};
 ghost use Rattle.hr_timers.specs.Known.{IsPassOf};
 ghost use Rattle.timer_objects.specs.declared.object.Kind.TheVariants as kinds;
-ghost use Rattle.timer_objects.specs.Known.{IsObjectsPass, Suits, decl_at};
+ghost use Rattle.timer_objects.specs.Known.{IsObjectsPass, Suits, decl_at, most_noted};
 ghost use Rattle.timer_objects.specs.Steps.{IsObjectOf};
 ghost use Rattle.timer_objects.specs.Calls.{Gettimes, LooksOverrun, LooksReadable};
 ghost use Rattle.timer_objects.specs.Rearming.{FindsObject, KeepsNames, caller_of};
@@ -39,12 +39,12 @@ impl Objects {
         requires suits { Suits self.now timers.now.about }
         requires within { id < length self.now.decls }
         requires kind { (decl_at self.now id).kind ≡ kinds.Raw → ⊥ }
-        requires room { (4 ≤ log.old.spare) × (1 ≤ object_log.old.spare) }
+        requires room { (most_noted self.now timers.now.about id ≤ log.old.spare) × (1 ≤ object_log.old.spare) }
         ensures pass { IsPassOf timers.now pass.new }
         ensures objects { IsObjectsPass self.now objects_pass.new }
         ensures gets { Gettimes self.now timers.now.about (caller_of pass.old objects_pass.old log.old object_log.old) (caller_of pass.new objects_pass.new log.new object_log.new) id reading (decl_at self.now id).kind result }
         ensures names { KeepsNames (caller_of pass.old objects_pass.old log.old object_log.old) (caller_of pass.new objects_pass.new log.new object_log.new) }
-        ensures room { (log.old.spare ≤ log.new.spare + 4) × (object_log.old.spare ≤ object_log.new.spare + 1) }
+        ensures room { (log.old.spare ≤ log.new.spare + most_noted self.now timers.now.about id) × (object_log.old.spare ≤ object_log.new.spare + 1) }
     {
         match self.kind(id) {
             Kind::Raw => unreachable!(),

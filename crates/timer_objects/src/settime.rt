@@ -3,7 +3,7 @@ ghost use Rattle.std.specs.Prelude.{◌≡◌, ◌≢◌, ◌≤◌, ◌<◌, �
 ghost use Rattle.timer_setting.specs.Arguments.{bits_beyond, checked_times, start_by};
 ghost use Rattle.hr_timers.specs.Known.{IsPassOf};
 ghost use Rattle.timer_objects.specs.declared.object.Kind.TheVariants as kinds;
-ghost use Rattle.timer_objects.specs.Known.{IsObjectsPass, Suits, decl_at};
+ghost use Rattle.timer_objects.specs.Known.{IsObjectsPass, Suits, decl_at, most_noted};
 ghost use Rattle.timer_objects.specs.Calls.{SettimeTells, Settimes, flags_of};
 ghost use Rattle.timer_objects.specs.Rearming.{KeepsNames, caller_of};
 ghost use Rattle.timer_objects.specs.Valid.{IsSettimeReply, end_by};
@@ -52,12 +52,12 @@ impl Objects {
         requires suits { Suits self.now timers.now.about }
         requires within { id < length self.now.decls }
         requires kind { (decl_at self.now id).kind ≢ kinds.Raw }
-        requires room { (4 ≤ log.old.spare) × (0 < object_log.old.spare) }
+        requires room { (most_noted self.now timers.now.about id ≤ log.old.spare) × (0 < object_log.old.spare) }
         ensures timers { IsPassOf timers.now pass.new }
         ensures objects { IsObjectsPass self.now objects_pass.new }
         ensures settimes { Settimes self.now timers.now.about (caller_of pass.old objects_pass.old log.old object_log.old) (caller_of pass.new objects_pass.new log.new object_log.new) id flags value interval reading result }
         ensures names { KeepsNames (caller_of pass.old objects_pass.old log.old object_log.old) (caller_of pass.new objects_pass.new log.new object_log.new) }
-        ensures room { (log.old.spare ≤ log.new.spare + 4) × (object_log.old.spare ≤ object_log.new.spare + 1) }
+        ensures room { (log.old.spare ≤ log.new.spare + most_noted self.now timers.now.about id) × (object_log.old.spare ≤ object_log.new.spare + 1) }
     {
         let (value, interval) = match times_by(self.kind(id), flags, value, interval) {
             Ok(times) => times,

@@ -1,6 +1,7 @@
 -- From plain timers to ones of the model: a history of the one kind is one of the other.
-use Rattle.std.proofs.Common.{◌≡◌, ◌≤◌, ℕ, ◌+◌, ◌*◌, ◌-◌, Bool, true, false, not, ◌&&◌, if◌then◌else◌, Option, Some, None, List, [], ◌∷◌, refl, sym, ap, subst, ◌∙◌, inl, inr, arith, nat_eq}
+use Rattle.std.proofs.Common.{◌≡◌, ◌<◌, ◌≤◌, ℕ, ◌+◌, ◌*◌, ◌-◌, Bool, true, false, not, ◌&&◌, if◌then◌else◌, Option, Some, None, List, [], ◌∷◌, refl, sym, ap, subst, ◌∙◌, inl, inr, arith, nat_eq}
 use Rattle.std.specs.Prelude.{IfSome, is_some}
+use Rattle.std.proofs.lemmas.Bool.Decides.{nat_tests}
 use Rattle.std.proofs.lemmas.Bool.{and_parts, both_ways, cases_eq, eq-eqb, eqb-true, false_from_ne_true, not-false, not-true}
 use Rattle.ktime.specs.Readings.{ClockReading, value_of}
 use Rattle.ktime.specs.declared.clock_id.ClockId.{ClockId}
@@ -10,7 +11,7 @@ use Rattle.seq_timer.specs.declared.context.Context.{Context}
 use Rattle.seq_timer.specs.declared.event.EventBy.TheVariants as events
 use Rattle.seq_timer.specs.Calls.{asked_for, moves_first}
 use Rattle.seq_timer.specs.Events.{Asked}
-use Rattle.seq_timer.specs.Steps.{Timer, after, limited, opening, started}
+use Rattle.seq_timer.specs.Steps.{Timer, after, limited, may_send, opening, started}
 use Rattle.seq_timer.specs.Systems.{updated}
 use Rattle.seq_timer.specs.Tables.{rank}
 use Rattle.seq_timer.proofs.Systems.{updated_here, updated_else}
@@ -41,6 +42,7 @@ pub record Is (left : ℕ) (r : Traced) (p : Plain) : Type 0 where
   pub told : r.told ≡ p.told
   pub order : r.order ≡ p.order
   pub room : r.timer.stamp + 2 * left ≤ r.timer.terms.limit
+  pub near : r.timer.terms.reach ≡ 0
 
 abbrev pub AreAll : ℕ → TracedTimers → PlainTimers → Type 0
 AreAll left w p = (t : ℕ) → Is left (w t) (p t)
@@ -60,6 +62,7 @@ fewer left r p i = record {
   told = i.told;
   order = i.order;
   room = omega (arith, i.room);
+  near = i.near;
 }
 
 -- a timer of the model for a plain one
@@ -99,6 +102,7 @@ is_some_timer p left = record {
   told = refl;
   order = refl;
   room = omega arith;
+  near = refl;
 }
 
 pub first_timers : (p : PlainTimers) (left : ℕ) → IsBeginning p → (w : TracedTimers) × fits.IsBeginning w × AreAll left w p
@@ -148,6 +152,7 @@ make_set_up left clock context r p p' i s = (
     told = refl;
     order = refl;
     room = omega arith;
+    near = refl;
   },
 )
 
@@ -174,6 +179,7 @@ make_cancel left r p p' i s = (
     told = refl;
     order = refl;
     room = omega (arith, i.room);
+    near = i.near;
   },
 )
 
@@ -220,6 +226,7 @@ make_entry left site now r p p' i s =
         told = refl;
         order = refl;
         room = omega (arith, i.room);
+        near = i.near;
       },
     )
 
@@ -250,6 +257,7 @@ make_exit left site r p p' i s =
         told = refl;
         order = refl;
         room = omega (arith, i.room);
+        near = i.near;
       },
     )
 
@@ -274,7 +282,12 @@ started_is n left soft expires processor was r p p' t i s declared clock running
   told = refl;
   order = refl;
   room = omega (arith, i.room, stamp, ap (λ o. o.limit) terms);
+  near = ap (λ o. o.reach) terms ∙ i.near;
 }
+
+-- a timer without a reach that rests, below its limit, may be sent to any base
+may_go : (t : Timer) (base : ℕ) → t.terms.reach ≡ 0 → t.moving ≡ false → t.stamp < t.terms.limit → may_send t base ≡ true
+may_go t base near still room = grind (arith, nat_tests)
 
 -- a timer that is started without an Out is where it is started
 stays_there : (run : Bool) (base asked : ℕ) → not run && not (nat_eq base asked) ≡ false → (run ≡ true → base ≡ asked) → base ≡ asked
@@ -321,7 +334,7 @@ make_start_by n left soft expires was r p p' i s true moves =
           p'.base,
           all_at 0,
           subst (λ b. Goes r.timer (if b then events.Out p'.base ∷ events.Start asked ∷ [] else events.Start asked ∷ [])
-              (started out asked)) (sym moves) ((rested, i.still, other, omega (arith, i.room)), ((inr refl, inr refl), refl)),
+              (started out asked)) (sym moves) ((rested, other, may_go r.timer p'.base i.near i.still (omega (arith, i.room))), ((inr refl, inr refl), refl)),
         );
         from_soft = omega (arith, s.early, s.late);
         to_hard = omega (arith, s.early, s.late);

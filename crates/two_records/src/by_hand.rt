@@ -33,7 +33,7 @@ pub fn record_by_hand<R: Wait>(rt: &R, alloc: Global) -> Result<RunRecord, Alloc
     let mut answers = ItemList::new(alloc);
     answers.push(start_answer(start))?;
     answers.push(cancel_answer(cancel))?;
-    record_of(alloc, Version::One, notes, 1, vec![in alloc; answers]?)
+    record_of(alloc, Version::One, notes, 1, 1, vec![in alloc; answers]?)
 }
 
 fn start_answer(answer: StartAnswer) -> Answer {

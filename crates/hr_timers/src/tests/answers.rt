@@ -9,6 +9,7 @@ pub fn moved(expires: u64) -> StartAnswer {
     StartAnswer::Started {
         was_armed: false,
         generation: 2,
+        asked: 1,
         outs: 2,
         placement: kept(1, expires),
     }

@@ -38,11 +38,12 @@ fn claimed_on<R: Wait>(
     }
 }
 
-/// What a start answers that arms generation 3 on base 0, to expire at this time, and doesn't move the timer.
-fn started_again(expires: u64) -> StartAnswer {
+/// What a start answers that asks for this base, arms generation 3 on base 0, to expire at this time, and doesn't move the timer.
+fn started_again(asked: u32, expires: u64) -> StartAnswer {
     StartAnswer::Started {
         was_armed: false,
         generation: 3,
+        asked,
         outs: 0,
         placement: kept(0, expires),
     }
@@ -53,7 +54,7 @@ fn a_start_of_a_running_timer_is_kept_by_its_finish(rt: HostRuntime) -> Result<(
     let (timers, mut pass, _, claim) = claimed_on(&rt, rt.alloc(), 100, Mode::Abs, 0)?;
     let now = Reading::at(0);
     let started = timers.start(&rt, &mut pass, 0, Mode::Abs, 50, 1, now);
-    assert_eq!(rt; started, started_again(50));
+    assert_eq!(rt; started, started_again(1, 50));
     let armed = ForwardAnswer::Armed {
         generation: 3,
         stamp: 3,
@@ -75,7 +76,7 @@ fn a_full_history_refuses_the_rearming(rt: HostRuntime) -> Result<(), Fail> {
     let (timers, mut pass, _, first) = claimed_on(&rt, rt.alloc(), 3, Mode::Abs, 0)?;
     let now = Reading::at(0);
     let started = timers.start(&rt, &mut pass, 0, Mode::Abs, 0, 0, now);
-    assert_eq!(rt; started, started_again(0));
+    assert_eq!(rt; started, started_again(0, 0));
     let kept = finish(&rt, &timers, &mut pass, first, true);
     assert_eq!(rt; kept.rearmed, Rearmed::No);
     let Some(second) = claim(&rt, &timers, &mut pass, 0, now) else {

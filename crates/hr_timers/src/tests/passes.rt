@@ -1,10 +1,14 @@
 //! Two passes: what one does while the other holds a base, moves a timer or runs a function.
+ghost use Rattle.std.specs.Prelude.{◌≡◌, [], length};
+ghost use Rattle.hr_timers.specs.Known.{IsPassOf};
+
 use super::answers::{busy, cancelled, moved, running};
 use super::callers::{Found, claim, finish, retire, run};
 use super::{two_started, two_timers};
-use crate::{NowAnswer, Pass};
+use crate::{NowAnswer, Pass, Timers};
 use ktime::{Mode, Reading};
 use seq_timer::{CancelAnswer, Rearmed};
+use std::sync::Wait;
 use std::test::Fail;
 
 #[test]
@@ -45,6 +49,20 @@ fn one_pass_runs_what_another_has_started(rt: HostRuntime) -> Result<(), Fail> {
     Ok(())
 }
 
+/// Starts the second timer on base 0, and runs what is due on each base.
+fn run_both<R: Wait>(rt: &R, timers: &Timers, pass: &mut Pass, now: Reading) -> (Found, Found)
+    requires pass { IsPassOf timers.now pass.old }
+    requires size { (length timers.now.about.timers ≡ 2) × (timers.now.about.bases ≡ 2) }
+    requires unclaimed { pass.old.known.claims ≡ [] }
+    ensures pass { IsPassOf timers.now pass.new }
+    ensures id { pass.new.known.id ≡ pass.old.known.id }
+    ensures unclaimed { pass.new.known.claims ≡ [] }
+{
+    timers.start(rt, pass, 1, Mode::Rel, 0, 0, now);
+    let here = run(rt, timers, pass, 0, now);
+    (here, run(rt, timers, pass, 1, now))
+}
+
 #[test]
 fn a_function_on_one_base_leaves_the_other_free(rt: HostRuntime) -> Result<(), Fail> {
     let (timers, mut pass) = two_timers(rt.alloc())?;
@@ -55,10 +73,9 @@ fn a_function_on_one_base_leaves_the_other_free(rt: HostRuntime) -> Result<(), F
     );
     let mut other = timers.split(&mut pass);
     if let Some(claim) = claim(&rt, &timers, &mut pass, 1, now) {
-        timers.start(&rt, &mut other, 1, Mode::Rel, 0, 0, now);
-        let ran = run(&rt, &timers, &mut other, 0, now);
-        assert_eq!(rt; ran, Found::Ran { timer: 1 });
-        assert_eq!(rt; run(&rt, &timers, &mut other, 1, now), busy(2));
+        let (here, there) = run_both(&rt, &timers, &mut other, now);
+        assert_eq!(rt; here, Found::Ran { timer: 1 });
+        assert_eq!(rt; there, busy(2));
         finish(&rt, &timers, &mut pass, claim, false);
     }
     assert_eq!(rt; timers.peek(&mut pass, 0).stamp, 4);

@@ -1,10 +1,14 @@
 //! Timers with slack, and timers of both contexts on one base.
+ghost use Rattle.std.specs.Prelude.{◌≡◌, ◌<◌, []};
+ghost use Rattle.hr_timers.specs.Known.{IsPassOf};
+
 use super::answers::finished;
 use super::callers::{Found, claim, finish, forward, retire, run, run_soft};
 use super::two_timers;
-use crate::Timers;
+use crate::{Pass, Timers};
 use ktime::{ClockId, Mode, Reading};
 use seq_timer::{Context, Declared, ForwardAnswer, Moved, Rearmed};
+use std::sync::Wait;
 use std::test::Fail;
 
 #[test]
@@ -69,6 +73,19 @@ fn both_expiries_move_on(rt: HostRuntime) -> Result<(), Fail> {
     Ok(())
 }
 
+/// Runs what is due on base 0 in the soft context, and then in the hard one.
+fn run_contexts<R: Wait>(rt: &R, timers: &Timers, pass: &mut Pass, now: Reading) -> (Found, Found)
+    requires pass { IsPassOf timers.now pass.old }
+    requires base { 0 < timers.now.about.bases }
+    requires unclaimed { pass.old.known.claims ≡ [] }
+    ensures pass { IsPassOf timers.now pass.new }
+    ensures id { pass.new.known.id ≡ pass.old.known.id }
+    ensures unclaimed { pass.new.known.claims ≡ [] }
+{
+    let of_soft = run_soft(rt, timers, pass, 0, now);
+    (of_soft, run(rt, timers, pass, 0, now))
+}
+
 #[test]
 fn a_soft_function_runs_beside_a_hard_one(rt: HostRuntime) -> Result<(), Fail> {
     let clock = ClockId::Monotonic;
@@ -89,13 +106,13 @@ fn a_soft_function_runs_beside_a_hard_one(rt: HostRuntime) -> Result<(), Fail> {
     timers.start(&rt, &mut pass, 1, Mode::Rel, 0, 0, now);
     if let Some(hard) = claim(&rt, &timers, &mut pass, 0, now) {
         assert_eq!(rt; hard.timer(), 0);
-        let ran = run_soft(&rt, &timers, &mut other, 0, now);
-        assert_eq!(rt; ran, Found::Ran { timer: 1 });
+        let (of_soft, of_hard) = run_contexts(&rt, &timers, &mut other, now);
+        assert_eq!(rt; of_soft, Found::Ran { timer: 1 });
         let busy = Found::Busy {
             timer: 0,
             generation: 1,
         };
-        assert_eq!(rt; run(&rt, &timers, &mut other, 0, now), busy);
+        assert_eq!(rt; of_hard, busy);
         finish(&rt, &timers, &mut pass, hard, false);
     }
     assert_eq!(rt; timers.peek(&mut pass, 0).stamp, 3);

@@ -16,6 +16,7 @@ use timer_objects::{Callback, ObjectReceipt};
 
 impl Stand {
     /// One thread runs the functions of due timers, the other reads the descriptor.
+    #[tactic(auto, using(crate::proofs::Rooms::room_on))]
     fn read_beside<R: Threads + Wait + Sync>(
         &mut self,
         rt: &R,

@@ -31,6 +31,7 @@ fn posix_timers(
     ensures passes { IfOk result (λ r. HasPasses r.0 r.2 r.1 r.3) }
     ensures last { IfOk result (λ r. IsLast r.1.known.id × (r.1.known.claims ≡ []) × IsLast r.3.knows.pass.id) }
     ensures many { IfOk result (λ r. (length r.0.about.timers ≡ count) × (length r.2.decls ≡ count)) }
+    ensures bases { IfOk result (λ r. r.0.about.bases ≡ 1) }
     ensures kinds { IfOk result (λ r. (i : ℕ) → i < count → (decl_at r.2 i).kind ≡ kinds.Posix) }
 {
     let clock = ClockId::Monotonic;
@@ -50,6 +51,7 @@ fn posix_timers(
 }
 
 #[test]
+#[tactic(auto, using(crate::proofs::Rooms::room_on))]
 fn the_last_object_is_set(rt: HostRuntime) -> Result<(), Fail> {
     let (mut log, mut calls) = (Log::make(rt.alloc()), ObjectLog::make(rt.alloc()));
     log.reserve(4)?;

@@ -77,6 +77,7 @@ fn arm<R: Wait>(
 }
 
 /// The function of one timer runs, which was armed for 100, and has an object of this kind with this limit over it.
+#[tactic(auto, using(crate::proofs::Rooms::room_on))]
 fn fired<R: Wait>(
     rt: &R,
     alloc: Global,

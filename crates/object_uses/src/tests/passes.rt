@@ -20,6 +20,7 @@ fn seen_at(receipts: &[ObjectReceipt], i: usize) -> Option<(u32, u64, u64, u64)>
 
 impl Stand {
     /// A pass that is split off sets an object to 100, and the first pass hears of it and takes it in.
+    #[tactic(auto, using(crate::proofs::Rooms::room_on))]
     fn set_by_another<R: Wait>(&mut self, rt: &R, id: u32) -> SettimeAnswer
         requires within { id < 2 }
         requires room { (4 ≤ self.old.0) × (0 < self.old.1) }

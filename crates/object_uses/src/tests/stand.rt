@@ -137,6 +137,7 @@ impl Stand {
         }
     }
 
+    #[tactic(auto, using(crate::proofs::Rooms::room_on))]
     fn settime<R: Wait>(
         &mut self,
         rt: &R,
@@ -190,6 +191,7 @@ impl Stand {
         }
     }
 
+    #[tactic(auto, using(crate::proofs::Rooms::room_on))]
     fn accept<R: Wait>(&mut self, rt: &R, reading: Reading) -> AcceptAnswer
         requires room { (4 ≤ self.old.0) × (0 < self.old.1) }
     {
@@ -206,6 +208,7 @@ impl Stand {
         )
     }
 
+    #[tactic(auto, using(crate::proofs::Rooms::room_on))]
     fn read<R: Wait>(&mut self, rt: &R, len: u64, reading: Reading) -> ReadAnswer
         requires room { (4 ≤ self.old.0) × (0 < self.old.1) }
     {
@@ -223,6 +226,7 @@ impl Stand {
         )
     }
 
+    #[tactic(auto, using(crate::proofs::Rooms::room_on))]
     fn gettime<R: Wait>(&mut self, rt: &R, id: u32, reading: Reading) -> Gettime
         requires room { (4 ≤ self.old.0) × (0 < self.old.1) }
         requires within { id < 2 }

@@ -4,7 +4,7 @@ ghost use Rattle.std.specs.Prelude.{◌≡◌, ◌≢◌, ◌+◌, ◌≤◌, �
 ghost use Rattle.hr_timers.specs.Known.{IsPassOf};
 ghost use Rattle.expire_pass.specs.Handlers.{KeepsPass};
 ghost use Rattle.timer_objects.specs.declared.object.Kind.TheVariants as kinds;
-ghost use Rattle.timer_objects.specs.Known.{IsObjectsPass, decl_at};
+ghost use Rattle.timer_objects.specs.Known.{IsObjectsPass, decl_at, most_noted};
 ghost use Rattle.object_uses.specs.Callers.{HasPasses, KeepsPasses, MayCall};
 
 use super::assert_equal;
@@ -143,7 +143,7 @@ fn set_one<R: Wait>(
     requires may { MayCall timers.now objects.now pass.old objects_pass.old log.old calls.old id }
     requires kind { (decl_at objects.now id).kind ≢ kinds.Raw }
     ensures keeps { KeepsPasses timers.now objects.now pass.old pass.new objects_pass.old objects_pass.new }
-    ensures room { (log.old.spare ≤ log.new.spare + 4) × (calls.old.spare ≤ calls.new.spare + 1) }
+    ensures room { (log.old.spare ≤ log.new.spare + most_noted objects.now timers.now.about id) × (calls.old.spare ≤ calls.new.spare + 1) }
 {
     let now = Reading::at(100);
     set_timer(
@@ -163,6 +163,7 @@ fn set_one<R: Wait>(
 }
 
 /// Once the function of the descriptor's timer runs, sets the POSIX timer, which lets it go on, and then the descriptor.
+#[tactic(auto, using(crate::proofs::Rooms::room_on))]
 fn set_running<R: Wait>(
     rt: &R,
     timers: &Timers,
@@ -173,6 +174,7 @@ fn set_running<R: Wait>(
     calls: &mut ObjectLog,
 ) -> Option<SettimeAnswer>
     requires passes { HasPasses timers.now objects.now pass.old objects_pass.old }
+    requires bases { timers.now.about.bases ≡ 1 }
     requires two { length objects.now.decls ≡ 2 }
     requires kinds { ((decl_at objects.now 0).kind ≡ kinds.Posix) × ((decl_at objects.now 1).kind ≡ kinds.Fd) }
     requires room { (8 ≤ log.old.spare) × (2 ≤ calls.old.spare) }
@@ -219,7 +221,7 @@ fn run_and_set<R: Threads + Wait + Sync>(
 ) -> (Result<Ran, AllocError>, Option<SettimeAnswer>)
     requires runner { HasPasses timers.now objects.now runner.old objects_runner.old }
     requires setter { HasPasses timers.now objects.now setter.old objects_setter.old }
-    requires base { 0 < timers.now.about.bases }
+    requires bases { timers.now.about.bases ≡ 1 }
     requires two { length objects.now.decls ≡ 2 }
     requires kinds { ((decl_at objects.now 0).kind ≡ kinds.Posix) × ((decl_at objects.now 1).kind ≡ kinds.Fd) }
     requires room { (2 ≤ runs.old.spare) × (8 ≤ log.old.spare) × (2 ≤ calls.old.spare) }

@@ -1,8 +1,8 @@
 //! The words of answers.
 ghost use Rattle.std.specs.Prelude.{◌≡◌, ◌++◌, ◌∷◌, OnOk, string_bytes, codes, length, map};
 ghost use Rattle.std.specs.Fmt.{decimal};
-ghost use Rattle.record_text.specs.Numbers.{answer_numbers, object_answer_numbers, AreMachineNumbers};
-ghost use Rattle.record_text.specs.Text.{answer_words, object_answer_words, spaced};
+ghost use Rattle.record_text.specs.Numbers.{answer_numbers, object_answer_numbers, shift_answer_numbers, AreMachineNumbers};
+ghost use Rattle.record_text.specs.Text.{answer_words, object_answer_words, shift_answer_words, spaced};
 
 use crate::item_list::ItemList;
 use crate::record::Answer;
@@ -51,10 +51,37 @@ impl HasWords for Answer {
             } => write_busy(out, reading, timer, generation, fired)?,
             Answer::Clock { stamp } => write!(out, " clock {stamp}")?,
             Answer::Range { would_be } => write!(out, " range {would_be}")?,
-            _ => write_object_answer(out, self)?,
+            _ => write_shift_answer(out, self)?,
         }
         Ok(())
     }
+}
+
+/// Writes the words of an answer to a call that takes a base off line or on line again, or to an object's call.
+fn write_shift_answer(out: &mut String, answer: &Answer) -> Result<(), AllocError>
+    ensures text { OnOk result (string_bytes out.new ≡ string_bytes out.old ++ spaced (shift_answer_words answer.now)) }
+    ensures numbers { OnOk result (AreMachineNumbers (shift_answer_numbers answer.now)) }
+{
+    match *answer {
+        Answer::Offline { moved, stamp } => write!(out, " off {moved} {stamp}")?,
+        Answer::OfflineBusy {
+            moved,
+            timer,
+            generation,
+        } => write!(out, " busy {moved} {timer} {generation}")?,
+        Answer::OfflineMore { moved } => write!(out, " more {moved}")?,
+        Answer::OfflineSpent {
+            moved,
+            timer,
+            stamp,
+        } => write!(out, " spent {moved} {timer} {stamp}")?,
+        Answer::Already { stamp } => write!(out, " already {stamp}")?,
+        Answer::HeirOffline { stamp } => write!(out, " heiroff {stamp}")?,
+        Answer::BaseSpent { stamp } => write!(out, " basespent {stamp}")?,
+        Answer::Online { stamp } => write!(out, " on {stamp}")?,
+        _ => write_object_answer(out, answer)?,
+    }
+    Ok(())
 }
 
 /// Writes the words of what an object's call alone is answered, each after a space. It writes nothing for another answer.

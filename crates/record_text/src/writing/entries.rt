@@ -1,16 +1,30 @@
-//! The words of a timer's entries, and of what callbacks were told in place of one.
+//! The words of a base's and of a timer's entries, and of what callbacks were told in place of one.
 ghost use Rattle.std.specs.Prelude.{◌≡◌, ◌++◌, ◌∷◌, [], OnOk, string_bytes};
 ghost use Rattle.seq_timer.specs.declared.event.EventBy.TheVariants as events;
 ghost use Rattle.seq_timer.specs.declared.event.Reply.TheVariants as replies;
-ghost use Rattle.record_text.specs.Numbers.{AreMachineNumbers, told_numbers};
-ghost use Rattle.record_text.specs.Text.{entry_numbers, entry_words, event_parts, numbers_in, reply_parts, spaced, told_words, words_of};
+ghost use Rattle.record_text.specs.Numbers.{AreMachineNumbers, shift_numbers, told_numbers};
+ghost use Rattle.record_text.specs.Text.{entry_numbers, entry_words, event_parts, numbers_in, reply_parts, shift_words, spaced, told_words, words_of};
 
 use crate::record::{CallbackReply, Entry};
 use crate::version::Version;
 use crate::writing::sections::HasWords;
 use crate::writing::words::{clock_word, mode_word, restart_word};
-use seq_timer::{AskedBy, EventBy, Moved, Placement, Reply, Restarted};
+use seq_timer::{AskedBy, BaseEvent, EventBy, Moved, Placement, Reply, Restarted};
 use std::alloc::AllocError;
+
+impl HasWords for BaseEvent {
+    ghost words = { shift_words };
+
+    ghost numbers = { shift_numbers };
+
+    fn write_words(&self, out: &mut String) -> Result<(), AllocError> {
+        match *self {
+            BaseEvent::Offline { heir } => write!(out, " offline {heir}")?,
+            BaseEvent::Online => out.push_str(" online")?,
+        }
+        Ok(())
+    }
+}
 
 /// An entry as a record of this version shows it.
 #[derive(Clone, Copy)]

@@ -1,10 +1,12 @@
 //! The lines of a record, each with what it tells, and its whole text.
 ghost use Rattle.std.specs.Prelude.{◌≡◌, ◌++◌, ◌∷◌, [], OnOk, string_bytes, IfOk};
 ghost use Rattle.std.specs.Fmt.{decimal};
-ghost use Rattle.record_text.specs.Numbers.{AreMachineNumbers, HasMachineNumbers};
-ghost use Rattle.record_text.specs.Text.{entry_and_looks, spaced, object_entry_and_skips, text_of, OfCall, OfClock, OfLook, OfSkip};
+ghost use Rattle.record_text.specs.Numbers.{AreMachineNumbers, HasMachineNumbers, HaveMachineNumbers};
+ghost use Rattle.record_text.specs.Text.{entry_and_looks, lines_from_timers, lines_text, object_entry_and_skips, spaced, text_of, OfBase, OfCall, OfClock, OfLook, OfSkip};
 
-use crate::record::{Answer, ClockLine, Label, Look, ObjectLine, RunRecord, Skip, TimerLine};
+use crate::record::{
+    Answer, BaseLine, ClockLine, Label, Look, ObjectLine, RunRecord, Skip, TimerLine,
+};
 use crate::version::Version;
 use crate::writing::entries::EntryIn;
 use crate::writing::sections::{
@@ -13,9 +15,9 @@ use crate::writing::sections::{
 use crate::writing::words::{version_word, write_name, write_ns};
 use std::alloc::{AllocError, Global};
 
-/// The text of a record, by its version: a line for each write of the clock, then for each entry of each timer with what
-/// callbacks were told there, then for each entry of each object with the expiries that were refused there,
-/// then for each answer of each lane.
+/// The text of a record, by its version: a line for each write of the clock, then for each entry of each base, then for each
+/// entry of each timer with what callbacks were told there, then for each entry of each object with the expiries that were
+/// refused there, then for each answer of each lane.
 #[tactic(auto, using(crate::proofs::RecordTexts::lines_text_both, crate::proofs::RecordTexts::numbers_both))]
 pub fn text(alloc: Global, run: &RunRecord) -> Result<Vec<u8>, AllocError>
     ensures text { IfOk result (λ bytes. bytes.items ≡ text_of run.now) }
@@ -26,11 +28,23 @@ pub fn text(alloc: Global, run: &RunRecord) -> Result<Vec<u8>, AllocError>
     let number = version_word(version);
     writeln!(out, "record {number}")?;
     write_list(&mut out, version, 0, 1, run.clock.as_slice())?;
-    write_lists(&mut out, version, 1, run.timers.as_slice())?;
-    write_lists(&mut out, version, 1, run.objects.as_slice())?;
-    write_lists(&mut out, version, 0, run.answers.as_slice())?;
-    out.push_str("end\n")?;
+    write_lists(&mut out, version, 1, run.bases.as_slice())?;
+    write_from_timers(&mut out, run)?;
     Ok(out.into_bytes())
+}
+
+/// Writes the lines of the timers, and all that stand behind them.
+#[tactic(auto, using(crate::proofs::RecordTexts::lines_text_both, crate::proofs::RecordTexts::numbers_both))]
+fn write_from_timers(out: &mut String, run: &RunRecord) -> Result<(), AllocError>
+    ensures text { OnOk result (string_bytes out.new ≡ string_bytes out.old ++ lines_text run.now.version (lines_from_timers run.now)) }
+    ensures numbers { OnOk result (HaveMachineNumbers (lines_from_timers run.now)) }
+{
+    let version = run.version;
+    write_lists(out, version, 1, run.timers.as_slice())?;
+    write_lists(out, version, 1, run.objects.as_slice())?;
+    write_lists(out, version, 0, run.answers.as_slice())?;
+    out.push_str("end\n")?;
+    Ok(())
 }
 
 /// Writes a line: its kind, the numbers of its list and its item, the call that made it, and its words.
@@ -72,6 +86,20 @@ impl HasLines for ClockLine {
             "clock {number} {lane} {call} {name} {ns} {mono} {real} {boot} {changes}"
         )?;
         Ok(())
+    }
+}
+
+impl HasLines for BaseLine {
+    ghost lines = { λ base number line. OfBase base number line ∷ [] };
+
+    fn write_lines(
+        &self,
+        out: &mut String,
+        _version: Version,
+        base: usize,
+        number: usize,
+    ) -> Result<(), AllocError> {
+        write_line_of(out, "base", base, number, self.label, &self.event)
     }
 }
 

@@ -47,6 +47,8 @@ const CALLS: &[(&[u8], Form)] = &[
     (b"overrun", Form::Overrun),
     (b"read", Form::Read),
     (b"readable", Form::Readable),
+    (b"offline", Form::Offline),
+    (b"online", Form::Online),
 ];
 
 /// Whether this word names a form of this version, by the form's name.

@@ -19,7 +19,7 @@ pub fn bytes_are_read_or_refused()
     ensures one_refusal { (bytes : List ℕ) → (q r : Refused) → IsRefused bytes q → IsRefused bytes r → q ≡ r }
 {}
 
-/// A script of version 1 asks for no slack, and all its timers and expiries are of the hard context.
+/// A script of version 1 asks for no slack and takes no base off line, and all its timers and expiries are of the hard context.
 pub fn version_one_is_hard()
     ensures { (s : Script) → IsInRange s → s.version ≡ versions.One → IsHard s }
 {}

@@ -90,6 +90,10 @@ fn plain_call(form: Form, values: &[Value]) -> Option<LaneCall>
         (Form::SoftExpire, [Number(lane), Number(base), Number(budget)]) => {
             (lane, expire(Context::Soft, *base as u32, *budget))
         }
+        (Form::Offline, [Number(lane), Number(base), Number(heir), Number(budget)]) => {
+            (lane, offline(*base as u32, *heir as u32, *budget))
+        }
+        (Form::Online, [Number(lane), Number(base)]) => (lane, online(*base as u32)),
         (Form::Advance, [Number(lane), Number(by)]) => (lane, write(Write::Advance { by: *by })),
         (Form::Set, [Number(lane), Number(to)]) => (lane, write(Write::Set { to: *to })),
         (Form::Suspend, [Number(lane), Number(by)]) => (lane, write(Write::Suspend { by: *by })),
@@ -149,6 +153,18 @@ fn expire(context: Context, base: u32, budget: u64) -> Call
         base,
         budget,
     }
+}
+
+fn offline(base: u32, heir: u32, budget: u64) -> Call
+    ensures { result ≡ calls.Offline base heir budget }
+{
+    Call::Offline { base, heir, budget }
+}
+
+fn online(base: u32) -> Call
+    ensures { result ≡ calls.Online base }
+{
+    Call::Online { base }
 }
 
 /// The call that a line of this form asks for, where it has the number of a timer and nothing else.

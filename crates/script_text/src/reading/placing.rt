@@ -2,7 +2,7 @@
 ghost use Rattle.std.specs.Prelude.{◌≡◌};
 ghost use Rattle.script_text.specs.Forms.{row};
 ghost use Rattle.script_text.specs.Scripts.{most_bases, most_events, most_lanes, most_timers};
-ghost use Rattle.script_text.specs.Refusals.{check_line, check_count, check_kind, check_number, check_value, check_values, is_placed, drafted_kind};
+ghost use Rattle.script_text.specs.Refusals.{base_named, check_line, check_count, check_kind, check_number, check_value, check_values, is_placed, drafted_kind};
 
 use crate::form::{Field, Form, Line, Part, Value};
 use crate::reading::drafts::Draft;
@@ -103,10 +103,10 @@ fn check_count(draft: &Draft, part: Part) -> Option<Cause>
     }
 }
 
-/// The cause that refuses a number in its field.
+/// The cause that refuses a number in its field, behind the base that its line has named.
 #[tactic(auto, unfolding(crate::specs::Refusals::check_number))]
-fn check_number(draft: &Draft, field: Field, n: u64) -> Option<Cause>
-    ensures { result ≡ check_number draft.now field n }
+fn check_number(draft: &Draft, base: u64, field: Field, n: u64) -> Option<Cause>
+    ensures { result ≡ check_number draft.now base field n }
 {
     let timers = draft.timers.as_slice().len() as u64;
     match field {
@@ -115,28 +115,41 @@ fn check_number(draft: &Draft, field: Field, n: u64) -> Option<Cause>
         Field::Base if n >= u64::from(draft.bases) => Some(Cause::BaseLimit),
         Field::Lanes if n < 1 || n > most_lanes(draft.version) => Some(Cause::LaneLimit),
         Field::Lane if n >= u64::from(draft.lanes) => Some(Cause::LaneLimit),
+        Field::FirstLane if n > 0 => Some(Cause::LaneLimit),
         Field::Limit if n < 1 || n > most_events(draft.version) => Some(Cause::EventLimit),
         Field::NewTimer if n != timers => Some(Cause::BadId),
         Field::Timer if n >= timers => Some(Cause::NoTimer),
+        Field::Heir if n >= base => Some(Cause::HeirLimit),
         Field::Budget if n > MOST_BUDGET => Some(Cause::BudgetLimit),
         _ => None,
     }
 }
 
 /// The cause that refuses what fills a field.
-fn check_value(draft: &Draft, field: Field, value: Value) -> Option<Cause>
-    ensures { result ≡ check_value draft.now field value }
+fn check_value(draft: &Draft, base: u64, field: Field, value: Value) -> Option<Cause>
+    ensures { result ≡ check_value draft.now base field value }
 {
     match value {
-        Value::Number(n) => check_number(draft, field, n),
+        Value::Number(n) => check_number(draft, base, field, n),
         _ => None,
+    }
+}
+
+/// The base that a line has named, after one more of its fields.
+fn base_named(base: u64, field: Field, value: Value) -> u64
+    ensures { result ≡ base_named base value field }
+{
+    match (value, field) {
+        (Value::Number(n), Field::Base) => n,
+        _ => base,
     }
 }
 
 /// The first cause in what fills the fields of a form.
 fn check_values(draft: &Draft, form: Form, values: &[Value]) -> Option<Cause>
-    ensures { result ≡ check_values draft.now (row form) values.now }
+    ensures { result ≡ check_values draft.now 0 (row form) values.now }
 {
+    let mut base = 0;
     let mut rest = values;
     for field in form.fields() {
         let Some(field) = field else {
@@ -145,9 +158,10 @@ fn check_values(draft: &Draft, form: Form, values: &[Value]) -> Option<Cause>
         let Some((value, more)) = rest.split_first() else {
             return None;
         };
-        if let Some(cause) = check_value(draft, *field, *value) {
+        if let Some(cause) = check_value(draft, base, *field, *value) {
             return Some(cause);
         }
+        base = base_named(base, *field, *value);
         rest = more;
     }
     None

@@ -66,6 +66,7 @@ fn expected(base: u32) -> Ninth
         started: StartAnswer::Started {
             was_armed: false,
             generation: number,
+            asked: base,
             outs: if base == 0 { 0 } else { 1 << base },
             placement: kept(base, 0),
         },

@@ -217,6 +217,7 @@ fn start_on_timers<R: Wait>(
         StartAnswer::Started {
             was_armed,
             generation,
+            asked: _,
             outs,
             placement,
         } => Told::Started(was_armed, generation, outs, placement),

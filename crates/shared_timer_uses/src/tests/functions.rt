@@ -130,6 +130,7 @@ fn a_function_starts_its_own_timer_again(rt: HostRuntime) -> Result<(), Fail> {
     let started = StartAnswer::Started {
         was_armed: false,
         generation: 3,
+        asked: 0,
         outs: 0,
         placement: kept(0, 1050),
     };

@@ -36,6 +36,7 @@ fn the_last_base_takes_a_timer(rt: HostRuntime) -> Result<(), Fail> {
     let started = StartAnswer::Started {
         was_armed: false,
         generation: 2,
+        asked: 63,
         outs: 1 << 63,
         placement: kept(63, 7),
     };
@@ -56,6 +57,7 @@ fn the_last_timer_is_started(rt: HostRuntime) -> Result<(), Fail> {
     let started = StartAnswer::Started {
         was_armed: false,
         generation: 1,
+        asked: 0,
         outs: 0,
         placement: kept(0, 7),
     };

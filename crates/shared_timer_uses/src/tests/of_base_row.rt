@@ -3,6 +3,7 @@ ghost use Rattle.std.specs.Prelude.{◌≡◌, IfOk, [], length};
 ghost use Rattle.pass_names.specs.Names.{IsLast};
 ghost use Rattle.base_row.specs.Calls.{IsBasePassOf};
 ghost use Rattle.base_row.specs.Rests.{Rests};
+ghost use Rattle.shared_timer_uses.specs.Rows.{HasNoReach};
 
 mod callers;
 mod threads;
@@ -20,6 +21,7 @@ use threads::turns_of_two;
 fn three_timers(alloc: Global) -> Result<(BaseRow, Pass), AllocError>
     ensures row { IfOk result (λ r. IsBasePassOf r.0 r.1 × Rests r.1.knows × IsLast r.1.knows.id × (r.1.knows.claims ≡ [])) }
     ensures size { IfOk result (λ r. (length r.0.about.timers ≡ 3) × (r.0.about.bases ≡ 2)) }
+    ensures near { IfOk result (λ r. HasNoReach r.0.about) }
 {
     let timers = [
         Declared::hard(ClockId::Monotonic),

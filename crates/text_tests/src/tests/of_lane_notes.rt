@@ -3,10 +3,10 @@ use crate::tests::of_record_text::shows as shows_record;
 use clock_model::Write;
 use expire_pass::{Noted, Receipt};
 use ktime::{ClockId, Mode, Reading};
-use lane_notes::{Notes, note_object_receipts, note_receipts, record_of};
+use lane_notes::{BaseNote, Notes, note_object_receipts, note_receipts, record_of};
 use posix_timer::{AcceptAnswer, Arm, SettimeAnswer, SettimeCall, TriggerAnswer};
 use record_text::{ClockLine, Label, Version};
-use seq_timer::{Asked, Event, Moved, Observation, Placement, Reply, Restarted};
+use seq_timer::{Asked, BaseEvent, Event, Moved, Observation, Placement, Reply, Restarted};
 use std::alloc::{AllocError, Global};
 use std::process::Abort;
 use timer_fd::{GettimeAnswer, ReadAnswer};
@@ -204,16 +204,16 @@ fn trigger(number: u64, generation: u64, answer: TriggerAnswer) -> ObjectReceipt
     )
 }
 
-/// Compares the text of the record of this version that notes make.
+/// Compares the text of the record of this version that notes make, with so many bases and as many timers.
 fn shows(
     rt: &impl Abort,
     alloc: Global,
     version: Version,
     notes: Notes,
-    timers: usize,
+    lists: usize,
     want: &str,
 ) -> Result<(), AllocError> {
-    let record = record_of(alloc, version, notes, timers, Vec::new(alloc))?;
+    let record = record_of(alloc, version, notes, lists, lists, Vec::new(alloc))?;
     shows_record(rt, alloc, &record, want)
 }
 
@@ -299,4 +299,64 @@ skip 1 3 1 4 5
 end
 ";
     shows(&rt, rt.alloc(), Version::One, notes, 2, want)
+}
+
+/// The receipts of a timer that is moved to base 0, where it keeps its expiry.
+fn moved() -> [Receipt; 2] {
+    let asked = Asked {
+        mode: Mode::Keep,
+        ns: 100,
+        slack: 50,
+        reading: Reading::at(7),
+        base: 0,
+    };
+    let placement = Placement {
+        base: 0,
+        clock: ClockId::Monotonic,
+        soft: 100,
+        expires: 150,
+    };
+    let start = Reply::Start {
+        placement,
+        was_armed: false,
+    };
+    let out = Reply::Out { was_armed: true };
+    [
+        entry(0, 2, Event::Out { base: 0 }, out),
+        entry(0, 3, Event::Start(asked), start),
+    ]
+}
+
+fn shift(call: u32, base: u32, number: u64, event: BaseEvent) -> BaseNote {
+    BaseNote {
+        label: label(0, call),
+        base,
+        number,
+        event,
+    }
+}
+
+#[test]
+fn a_base_that_goes_off_line_has_lines_and_moves(rt: HostRuntime) -> Result<(), AllocError> {
+    let heir = 0;
+    let mut notes = Notes::new(rt.alloc());
+    notes.note_base(shift(6, 2, 2, BaseEvent::Online))?;
+    notes.note_base(shift(7, 3, 1, BaseEvent::Online))?;
+    let mut others = Notes::new(rt.alloc());
+    others.note_base(shift(9, 1, 1, BaseEvent::Offline { heir }))?;
+    note_receipts(&mut others, label(0, 4), &moved())?;
+    others.note_base(shift(4, 2, 1, BaseEvent::Offline { heir }))?;
+    note_receipts(&mut others, label(0, 3), &[start(0, 1, 50, false)])?;
+    notes.append(others)?;
+    let want = "\
+record 2
+base 1 1 0 9 offline 0
+base 2 1 0 4 offline 0
+base 2 2 0 6 online
+timer 0 1 0 3 start abs 100 50 0 2 2 monotonic 100 150 0
+timer 0 2 0 4 out 0 1
+timer 0 3 0 4 start keep 100 50 0 0 0 monotonic 100 150 0
+end
+";
+    shows(&rt, rt.alloc(), Version::Two, notes, 3, want)
 }

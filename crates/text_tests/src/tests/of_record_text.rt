@@ -9,6 +9,7 @@ use seq_timer::{AskedBy, EventBy, Moved, Placement, Reply, Restarted};
 use std::alloc::{AllocError, Global};
 use std::process::Abort;
 
+mod bases;
 mod objects;
 mod versions;
 
@@ -22,7 +23,7 @@ pub(crate) fn one<T: Drop>(alloc: Global, item: T) -> Result<ItemList<T>, AllocE
     Ok(items)
 }
 
-/// A record of no write of the clock and of no timer.
+/// A record of no write of the clock, of no base and of no timer.
 pub(crate) fn without_timers(
     alloc: Global,
     objects: ItemList<ItemList<ObjectLine>>,
@@ -31,6 +32,7 @@ pub(crate) fn without_timers(
     RunRecord {
         version: Version::One,
         clock: ItemList::new(alloc),
+        bases: ItemList::new(alloc),
         timers: ItemList::new(alloc),
         objects,
         answers,
@@ -168,6 +170,7 @@ fn a_one_shot_timer_expires_once(rt: HostRuntime) -> Result<(), AllocError> {
     let record = RunRecord {
         version: Version::One,
         clock,
+        bases: ItemList::new(alloc),
         timers,
         objects: ItemList::new(alloc),
         answers,
@@ -299,6 +302,7 @@ fn looks_follow_their_entry(rt: HostRuntime) -> Result<(), AllocError> {
     let record = RunRecord {
         version: Version::One,
         clock,
+        bases: ItemList::new(alloc),
         timers,
         objects: ItemList::new(alloc),
         answers: ItemList::new(alloc),

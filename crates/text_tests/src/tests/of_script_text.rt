@@ -2,6 +2,7 @@
 
 mod generating;
 mod lines;
+mod off_line;
 mod reading;
 mod summing;
 mod versions;

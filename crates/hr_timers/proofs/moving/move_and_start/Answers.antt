@@ -1,19 +1,22 @@
-use Rattle.std.proofs.Common.{[], ◌∷◌, sym, subst, ◌∙◌}
-use Rattle.seq_timer.specs.declared.event.EventBy.TheVariants.{Start}
-use Rattle.seq_timer.specs.Steps.{Timer}
-use Rattle.hr_timers.specs.Calls.{entry_by}
-use Rattle.hr_timers.specs.Logged.{IsLogged}
-use Rattle.hr_timers.proofs.Logging.{logged_both}
+use Rattle.std.proofs.Common.{refl, arith, ◌+◌, ap, sym, ◌∙◌}
+use Rattle.hr_timers.specs.declared.moving.Arrival.{Arrival}
+use Rattle.hr_timers.proofs.Arriving.{starts_moved}
+use Rattle.hr_timers.proofs.Keeping.{bits_fit}
 use Rattle.hr_timers.proofs.moving.move_and_start.Goals as goal
 
-pub returns-clause-logged : goal.returns-clause-logged
-returns-clause-logged g c =
-    let put = g.S.ReceiptSink.pushed in
-    let o = c.args.row.now.about in
-    let v = c.args.pass.now.knows in
-    let w = c.send-state.new.pass.knows in
+pub overflow_add-result : goal.overflow_add-result
+overflow_add-result g c =
+    let r = c.bring-arrival.ensures.arrives in
+    omega (
+      arith,
+      bits_fit c.args.asked.now.base c.one_bit.result c.bring-arrival.result.outs r.outs (omega (arith, c.requires.to.0, c.requires.to.1)) r.falls
+          c.one_bit.ensures (ap (λ (a : Arrival). a.outs) r.told),
+    )
+
+pub returns-clause-starts : goal.returns-clause-starts
+returns-clause-starts g c =
     let told = c.send-state.ensures in
-    let event = Start c.args.asked.now in
-    logged_both put o c.args.timer c.args.asked.now.base v.seen w.seen event c.args.sink.now c.send-state.new.sink c.bring.new.sink
-    (sym told.state ∙ told.after) told.logged
-    (subst (λ (t : Timer). IsLogged put o c.args.timer w.seen (entry_by t event ∷ []) c.send-state.new.sink c.bring.new.sink) told.state c.bring.ensures.logged)
+    starts_moved g.S.ReceiptSink.pushed c.args.row.now.about c.args.pass.now.knows c.send-state.new.pass.knows c.bring-arrival.new.pass.knows c.args.timer
+    c.args.asked.now c.args.asked.now.base c.bring-arrival.result _ c.args.sink.now c.send-state.new.sink c.bring-arrival.new.sink
+    (sym told.state ∙ told.after) told.adds told.logged c.bring-arrival.ensures.arrives
+    (λ i. record c.bring-arrival.result { outs = c.one_bit.ensures i + c.bring-arrival.result.outs }) refl

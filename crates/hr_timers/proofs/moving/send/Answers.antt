@@ -5,6 +5,7 @@ use Rattle.base_row.specs.declared.view.BaseView.{BaseView}
 use Rattle.base_row.specs.Calls.{known_of}
 use Rattle.base_row.proofs.Calling.{extends_appended, looks_freed, seen_same}
 use Rattle.pass_names.proofs.SharedHistory.{extends_looks}
+use Rattle.hr_timers.proofs.Keeping.{keeps_freed}
 use Rattle.hr_timers.proofs.moving.send.Goals as goal
 
 pub returns-clause-state : goal.returns-clause-state
@@ -12,7 +13,7 @@ returns-clause-state g c =
     let o = c.args.row.now.about in
     let carry = ap (λ (v : BaseView BaseContent). v.carry) c.out_logged-state.ensures.adds.rest in
     c.out_logged-state.ensures.state
-    ∙ sym (seen_same o c.out_logged-state.new.pass.knows c.unlock_base.new.pass.knows c.args.timer (c.unlock_base.ensures.free.steady c.args.timer carry))
+    ∙ sym (seen_same o c.out_logged-state.new.pass.knows c.unlock_base.new.pass.knows c.args.timer (c.unlock_base.ensures.free.steady.carried c.args.timer carry))
 
 pub returns-clause-adds : goal.returns-clause-adds
 returns-clause-adds g c =
@@ -23,4 +24,8 @@ returns-clause-adds g c =
     let carry = ap (λ (y : BaseView BaseContent). y.carry) c.out_logged-state.ensures.adds.rest in
     extends_looks entries_of (known_of v) (known_of w) (known_of x) c.args.timer _
     (extends_appended o c.fresh.ensures.fresh c.args.held c.args.timer (Out c.args.to) v w c.out_logged-state.ensures.adds)
-    (looks_freed o c.out_logged-state.new.held w x c.unlock_base.ensures.free) (c.unlock_base.ensures.free.steady c.args.timer carry)
+    (looks_freed o c.out_logged-state.new.held w x c.unlock_base.ensures.free) (c.unlock_base.ensures.free.steady.carried c.args.timer carry)
+
+pub returns-clause-keeps : goal.returns-clause-keeps
+returns-clause-keeps g c = keeps_freed c.args.row.now.about c.args.held c.out_logged-state.new.held c.args.timer (Out c.args.to) c.args.pass.now.knows
+    c.out_logged-state.new.pass.knows c.unlock_base.new.pass.knows c.out_logged-state.ensures.adds c.unlock_base.ensures.free

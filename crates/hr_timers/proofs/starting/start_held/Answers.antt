@@ -1,30 +1,61 @@
-use Rattle.std.proofs.Common.{◌^◌, ap, ◌∙◌, arith}
-use Rattle.std.specs.Prelude.{is_some, if◌then◌else◌}
-use Rattle.seq_timer.specs.Calls.{moves_first, start_events, step_all}
+use Rattle.std.proofs.Common.{refl, [], ap, sym, ◌∙◌, arith}
+use Rattle.std.proofs.lemmas.List.{append-nil}
+use Rattle.pass_names.proofs.Passes.{begins_refl}
+use Rattle.seq_timer.specs.Systems.{entries_of}
+use Rattle.std.specs.Prelude.{is_some}
 use Rattle.seq_timer.specs.Steps.{Timer}
 use Rattle.hr_timers.specs.declared.answer.StartAnswer.TheVariants as starts
+use Rattle.hr_timers.specs.declared.moving.Arrival.{Arrival}
 use Rattle.hr_timers.proofs.Making.{looks_refl, made_then}
 use Rattle.hr_timers.proofs.starting.start_held.Goals as goal
+
+pub returns-then-stamp-limit-clause-starts : goal.returns-then-stamp-limit-clause-starts
+returns-then-stamp-limit-clause-starts g c =
+    let v = c.args.pass.now.knows in
+    let w = c.leave.new.pass.knows in
+    let is = c.state_of-state.ensures in
+    record {
+      starts = record {
+        at = v.seen;
+        sent = [];
+        last = c.args.asked.now.base;
+        on_way = ([], refl);
+        made = record {
+          from = begins_refl v.seen;
+          seen = c.leave.ensures.looks.seen;
+          own = c.leave.ensures.own c.requires.holds.on ∙ sym (append-nil (entries_of c.args.timer v.seen));
+          mine = c.leave.ensures.looks.mine ∙ sym (append-nil v.mine);
+          id = c.leave.ensures.looks.id;
+        };
+        fits = (
+          c.requires.holds.on.still,
+          omega (arith, c.stamp-stamp.ensures, c.limit.ensures, ap (λ (t : Timer). t.stamp) is, ap (λ (t : Timer). t.terms.limit) is, c.if-stamp-limit.true),
+          c.stamp-stamp.ensures ∙ ap (λ (t : Timer). t.stamp) is,
+        );
+        claims = c.leave.ensures.looks.claims;
+      };
+      logged = refl;
+    }
 
 pub returns-clause-starts : goal.returns-clause-starts
 returns-clause-starts g c =
     let v = c.args.pass.now.knows in
-    let base = c.args.asked.now.base in
     let is = c.state_of-state.ensures in
-    let told = c.enter_start-placement.ensures in
+    let r = c.enter_start-arrival.ensures.starts in
     let was = c.is_some-was_armed.ensures ∙ (ap is_some c.armed.ensures ∙ ap (λ (t : Timer). is_some t.armed) is) in
-    let number = c.generation_of-generation.ensures ∙ ap (λ (t : Timer). (step_all t (start_events t c.args.asked.now)).stamp) is in
-    let outs = c.outs_of-outs.ensures ∙ ap (λ (t : Timer). if moves_first t base then 2 ^ base else 0) is in
     record {
       starts = record {
         at = v.seen;
-        made = made_then v v c.enter_start-placement.new.pass.knows c.args.timer _ (looks_refl v) told.adds;
+        sent = r.sent;
+        last = r.last;
+        on_way = r.on_way;
+        made = made_then v v c.enter_start-arrival.new.pass.knows c.args.timer _ (looks_refl v) r.adds;
         fits = (
           c.requires.holds.on.still,
           omega (arith, c.stamp-stamp.ensures, c.limit.ensures, ap (λ (t : Timer). t.stamp) is, ap (λ (t : Timer). t.terms.limit) is, c.if-stamp-limit.false),
-          (λ i. starts.Started (was i) (number i) (outs i) (told.placement i)),
+          (λ i. let a : Arrival = r.told i in starts.Started (was i) a.generation a.asked a.outs a.placement),
         );
-        claims = told.claims;
+        claims = c.enter_start-arrival.ensures.claims;
       };
-      logged = told.logged;
+      logged = r.logged;
     }

@@ -1,4 +1,4 @@
-use Rattle.std.proofs.Common.{◌≡◌, subst, false}
+use Rattle.std.proofs.Common.{◌≡◌, subst, sym, false}
 use Rattle.base_row.specs.declared.view.Opening.{Opening}
 use Rattle.base_row.specs.Rules.{number_of}
 use Rattle.base_row.specs.Plays.{KnowsBases}
@@ -6,6 +6,8 @@ use Rattle.base_row.specs.Calls.{base_seen, timer_seen}
 use Rattle.seq_timer.specs.Tables.{IsStopped, in_context, runs_on}
 use Rattle.seq_timer.specs.Halves.{running_on}
 use Rattle.std.specs.Prelude.{Some}
+use Rattle.seq_timer.specs.Systems.{IsOn}
+use Rattle.base_row.proofs.Calling.{seen_same}
 use Rattle.hr_timers.proofs.Leaving.{left_idle, left_busy, left_none}
 use Rattle.hr_timers.proofs.under_lock.leave_base.Goals as goal
 
@@ -38,3 +40,10 @@ returns-clause-content c =
     let o = c.args.row.now.about in
     let w = c.unlock_base.new.pass.knows in
     subst (λ b. base_seen o w b ≡ c.args.held.content) c.requires.base c.unlock_base.ensures.free.content
+
+pub returns-clause-keeps : goal.returns-clause-keeps
+returns-clause-keeps c = c.unlock_base.ensures.free.steady.shifts
+
+pub returns-clause-own : goal.returns-clause-own
+returns-clause-own c = λ t inside on. seen_same c.args.row.now.about c.args.pass.now.knows c.unlock_base.new.pass.knows t
+    (c.unlock_base.ensures.free.own t inside (subst (λ b. IsOn b (timer_seen c.args.row.now.about c.args.pass.now.knows t)) (sym c.requires.base) on))

@@ -6,5 +6,5 @@ abbrev pub invariant-loop-timer : goal.invariant-loop-timer
 invariant-loop-timer g l = record {
   ready : IsUnclaimed l.timers l.pass;
   worked : MadeEntries l.made l.fn.pass l.pass;
-  most : l.made + 4 ≤ 2 * l.timer;
+  most : l.made + 6 ≤ 3 * l.timer;
 }

@@ -6,5 +6,5 @@ abbrev pub invariant-loop : goal.invariant-loop
 invariant-loop g l = record {
   ready : IsUnclaimed l.timers l.pass;
   worked : MadeEntries l.made l.fn.pass l.pass;
-  most : l.made ≤ 4 * l.counter;
+  most : l.made ≤ 5 * l.counter;
 }

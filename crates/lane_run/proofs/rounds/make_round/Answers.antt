@@ -1,33 +1,50 @@
-use Rattle.std.proofs.Common.{◌<◌, length, get_or, sym, subst}
-use Rattle.lane_run.specs.Rounds.{LeftOf, TakesInLanes}
+use Rattle.std.proofs.Common.{◌≡◌, ◌<◌, ◌∙◌, length, get_or, [], sym, subst, ap}
+use Rattle.record_text.specs.declared.record.Answer.{Answer}
+use Rattle.std.proofs.lemmas.List.{get_or_default}
+use Rattle.lane_run.specs.Rounds.{HasSplit, LeftOf, as_index}
+use Rattle.lane_run.specs.Worlds.{ArePassesOf, KeepPasses}
+use Rattle.lane_run.specs.declared.world.WorldPass.{WorldPass}
 use Rattle.lane_run.proofs.Calls.{on_both}
-use Rattle.lane_run.proofs.Mains.{main_same}
+use Rattle.lane_run.proofs.Mains.{main_ran}
+use Rattle.std.proofs.Common.{List}
 use Rattle.lane_run.proofs.rounds.make_round.Goals as goal
 
-pub take_in_lanes-requires-clause-main : goal.take_in_lanes-requires-clause-main
-take_in_lanes-requires-clause-main g c =
-    main_same c.in_ok-lanes.lanes.items c.run_lanes.new.lanes.items c.run_lanes.ensures.as_many (λ k d h. (c.run_lanes.ensures.ran k d h).keeps)
-    c.in_ok-lanes.ensures.main
-
-pub take_in_lanes-requires-clause-names : goal.take_in_lanes-requires-clause-names
-take_in_lanes-requires-clause-names g c = λ k d h.
-    let h' = subst (λ n. k < n) c.run_lanes.ensures.as_many h in
-    subst (λ (n : LeftOf). (get_or c.run_lanes.new.lanes.items k d).label.lane < length n.answers) (sym c.in_ok-lanes.ensures.left)
-    (subst (λ n. n < length c.args.left.now.answers) (sym (c.run_lanes.ensures.ran k d h').name) (c.in_ok-lanes.ensures.begins k d h').within)
+pub take_in_all-requires-clause-main : goal.take_in_all-requires-clause-main
+take_in_all-requires-clause-main g c =
+    let same = c.new_lane-first.ensures.fields.1 in
+    let ran = c.run_lanes-first.ensures.first in
+    main_ran c.split_lanes.new.lanes.items c.run_lanes-first.new.lanes.items ran.pass
+    (subst (λ (p : WorldPass). KeepPasses p c.run_lanes-first.result.pass) same ran.keeps) c.run_lanes-first.ensures.as_many
+    (λ k d h. (c.run_lanes-first.ensures.ran k d h).keeps) c.split_lanes.ensures.main
 
 pub returns-clause-round : goal.returns-clause-round
 returns-clause-round g c =
-    let ended = c.run_lanes.new.lanes.items in
-    let many = c.run_lanes.ensures.as_many in
-    on_both c.take_in_lanes.result c.take_in_lanes.ensures.memory c.take_in_lanes.ensures.taken (λ quiet taken. record {
-      begun = c.in_ok-lanes.lanes.items;
+    let left = c.args.left.now in
+    let first = c.new_lane-first.result in
+    let same = c.new_lane-first.ensures.fields.1 in
+    let label : c.label_of.result ≡ record { lane = 0; call = as_index (length (get_or left.answers 0 [])) } =
+    c.label_of.ensures ∙ ap (λ (xs : List Answer). record { lane = 0; call = as_index (length xs) }) (c.as_slice.ensures ∙ c.index.ensures
+    ∙ ap (λ (l : LeftOf). get_or l.answers 0 c.index.result.now) c.left.view_is ∙ get_or_default left.answers 0 c.index.result.now [] c.requires.few.0) in
+    let ended = c.run_lanes-first.new.lanes.items in
+    let many = c.run_lanes-first.ensures.as_many in
+    let first_ran = c.run_lanes-first.ensures.first in
+    on_both c.take_in_all.result.1 c.take_in_all.ensures.memory c.take_in_all.ensures.taken (λ quiet taken. record {
+      first = first;
+      after = c.run_lanes-first.result;
+      leads = record {
+        label = c.new_lane-first.ensures.fields.0 ∙ label;
+        of = subst (ArePassesOf c.args.world.now) (sym same) c.split_lanes.ensures.main.pass;
+        split = subst (HasSplit c.args.main) (sym same) c.split_lanes.ensures.split;
+        notes = c.new_lane-first.ensures.empty.0;
+        answers = c.new_lane-first.ensures.empty.1;
+      };
+      first_made = first_ran.made quiet.0;
+      begun = c.split_lanes.new.lanes.items;
       ended = ended;
-      split = c.split_lanes.new.main;
-      main = c.in_ok-lanes.ensures.split;
-      lanes = c.in_ok-lanes.ensures.names;
-      begins = c.in_ok-lanes.ensures.begins;
-      of = c.in_ok-lanes.ensures.lanes;
+      lanes = c.split_lanes.ensures.names;
+      begins = c.split_lanes.ensures.begins;
+      of = c.split_lanes.ensures.lanes;
       as_many = many;
-      made = λ k d h. (c.run_lanes.ensures.ran k d h).made (quiet k d (subst (λ n. k < n) (sym many) h));
-      taken = subst (λ l. TakesInLanes c.split_lanes.new.main l ended c.take_in_lanes.new.main c.take_in_lanes.new.left) c.in_ok-lanes.ensures.left taken;
+      made = λ k d h. (c.run_lanes-first.ensures.ran k d h).made (quiet.1 k d (subst (λ n. k < n) (sym many) h));
+      taken = taken;
     })

@@ -1,39 +1,49 @@
+use Rattle.std.specs.Prelude.{OnOk, Result}
+use Rattle.std.specs.declared.alloc.AllocError.{AllocError}
 use Rattle.std.proofs.Common.{◌<◌, List, [], ◌∷◌, ◌++◌, length, get_or, take, arith, sym, ap, ◌∙◌, subst}
 use Rattle.std.specs.List.{AllByRecursion}
 use Rattle.std.proofs.lemmas.List.{take_more}
 use Rattle.script_text.specs.declared.script.LaneCall.{LaneCall}
 use Rattle.script_text.specs.declared.script.Round.{Round}
-use Rattle.lane_run.specs.Rounds.{MakesRounds, none_left}
+use Rattle.lane_run.specs.Rounds.{MakesRound, MakesRounds, none_left}
 use Rattle.lane_run.specs.Worlds.{CanCall}
 use Rattle.lane_run.proofs.Greatest.{lanes_few}
 use Rattle.lane_run.proofs.Ranges.{round_can}
+use Rattle.script_text.proofs.VersionOne.{version_one_is_hard}
 use Rattle.lane_run.proofs.Taking.{rounds_push}
 use Rattle.lane_run.proofs.running.make_rounds.Goals as goal
 
-pub make_round-requires-clause-few : goal.make_round-requires-clause-few
-make_round-requires-clause-few g c = omega
-    (arith, c.loop-round.invariant.lanes, c.requires.range.lanes.1, lanes_few c.args.script.now.version)
+pub make_round-after-requires-clause-few : goal.make_round-after-requires-clause-few
+make_round-after-requires-clause-few g c = λ κs outlives. (
+  omega (arith, c.loop-round.invariant.lanes, c.requires.range.lanes.0),
+  omega
+      (arith, c.loop-round.invariant.lanes, c.requires.range.lanes.1, lanes_few c.args.script.now.version),
+)
 
-pub make_round-requires-clause-calls : goal.make_round-requires-clause-calls
-make_round-requires-clause-calls g c = λ κs outlives.
+pub make_round-after-requires-clause-calls : goal.make_round-after-requires-clause-calls
+make_round-after-requires-clause-calls g c = λ κs outlives.
     let items = c.as_slice-round-items in
     let i = c.loop-round.round-index in
     let is = c.round-item.is ∙ ap (λ rs. get_or rs i c.round-item.result) items.ensures in
-    subst (λ (r : Round). AllByRecursion (λ (x : LaneCall). CanCall c.args.world.now x.call) r.calls) (sym is)
+    subst (λ (r : Round). AllByRecursion (λ (x : LaneCall). CanCall c.args.world.now x.lane x.call) r.calls) (sym is)
     (round_can c.requires.range c.requires.world c.args.script.now.rounds i c.round-item.result
-    (subst (λ (rs : List Round). i < length rs) items.ensures c.loop-round-test.true) c.requires.range.calls)
+    (subst (λ (rs : List Round). i < length rs) items.ensures c.loop-round-test.true) c.requires.range.calls
+    (λ one. (version_one_is_hard c.args.script.now c.requires.range one).calls))
 
 pub loop-round-preserved : goal.loop-round-preserved
 loop-round-preserved g c =
     let x = c.args.world.now in
-    let p = c.args.main.now in
+    let p = c.args.main in
     let none = none_left c.args.script.now.lanes in
     let items = c.as_slice-round-items.result.now in
     let old = c.loop-round in
-    let next = c.make_round.new in record {
-      main = c.make_round.ensures.main;
-      lanes = c.make_round.ensures.lanes ∙ old.invariant.lanes;
-      rounds = subst (λ rs. MakesRounds x rs p none next.main next.left) (sym (take_more items old.round-index c.round-item.result c.loop-round-test.true))
-          (subst (λ (r : Round). MakesRounds x (take old.round-index items ++ r ∷ []) p none next.main next.left) c.round-item.is
-          (rounds_push (take old.round-index items) p none old.invariant.rounds c.in_ok-make_round.ensures.round));
+    let after = c.make_round-after in
+    let q = after.result.0 in record {
+      main = after.ensures.main;
+      lanes = after.ensures.lanes ∙ old.invariant.lanes;
+      rounds = subst (λ rs. MakesRounds x rs p none q after.new.left) (sym (take_more items old.round-index c.round-item.result c.loop-round-test.true))
+          (subst (λ (r : Round). MakesRounds x (take old.round-index items ++ r ∷ []) p none q after.new.left) c.round-item.is
+          (rounds_push (take old.round-index items) p none old.invariant.rounds
+          (subst (λ (made : Result Unit AllocError). OnOk made (MakesRound x c.round-item.result old.main old.left q after.new.left)) c.in_default.is
+          after.ensures.round)));
     }

@@ -7,6 +7,7 @@ ghost use Rattle.seq_timer.specs.Systems.{IsOn};
 ghost use Rattle.seq_timer.specs.Calls.{asked_for};
 ghost use Rattle.base_row.specs.Calls.{IsBasePassOf, timer_seen};
 ghost use Rattle.base_row.specs.Rests.{Rests};
+ghost use Rattle.shared_timer_uses.specs.Rows.{HasNoReach};
 
 use base_row::{BaseRow, HeldBase, Pass};
 use ktime::{Mode, Reading};
@@ -42,14 +43,40 @@ pub fn start<R: Wait>(
     ensures same { (pass.new.knows.claims ≡ pass.old.knows.claims) × (pass.new.knows.id ≡ pass.old.knows.id) }
 {
     let mut held = row.lock_base(rt, pass, base);
-    let state = row.state(pass, &held, timer);
-    let may = is_on(state, base) && state.stamp() < state.limit();
-    if may {
-        let event = start_event(ns, base, reading);
-        row.append(pass, &mut held, timer, event);
-    }
+    let may = start_held(row, pass, &mut held, timer, ns, reading);
     row.unlock_base(pass, held);
     may
+}
+
+/// Starts a timer that is on this base, which is held.
+#[tactic(auto, using(crate::proofs::Near::may_start_here))]
+fn start_held(
+    row: &BaseRow,
+    pass: &mut Pass,
+    held: &mut HeldBase,
+    timer: u32,
+    ns: u64,
+    reading: Reading,
+) -> bool
+    requires row { IsBasePassOf row.now pass.old × (pass.old.knows.held ≡ Some held.old) × (pass.old.knows.carry ≡ None) }
+    requires within { timer < length row.now.about.timers }
+    ensures row { IsBasePassOf row.now pass.new × (pass.new.knows.held ≡ Some held.new) × (pass.new.knows.carry ≡ None) }
+    ensures base { held.new.base ≡ held.old.base }
+    ensures same { (pass.new.knows.claims ≡ pass.old.knows.claims) × (pass.new.knows.id ≡ pass.old.knows.id) }
+{
+    let base = held.base();
+    let state = row.state(pass, held, timer);
+    if state.base() != base || state.is_moving() || state.stamp() >= state.limit() {
+        return false;
+    }
+    pass.known();
+    match row.standing(pass, held).heir {
+        Some(_) => false,
+        None => {
+            row.append(pass, held, timer, start_event(ns, base, reading));
+            true
+        }
+    }
 }
 
 /// Whether a timer is on this base.
@@ -95,16 +122,17 @@ pub fn move_to<R: Wait>(
 ) -> bool
     requires row { IsBasePassOf row.now pass.old × Rests pass.old.knows }
     requires within { (timer < length row.now.about.timers) × (base < row.now.about.bases) × (to < row.now.about.bases) }
+    requires near { HasNoReach row.now.about }
     ensures row { IsBasePassOf row.now pass.new × Rests pass.new.knows }
     ensures same { (pass.new.knows.claims ≡ pass.old.knows.claims) × (pass.new.knows.id ≡ pass.old.knows.id) }
 {
     let mut held = row.lock_base(rt, pass, base);
     let state = row.state(pass, &held, timer);
-    let may = is_on(state, base)
-        && state.running().is_none()
-        && state.stamp() < state.limit()
-        && to != base;
-    if !may {
+    if state.base() != base || state.is_moving() || state.running().is_some() {
+        row.unlock_base(pass, held);
+        return false;
+    }
+    if state.stamp() >= state.limit() || to == base {
         row.unlock_base(pass, held);
         return false;
     }
@@ -129,11 +157,14 @@ fn bring<R: Wait>(
     requires carries { (pass.old.knows.held ≡ None) × (pass.old.knows.carry ≡ Some timer) }
     requires state { state ≡ timer_seen row.now.about pass.old.knows timer }
     requires moving { state.moving ≡ true }
+    requires near { HasNoReach row.now.about }
     ensures row { IsBasePassOf row.now pass.new × Rests pass.new.knows }
     ensures same { (pass.new.knows.claims ≡ pass.old.knows.claims) × (pass.new.knows.id ≡ pass.old.knows.id) }
 {
     let asked = state.base();
     let mut held = row.lock_base(rt, pass, asked);
+    row.standing(pass, &held);
+    pass.known();
     let event = start_event(ns, asked, reading);
     row.arrive(pass, &mut held, timer, state, event);
     row.unlock_base(pass, held);

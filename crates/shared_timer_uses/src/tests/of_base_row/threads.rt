@@ -3,6 +3,7 @@ ghost use Rattle.std.specs.Prelude.{◌≡◌, ◌≤◌, ◌<◌, [], length};
 ghost use Rattle.pass_names.specs.Names.{IsLast};
 ghost use Rattle.base_row.specs.Calls.{IsBasePassOf};
 ghost use Rattle.base_row.specs.Rests.{Rests};
+ghost use Rattle.shared_timer_uses.specs.Rows.{HasNoReach};
 
 use super::callers::{cancel, move_to, run, start};
 use base_row::{BaseRow, Pass};
@@ -15,6 +16,7 @@ use std::thread::{Threads, join_mut};
 fn turn<R: Wait>(rt: &R, row: &BaseRow, pass: &mut Pass, number: u32, reading: Reading) -> u64
     requires row { IsBasePassOf row.now pass.old × Rests pass.old.knows }
     requires size { (length row.now.about.timers ≡ 3) × (row.now.about.bases ≡ 2) }
+    requires near { HasNoReach row.now.about }
     requires unclaimed { pass.old.knows.claims ≡ [] }
     ensures row { IsBasePassOf row.now pass.new × Rests pass.new.knows }
     ensures same { (pass.new.knows.claims ≡ []) × (pass.new.knows.id ≡ pass.old.knows.id) }
@@ -34,6 +36,7 @@ fn turn<R: Wait>(rt: &R, row: &BaseRow, pass: &mut Pass, number: u32, reading: R
 fn turns<R: Wait>(rt: &R, row: &BaseRow, pass: &mut Pass, first: u32, reading: Reading) -> u64
     requires row { IsBasePassOf row.now pass.old × Rests pass.old.knows }
     requires size { (length row.now.about.timers ≡ 3) × (row.now.about.bases ≡ 2) }
+    requires near { HasNoReach row.now.about }
     requires unclaimed { pass.old.knows.claims ≡ [] }
     requires small { first < 100 }
     ensures row { IsBasePassOf row.now pass.new × Rests pass.new.knows }
@@ -57,6 +60,7 @@ fn both<R: Threads + Wait + Sync>(
 ) -> (u64, u64)
     requires row { IsBasePassOf row.now first.old × Rests first.old.knows × IsBasePassOf row.now second.old × Rests second.old.knows }
     requires size { (length row.now.about.timers ≡ 3) × (row.now.about.bases ≡ 2) }
+    requires near { HasNoReach row.now.about }
     requires unclaimed { (first.old.knows.claims ≡ []) × (second.old.knows.claims ≡ []) }
     ensures row { IsBasePassOf row.now first.new × Rests first.new.knows × IsBasePassOf row.now second.new × Rests second.new.knows }
     ensures same { (first.new.knows.claims ≡ []) × (first.new.knows.id ≡ first.old.knows.id) }
@@ -79,6 +83,7 @@ pub fn turns_of_two<R: Threads + Wait + Sync>(
 ) -> u64
     requires row { IsBasePassOf row.now main.old × Rests main.old.knows }
     requires size { (length row.now.about.timers ≡ 3) × (row.now.about.bases ≡ 2) }
+    requires near { HasNoReach row.now.about }
     requires unclaimed { main.old.knows.claims ≡ [] }
     ensures row { IsBasePassOf row.now main.new × Rests main.new.knows }
     ensures unclaimed { main.new.knows.claims ≡ [] }

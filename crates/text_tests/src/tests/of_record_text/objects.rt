@@ -106,6 +106,7 @@ fn record(
     Ok(RunRecord {
         version: Version::One,
         clock,
+        bases: ItemList::new(alloc),
         timers,
         objects,
         answers,

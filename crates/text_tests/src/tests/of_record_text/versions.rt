@@ -115,6 +115,7 @@ fn of_timer(
     Ok(RunRecord {
         version,
         clock: ItemList::new(alloc),
+        bases: ItemList::new(alloc),
         timers,
         objects: ItemList::new(alloc),
         answers,

@@ -170,6 +170,7 @@ fn sums_a_record_up(rt: HostRuntime) -> Result<(), AllocError> {
     let run = RunRecord {
         version: Version::One,
         clock,
+        bases: ItemList::new(alloc),
         timers,
         objects: ItemList::new(alloc),
         answers,

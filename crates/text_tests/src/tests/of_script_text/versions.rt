@@ -130,11 +130,15 @@ const DECLARATIONS_OF_TWO: [&str; 4] = [
     "soft 0 monotonic every 10\n",
 ];
 
-const CALLS_OF_TWO: [&str; 4] = [
+const CALLS_OF_TWO: [&str; 8] = [
     "round\n0 startrange\n",
     "round\n0 startrange 0 rel 5 5 0\n",
     "round\n0 softexpire\n",
     "round\n0 softexpire 0 4\n",
+    "round\n0 offline\n",
+    "round\n0 offline 1 0 4\n",
+    "round\n0 online\n",
+    "round\n0 online 1\n",
 ];
 
 #[test]

@@ -14,11 +14,11 @@ use Rattle.timer_objects.proofs.callback.start.Goals as goal
 -- the start as one of the claim's timer
 made : (g : Over) (c : goal.In_default g) → let a = c.in_default in
     StartsLogged kept c.args.timers.now.about c.args.pass.now.known c.start_logged.new.pass.known c.args.claim.now.timer
-    (asked_for modes.Rel c.args.ns 0 c.args.base c.args.reading) (starts.Started a.field-0 a.field-1 a.field-2 a.field-3) c.args.log.now c.start_logged.new.sink
+    (asked_for modes.Rel c.args.ns 0 c.args.base c.args.reading) (starts.Started a.field-0 a.field-1 a.field-2 a.field-3 a.field-4) c.args.log.now c.start_logged.new.sink
 made g c =
     let a = c.in_default in
     subst (λ t. StartsLogged kept c.args.timers.now.about c.args.pass.now.known c.start_logged.new.pass.known t
-    (asked_for modes.Rel c.args.ns 0 c.args.base c.args.reading) (starts.Started a.field-0 a.field-1 a.field-2 a.field-3) c.args.log.now
+    (asked_for modes.Rel c.args.ns 0 c.args.base c.args.reading) (starts.Started a.field-0 a.field-1 a.field-2 a.field-3 a.field-4) c.args.log.now
     c.start_logged.new.sink) c.timer-timer.ensures c.in_default.ensures.starts
 
 pub returns-in-Spent-clause-runs : goal.returns-in-Spent-clause-runs
@@ -36,7 +36,7 @@ returns-in-Spent-clause-runs g c =
     (c.note_look.ensures.receipts ∙ (λ i. mid.receipts ++ record (look_receipt mine n (events.Start asked) observations.Spent) { timer = c.timer-timer.ensures i } ∷ []))
 
 pub returns-in_default-clause-runs : goal.returns-in_default-clause-runs
-returns-in_default-clause-runs g c = start_entered _ _ _ _ c.start_logged.ensures.pass.knows c.requires.claim _ _ _ _ _ _ _ _ _ (made g c)
+returns-in_default-clause-runs g c = start_entered _ _ _ _ c.start_logged.ensures.pass.knows c.requires.claim _ _ _ _ _ _ _ _ _ _ (made g c)
 
 pub returns-in_default-clause-spare : goal.returns-in_default-clause-spare
-returns-in_default-clause-spare g c = start_room _ _ _ _ c.start_logged.ensures.pass.knows c.requires.claim _ _ _ _ _ _ _ _ _ (made g c)
+returns-in_default-clause-spare g c = start_room _ _ _ _ c.start_logged.ensures.pass.knows c.requires.claim _ _ _ _ _ _ _ _ _ _ (made g c)

@@ -56,7 +56,7 @@ number_of-number-requires g c =
     let t = timer_seen o v c.args.timer in
     let seen = placed_seen o v c.fresh.ensures.fresh (knows_about o v c.requires.row.about c.known.ensures) c.fresh.ensures.some c.args.timer in
     let here = placed_by (BeginsInTurn ((now o.bases o.timers number_of v.seen).bases t.base) c.args.timer t) o.bases t c.args.event.now
-    may.may.allowed.needs may.may.allowed.base seen in
+    may.may.allowed.needs may.may.allowed.base.needs seen in
     record { base = omega (arith, c.fresh.ensures.few, here, ap (λ (x : Timer). x.base) (c.state-state.ensures ∙ c.requires.left)) }
 
 pub enter-requires-clause-stamp : goal.enter-requires-clause-stamp

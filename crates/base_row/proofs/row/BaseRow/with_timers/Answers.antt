@@ -1,5 +1,5 @@
 use Rattle.base_row.specs.Places.{word_at}
-use Rattle.std.proofs.Common.{◌≡◌, ◌∙◌, Some, length, replicate, ap, arith}
+use Rattle.std.proofs.Common.{◌+◌, ◌≡◌, ◌∙◌, Some, length, replicate, ap, arith}
 use Rattle.seq_timer.specs.Systems.{no_base}
 use Rattle.base_row.proofs.Beginning.{begins}
 use Rattle.base_row.proofs.row.BaseRow.with_timers.Goals as goal
@@ -8,7 +8,7 @@ pub new-requires : goal.new-requires
 new-requires c =
     let told = ap (λ v. v.items) c.of.ensures in
     let timers = c.args.timers in
-    let count : c.timer_index.result ≡ word_at c.args.bases (length timers.items) = omega (arith, c.len.ensures, timers.ok.0) in
+    let count : c.timer_index.result ≡ word_at c.args.bases (length timers.items + c.args.bases) = omega (arith, c.len-count.ensures, timers.ok.0) in
     rw (c.from.ensures, told)
     (begins c.args.bases timers.items c.requires.fresh _ _
     (c.as_slice-2.ensures.value ∙ (c.in_ok-words.ensures ∙ ap (λ n. replicate n 0) count))

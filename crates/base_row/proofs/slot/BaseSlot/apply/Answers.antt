@@ -12,7 +12,7 @@ unfolding changed
 returns-clause-slot c =
     let parts = c.deref_mut-parts in
     let goes : Timer → BaseContent → BaseContent = λ t. changed c.args.timer t c.args.event.now in
-    let here : BaseContent = record { content = parts.result.now.base.content; states = parts.result.now.states.items } in
+    let here : BaseContent = record { content = parts.result.now.base.content; states = parts.result.now.states.items; standing = parts.result.now.standing } in
     let inside : c.args.timer < length here.states =
     subst (λ (p : Parts). c.args.timer < length p.states.items) (sym parts.ensures.value)
     (subst (λ (b : BaseContent). c.args.timer < length b.states) (sym c.self.view_is) c.requires.below) in
@@ -20,7 +20,8 @@ returns-clause-slot c =
     (λ i. record {
       content = ap (λ (b : BaseState). b.content) c.apply.ensures.base i;
       states = set parts.result.now.states.items c.args.timer (c.apply.ensures.timer i);
+      standing = parts.result.now.standing;
     })
     ∙ (ap (λ t. goes t here) was
-    ∙ (ap (λ (p : Parts). goes (timer_at p.states.items c.args.timer) (record { content = p.base.content; states = p.states.items })) parts.ensures.value
+    ∙ (ap (λ (p : Parts). goes (timer_at p.states.items c.args.timer) (record { content = p.base.content; states = p.states.items; standing = p.standing })) parts.ensures.value
     ∙ ap (λ (b : BaseContent). goes (timer_at b.states c.args.timer) b) c.self.view_is))

@@ -12,5 +12,6 @@ returns-clause-slot c =
     (λ i. record {
       content = ap (λ (b : BaseState). b.content) c.apply-reply.ensures.base i;
       states = set parts.result.now.states.items c.args.timer (c.apply-reply.ensures.timer i);
+      standing = parts.result.now.standing;
     })
-    ∙ (ap (λ (p : Parts). goes (record { content = p.base.content; states = p.states.items })) parts.ensures.value ∙ ap goes c.self.view_is)
+    ∙ (ap (λ (p : Parts). goes (record { content = p.base.content; states = p.states.items; standing = p.standing })) parts.ensures.value ∙ ap goes c.self.view_is)

@@ -1,4 +1,9 @@
-use Rattle.std.proofs.Common.{ap, subst, sym, ◌∙◌}
+use Rattle.std.proofs.Common.{◌<◌, ℕ, ap, length, subst, sym, ◌∙◌}
+use Rattle.std.specs.Prelude.{IfSome}
+use Rattle.seq_timer.specs.Tables.{timer_at}
+use Rattle.seq_timer.specs.declared.standing.Standing.{Standing}
+use Rattle.base_row.proofs.Holding.{knows_about}
+use Rattle.shared_timer_uses.proofs.Near.{on_line}
 use Rattle.seq_timer.specs.Events.{Event}
 use Rattle.base_row.specs.Calls.{MayAppend}
 use Rattle.ktime.specs.declared.mode.Mode.TheVariants as modes
@@ -13,7 +18,7 @@ pub arrive-requires-clause-state : goal.arrive-requires-clause-state
 arrive-requires-clause-state g c =
     let locks = c.lock_base-held.ensures.locks in
     c.requires.state ∙ sym (seen_same c.args.row.now.about c.args.pass.now.knows c.lock_base-held.new.pass.knows c.args.timer
-    (locks.steady c.args.timer c.requires.carries.1))
+    (locks.steady.carried c.args.timer c.requires.carries.1))
 
 pub arrive-requires-clause-may : goal.arrive-requires-clause-may
 arrive-requires-clause-may g c =
@@ -21,8 +26,15 @@ arrive-requires-clause-may g c =
     let w = c.lock_base-held.new.pass.knows in
     let locks = c.lock_base-held.ensures.locks in
     let same = arrive-requires-clause-state g c in
+    let h = c.lock_base-held.result in
+    let held = ap (λ (v : BaseView BaseContent). v.held) locks.rest in
+    let online = on_line o c.args.timer h.content.standing.heir c.requires.near c.requires.within.0
+    (subst (λ (s : Standing). IfSome s.heir (λ q. (t : ℕ) → t < length o.timers → 0 < (timer_at o.timers t).terms.reach)) c.standing.ensures.held
+    c.standing.ensures.reach) in
+    let whole = knows_about o w c.lock_base-held.ensures.row.about c.known.ensures in
     subst (λ (e : Event). MayAppend o w c.lock_base-held.result c.args.timer e) (sym c.start_event-event.ensures)
-    (may_start o w c.lock_base-held.result c.args.timer (asked_for modes.Abs c.args.ns 0 c.base-asked.result c.args.reading) c.requires.within.0
+    (may_start o w c.lock_base-held.result c.args.timer (asked_for modes.Abs c.args.ns 0 c.base-asked.result c.args.reading) online (whole.held h held).1.0
+    c.requires.within.0
     (ap (λ (v : BaseView BaseContent). v.held) locks.rest) (ap (λ (v : BaseView BaseContent). v.carry) locks.rest ∙ c.requires.carries.1)
     (ap (λ (t : Timer). t.moving) (sym same) ∙ c.requires.moving)
     (c.base-asked.ensures ∙ ap (λ (t : Timer). t.base) same)

@@ -1,0 +1,144 @@
+-- Whose list a line or an entry is in: a timer's or a base's; and how many entries of a list there are.
+use Rattle.std.proofs.Common.{◌≡◌, ℕ, ◌+◌, zero, suc, Bool, true, false, nat_eq, List, [], ◌∷◌, ◌++◌, length, map, get_or, arith, refl, sym, ap, ◌∙◌, if◌then◌else◌}
+use Rattle.std.proofs.lemmas.Bool.{eq-eqb, eqb-true, true≢false}
+use Rattle.std.proofs.lemmas.List.{length-append}
+use Rattle.seq_timer.proofs.Systems.{entries_of-append, shifts_of-append}
+use Rattle.seq_timer.specs.Histories as histories
+use Rattle.seq_timer.specs.Systems.{entries_of, shifts_of}
+use Rattle.seq_timer.specs.declared.standing.BaseEvent.{BaseEvent}
+use Rattle.seq_timer.specs.declared.system.SystemEntry.{SystemEntry}
+use Rattle.seq_timer.specs.declared.system.SystemEntry.TheVariants as entries
+use Rattle.record_text.specs.declared.record.BaseLine.{BaseLine}
+use Rattle.record_text.specs.declared.record.ClockLine.{ClockLine}
+use Rattle.record_text.specs.declared.record.RunRecord.{RunRecord}
+use Rattle.record_text.specs.declared.record.TimerLine.{TimerLine}
+use Rattle.run_history.specs.Actions.{also}
+use Rattle.run_history.specs.Histories.{lines_of_base, lines_of_timer}
+use Rattle.run_history.specs.Receipts.{count, no_line}
+use Rattle.run_history.specs.Witnesses.{BasesList, OfBase, OfTimer, Owner, Shown, TimersList, entry_of_shown, is_owner, line_of_base, line_of_timer, lines_at, owner_of, owner_of_entry}
+
+pub owner_itself : (o : Owner) → is_owner o o ≡ true
+owner_itself (TimersList t) = eq-eqb t t refl
+owner_itself (BasesList b) = eq-eqb b b refl
+
+pub owner_is : (a o : Owner) → a ≡ o → is_owner a o ≡ true
+owner_is a o same = ap (λ x. is_owner x o) same ∙ owner_itself o
+
+pub same_owner : (a o : Owner) → is_owner a o ≡ true → a ≡ o
+same_owner (TimersList t) (TimersList u) is = ap (λ n. TimersList n) (eqb-true t u is)
+same_owner (TimersList t) (BasesList b) is = absurd (cc)
+same_owner (BasesList b) (TimersList t) is = absurd (cc)
+same_owner (BasesList b) (BasesList c) is = ap (λ n. BasesList n) (eqb-true b c is)
+
+pub other_owner : (a o : Owner) → is_owner a o ≡ false → a ≡ o → ⊥
+other_owner a o not same = true≢false (sym (owner_is a o same) ∙ not)
+
+-- a line shows an entry of its own list
+pub owner_shown : (clock : List ClockLine) (shown : Shown) → owner_of_entry (entry_of_shown clock shown) ≡ owner_of shown
+owner_shown clock (OfTimer t entry) = refl
+owner_shown clock (OfBase b event) = refl
+
+-- each line of a list is its own
+pub owner_at : (r : RunRecord) (o : Owner) (n : ℕ) → owner_of (get_or (lines_at r o) n (no_line o)).shown ≡ o
+owner_at r (TimersList t) n = of_timers (lines_of_timer r t) n
+  where
+    of_timers : (lines : List TimerLine) (n : ℕ) → owner_of (get_or (map (line_of_timer t) lines) n (no_line (TimersList t))).shown ≡ TimersList t
+    of_timers [] n = refl
+    of_timers (line ∷ lines) zero = refl
+    of_timers (line ∷ lines) (suc n) = of_timers lines n
+owner_at r (BasesList b) n = of_bases (lines_of_base r b) n
+  where
+    of_bases : (lines : List BaseLine) (n : ℕ) → owner_of (get_or (map (line_of_base b) lines) n (no_line (BasesList b))).shown ≡ BasesList b
+    of_bases [] n = refl
+    of_bases (line ∷ lines) zero = refl
+    of_bases (line ∷ lines) (suc n) = of_bases lines n
+
+-- ---- the entries of a list
+
+-- one more where it is one of the list
+abbrev pub and_one : Bool → ℕ → ℕ
+and_one true n = n + 1
+and_one false n = n
+
+pub count_none : (o : Owner) → count o [] ≡ 0
+count_none (TimersList t) = refl
+count_none (BasesList b) = refl
+
+pub count_cons : (o : Owner) (x : SystemEntry) (xs : List SystemEntry) → count o (x ∷ xs) ≡ and_one (is_owner (owner_of_entry x) o) (count o xs)
+count_cons (TimersList t) (entries.Timer e) xs =
+    elim (nat_eq e.timer t) as (λ b. length (if b then record { event = e.event; reply = e.reply } ∷ entries_of t xs else entries_of t xs)
+    ≡ and_one b (length (entries_of t xs))) [
+      | true ↦ omega arith
+      | false ↦ refl
+    ]
+count_cons (TimersList t) (entries.Base c) xs = refl
+count_cons (BasesList b) (entries.Timer e) xs = refl
+count_cons (BasesList b) (entries.Base c) xs =
+    elim (nat_eq c.base b) as (λ x. length (if x then c.event ∷ shifts_of b xs else shifts_of b xs) ≡ and_one x (length (shifts_of b xs))) [
+      | true ↦ omega arith
+      | false ↦ refl
+    ]
+
+pub count-append : (o : Owner) (xs ys : List SystemEntry) → count o (xs ++ ys) ≡ count o xs + count o ys
+count-append (TimersList t) xs ys = ap length (entries_of-append t xs ys) ∙ length-append (entries_of t xs) (entries_of t ys)
+count-append (BasesList b) xs ys = ap length (shifts_of-append b xs ys) ∙ length-append (shifts_of b xs) (shifts_of b ys)
+
+pub count_push : (o : Owner) (xs : List SystemEntry) (x : SystemEntry) → count o (xs ++ x ∷ []) ≡ and_one (is_owner (owner_of_entry x) o) (count o xs)
+count_push o xs x =
+    count-append o xs (x ∷ []) ∙ ap (λ n. count o xs + n) (count_cons o x [] ∙ ap (and_one (is_owner (owner_of_entry x) o)) (count_none o))
+    ∙ last (is_owner (owner_of_entry x) o)
+  where
+    last : (b : Bool) → count o xs + and_one b 0 ≡ and_one b (count o xs)
+    last true = omega arith
+    last false = omega arith
+
+-- those of a list among these
+abbrev pub entries_at : Owner → List SystemEntry → List SystemEntry
+entries_at o [] = []
+entries_at o (x ∷ xs) = also (is_owner (owner_of_entry x) o) x (entries_at o xs)
+
+pub entries_at-append : (o : Owner) (xs ys : List SystemEntry) → entries_at o (xs ++ ys) ≡ entries_at o xs ++ entries_at o ys
+entries_at-append o [] ys = refl
+entries_at-append o (x ∷ xs) ys =
+    elim (is_owner (owner_of_entry x) o) as (λ b. also b x (entries_at o (xs ++ ys)) ≡ also b x (entries_at o xs) ++ entries_at o ys) [
+      | true ↦ ap (λ zs. x ∷ zs) (entries_at-append o xs ys)
+      | false ↦ entries_at-append o xs ys
+    ]
+
+-- law: they are as many as are counted
+pub count_is : (o : Owner) (xs : List SystemEntry) → count o xs ≡ length (entries_at o xs)
+count_is o [] = count_none o
+count_is o (x ∷ xs) = count_cons o x xs ∙ here (is_owner (owner_of_entry x) o) (count_is o xs)
+  where
+    here : (b : Bool) → count o xs ≡ length (entries_at o xs) → and_one b (count o xs) ≡ length (also b x (entries_at o xs))
+    here true rest = omega (arith, rest)
+    here false rest = rest
+
+-- an entry of a timer, and one of a base, by what its own history has
+abbrev pub timers_entry : ℕ → histories.Entry → SystemEntry
+timers_entry t e = entries.Timer (record { timer = t; event = e.event; reply = e.reply })
+
+abbrev pub bases_entry : ℕ → BaseEvent → SystemEntry
+bases_entry b event = entries.Base (record { base = b; event = event })
+
+pub entries_at-timer : (t : ℕ) (xs : List SystemEntry) → entries_at (TimersList t) xs ≡ map (timers_entry t) (entries_of t xs)
+entries_at-timer t [] = refl
+entries_at-timer t (entries.Timer e ∷ xs) =
+    elim (nat_eq e.timer t) as (λ b. nat_eq e.timer t ≡ b → also b (entries.Timer e) (entries_at (TimersList t) xs)
+    ≡ map (timers_entry t) (if b then record { event = e.event; reply = e.reply } ∷ entries_of t xs else entries_of t xs)) [
+      | true ↦ λ is. ap (λ n. entries.Timer (record { timer = n; event = e.event; reply = e.reply }) ∷ entries_at (TimersList t) xs) (eqb-true e.timer t is)
+          ∙ ap (λ zs. entries.Timer (record { timer = t; event = e.event; reply = e.reply }) ∷ zs) (entries_at-timer t xs)
+      | false ↦ λ is. entries_at-timer t xs
+    ] refl
+entries_at-timer t (entries.Base c ∷ xs) = entries_at-timer t xs
+
+pub entries_at-base : (b : ℕ) (xs : List SystemEntry) → entries_at (BasesList b) xs ≡ map (bases_entry b) (shifts_of b xs)
+entries_at-base b [] = refl
+entries_at-base b (entries.Timer e ∷ xs) = entries_at-base b xs
+entries_at-base b (entries.Base c ∷ xs) =
+    elim (nat_eq c.base b) as (λ x. nat_eq c.base b ≡ x → also x (entries.Base c) (entries_at (BasesList b) xs)
+    ≡ map (bases_entry b) (if x then c.event ∷ shifts_of b xs else shifts_of b xs)) [
+      | true ↦ λ is. ap (λ n. entries.Base (record { base = n; event = c.event }) ∷ entries_at (BasesList b) xs) (eqb-true c.base b is)
+          ∙ ap (λ zs. entries.Base (record { base = b; event = c.event }) ∷ zs) (entries_at-base b xs)
+      | false ↦ λ is. entries_at-base b xs
+    ] refl

@@ -1,0 +1,228 @@
+-- A base that is off line has empty queues, and no function runs there; so no timer is started, claimed or armed again on it.
+use Rattle.std.proofs.Common.{◌≡◌, ℕ, ◌<◌, false, List, [], ◌∷◌, length, Option, Some, None, IsSome, refl, ap, sym, ◌∙◌, subst, arith}
+use Rattle.std.proofs.Math.Logic.{⊎_elim}
+use Rattle.std.proofs.lemmas.Bool.{cases_eq, true≢false}
+use Rattle.std.proofs.lemmas.Bool.Decides.{nat_tests}
+use Rattle.std.proofs.lemmas.List.{length-map}
+use Rattle.ktime.specs.Readings.{ClockReading}
+use Rattle.seq_timer.specs.declared.context.Context.{Context}
+use Rattle.seq_timer.specs.declared.context.Context.TheVariants as contexts
+use Rattle.seq_timer.specs.declared.context.Declared.{Declared}
+use Rattle.seq_timer.specs.declared.context.Terms.{Terms}
+use Rattle.seq_timer.specs.Events.{Event}
+use Rattle.seq_timer.specs.declared.event.EventBy.TheVariants as events
+use Rattle.seq_timer.specs.declared.standing.BaseEvent.{BaseEvent}
+use Rattle.seq_timer.specs.declared.standing.BaseEvent.TheVariants as shifts
+use Rattle.seq_timer.specs.declared.standing.Standing.{Standing}
+use Rattle.seq_timer.specs.declared.system.BaseEntry.{BaseEntry}
+use Rattle.seq_timer.specs.declared.system.SystemEntry.{SystemEntry}
+use Rattle.seq_timer.specs.declared.system.SystemEntry.TheVariants as entries
+use Rattle.seq_timer.specs.declared.system.TimerEntry.{TimerEntry}
+use Rattle.seq_timer.specs.Standings.{AreShifts, IsStanding, MayShift, first_standing, standing_after, standing_after_all}
+use Rattle.seq_timer.specs.Steps.{Timer, Needs, opening}
+use Rattle.seq_timer.specs.Tables.{IsUnused, in_context, runs_on, timer_at}
+use Rattle.seq_timer.specs.Halves.{Half, generation_in, half_after, no_half, running_on}
+use Rattle.seq_timer.specs.Contents.{IsContentOf, content_after, first_due, half_of, no_content, with_half}
+use Rattle.seq_timer.specs.Systems.{AreSystemSteps, BaseContent, FitsBase, IsBaseStep, IsClear, IsSystemHistory, IsSystemStep, MayCome, System, after_entries, after_entry, after_one, after_shift, first_system, openings, shifts_of, system_of}
+use Rattle.seq_timer.specs.Turns.{Names}
+use Rattle.seq_timer.proofs.Agreement.{Agrees, agrees_one, content_of_changed, first_agrees}
+use Rattle.seq_timer.proofs.Contents.{seen_own}
+use Rattle.seq_timer.proofs.Effects.{by_effect}
+use Rattle.seq_timer.proofs.Fronts.{front-unarmed}
+use Rattle.seq_timer.proofs.Systems.{after_entries-shifts_of, base_else, base_here, base_shift, base_unshifted, content_shift, shifts_by_turns, standing_same, standing_shifted, timer_else, timer_here, timers_shift}
+
+-- ---- a base that has nothing
+
+idle_in : (x : Context) → (half_of x no_content).running ≡ None
+idle_in contexts.Hard = refl
+idle_in contexts.Soft = refl
+
+none_runs : (b : ℕ) (t : Timer) → None ≡ running_on b t → runs_on b t ≡ false
+none_runs b t none = grind (arith, nat_tests)
+
+-- no timer is armed on a base that has nothing, and no function runs there
+pub unused_clear : (timers : ℕ → Timer) (b : ℕ) → IsContentOf timers b no_content → IsUnused timers b
+unused_clear timers b agrees = record {
+  unarmed = front-unarmed timers b no_content agrees refl;
+  idle = λ t. let x = (timers t).declared.context in
+      none_runs b (timers t) (subst (λ (r : Option (ℕ × ℕ)). generation_in t r ≡ running_on b (in_context x timers t)) (idle_in x) ((agrees.each x).running t)
+      ∙ ap (running_on b) (seen_own (timers t)));
+}
+
+pub unused : (w : System) → Agrees w → (b : ℕ) → (w.bases b).content ≡ no_content → IsUnused w.timers b
+unused w agrees b clear = unused_clear w.timers b (subst (λ c. IsContentOf w.timers b c) clear (agrees.contents b))
+
+none_due : (x : Context) (timers : ℕ → Timer) (reading : ClockReading) (p : ℕ × ℕ) → first_due x timers no_content reading ≡ Some p → ⊥
+none_due contexts.Hard timers reading p is = cc
+none_due contexts.Soft timers reading p is = cc
+
+half_in : (x : Context) → half_of x no_content ≡ no_half
+half_in contexts.Hard = refl
+half_in contexts.Soft = refl
+
+clear_with : (x : Context) (h : Half) → h ≡ no_half → with_half x h no_content ≡ no_content
+clear_with contexts.Hard h is = ap (λ h. record no_content { hard = h }) is
+clear_with contexts.Soft h is = ap (λ h. record no_content { soft = h }) is
+
+-- an event that does nothing to a half with nothing leaves a base with nothing so
+stays : (id : ℕ) (t : Timer) (e : Event) → half_after id t e no_half ≡ no_half → content_after id t e no_content ≡ no_content
+stays id t e same = clear_with t.declared.context (half_after id t e (half_of t.declared.context no_content))
+    (ap (half_after id t e) (half_in t.declared.context) ∙ same)
+
+-- ---- an entry of a timer
+
+some_none : (n : ℕ) → Some n ≡ None → ⊥
+some_none n e = cc
+
+no_heir : (heir : ℕ) → None ≡ Some heir → ⊥
+no_heir heir off = cc
+
+runs_here : (t : Timer) → IsSome t.running → runs_on t.base t ≡ false → ⊥
+runs_here t some none = grind (arith, nat_tests)
+
+claimed_nowhere : (bases id : ℕ) (t : Timer) (b : BaseContent) (base : ℕ) (reading : ClockReading) → FitsBase bases b id t (events.Claim base reading)
+    → b.content ≡ no_content → ⊥
+claimed_nowhere bases id t b base reading fits clear =
+    none_due t.declared.context (timer_at b.states) reading (t.expires, id)
+    (ap (λ c. first_due t.declared.context (timer_at b.states) c reading) (sym clear) ∙ fits.needs.1)
+
+-- an entry of a timer that is on a base that is off line leaves it with nothing
+clear_stays : (bases id : ℕ) (t : Timer) (b : BaseContent) (e : Event) (heir : ℕ) → Needs t e → FitsBase bases b id t e → runs_on t.base t ≡ false
+    → b.standing.heir ≡ Some heir → b.content ≡ no_content → content_after id t e no_content ≡ no_content
+clear_stays bases id t b (events.Out base) heir needs fits idle off clear = stays id t (events.Out base) refl
+clear_stays bases id t b (events.Start asked) heir needs fits idle off clear = absurd (some_none heir (sym off ∙ fits.online))
+clear_stays bases id t b events.Cancel heir needs fits idle off clear = stays id t events.Cancel refl
+clear_stays bases id t b (events.Claim base reading) heir needs fits idle off clear = absurd (claimed_nowhere bases id t b base reading fits clear)
+clear_stays bases id t b (events.Forward reading interval) heir needs fits idle off clear = absurd (runs_here t needs.0 idle)
+clear_stays bases id t b (events.Finish restart) heir needs fits idle off clear = absurd (runs_here t needs idle)
+
+named_at : (base : ℕ) (t : Timer) (e : Event) → Names base t e → t.base ≡ base
+named_at base t (events.Out to) names = absurd names
+named_at base t (events.Start asked) names = names
+named_at base t events.Cancel names = absurd names
+named_at base t (events.Claim on reading) names = names
+named_at base t (events.Forward reading interval) names = absurd names
+named_at base t (events.Finish restart) names = names.0
+
+-- no entry names a base that is off line
+refused : (bases id base : ℕ) (t : Timer) (b : BaseContent) (e : Event) (heir : ℕ) → Needs t e → FitsBase bases b id t e → runs_on t.base t ≡ false
+    → b.standing.heir ≡ Some heir → b.content ≡ no_content → Names base t e → ⊥
+refused bases id base t b (events.Out to) heir needs fits idle off clear names = names
+refused bases id base t b (events.Start asked) heir needs fits idle off clear names = some_none heir (sym off ∙ fits.online)
+refused bases id base t b events.Cancel heir needs fits idle off clear names = names
+refused bases id base t b (events.Claim on reading) heir needs fits idle off clear names = claimed_nowhere bases id t b on reading fits clear
+refused bases id base t b (events.Forward reading interval) heir needs fits idle off clear names = names
+refused bases id base t b (events.Finish restart) heir needs fits idle off clear names = runs_here t needs idle
+
+-- ---- all bases
+
+-- a base that is off line has nothing, and each timer has a reach
+pub record IsClearOff (count : ℕ) (w : System) : Type 0 where
+  pub each : (b heir : ℕ) → (w.bases b).standing.heir ≡ Some heir → (w.bases b).content ≡ no_content
+  pub reach : (b heir : ℕ) → (w.bases b).standing.heir ≡ Some heir → (t : ℕ) → t < count → 0 < (w.timers t).terms.reach
+
+-- an entry leaves the terms of each timer
+terms_same : (w : System) (e : TimerEntry) (t : ℕ) → ((after_entry w e).timers t).terms ≡ (w.timers t).terms
+terms_same w e t = ⊎_elim
+    (λ (same : t ≡ e.timer). subst (λ k. ((after_entry w e).timers k).terms ≡ (w.timers k).terms) (sym same)
+    (ap (λ (x : Timer). x.terms) (timer_here w e) ∙ (by_effect (w.timers e.timer) e.event).terms))
+    (λ other. ap (λ (x : Timer). x.terms) (timer_else w e t other))
+    (cases_eq t e.timer)
+
+module _ (bases count : ℕ) where
+  clear_next : (w : System) (e : TimerEntry) → IsSystemStep bases count w e → Agrees w → IsClearOff count w → IsClearOff count (after_entry w e)
+  clear_next w e ok agrees clear =
+      record {
+        each = λ b heir off'. ⊎_elim
+            (λ (here : b ≡ t.base).
+            let off : (w.bases t.base).standing.heir ≡ Some heir = subst (λ q. (w.bases q).standing.heir ≡ Some heir) here (before b heir off') in
+            let none = clear.each t.base heir off in
+            subst (λ q. ((after_entry w e).bases q).content ≡ no_content) (sym here)
+            (ap (λ (x : BaseContent). x.content) (base_here w e) ∙ (content_of_changed e.timer t e.event (w.bases t.base)
+            ∙ (ap (content_after e.timer t e.event) none
+            ∙ clear_stays bases e.timer t (w.bases t.base) e.event heir ok.needs ok.base ((unused w agrees t.base none).idle e.timer) off none))))
+            (λ there. ap (λ (x : BaseContent). x.content) (base_else w e b there) ∙ clear.each b heir (before b heir off'))
+            (cases_eq b t.base);
+        reach = λ b heir off' k within. subst (λ (x : Terms). 0 < x.reach) (sym (terms_same w e k)) (clear.reach b heir (before b heir off') k within);
+      }
+    where
+      t : Timer
+      t = w.timers e.timer
+
+      before : (b heir : ℕ) → ((after_entry w e).bases b).standing.heir ≡ Some heir → (w.bases b).standing.heir ≡ Some heir
+      before b heir off = sym (ap (λ (x : Standing). x.heir) (standing_same w e b)) ∙ off
+
+  clear_shift : (w : System) (c : BaseEntry) → IsBaseStep bases count w c → IsClearOff count w → IsClearOff count (after_shift w c)
+  clear_shift w c ok clear = record {
+    each = λ b heir off. content_shift w c b ∙ ⊎_elim
+        (λ (here : b ≡ c.base). subst (λ q. (w.bases q).content ≡ no_content) (sym here)
+        (now_off (w.bases c.base) c.event heir ok.clear
+        (sym (ap (λ (x : BaseContent). x.standing.heir) (base_shift w c) ∙ ap (λ (x : Standing). x.heir) (standing_shifted c.event (w.bases c.base)))
+        ∙ subst (λ q. ((after_shift w c).bases q).standing.heir ≡ Some heir) here off)))
+        (λ there. clear.each b heir (sym (ap (λ (x : BaseContent). x.standing.heir) (base_unshifted w c b there)) ∙ off))
+        (cases_eq b c.base);
+    reach = λ b heir off t within. subst (λ (x : Timer). 0 < x.terms.reach) (sym (timers_shift w c t)) (ok.reach t within);
+  }
+    where
+      now_off : (b : BaseContent) (e : BaseEvent) (heir : ℕ) → IsClear b e → (standing_after b.standing e).heir ≡ Some heir → b.content ≡ no_content
+      now_off b (shifts.Offline to) heir clear off = clear
+      now_off b shifts.Online heir clear off = absurd cc
+
+  clear_one : (w : System) (x : SystemEntry) → MayCome bases count w x → Agrees w → IsClearOff count w → IsClearOff count (after_one w x)
+  clear_one w (entries.Timer e) ok agrees clear = clear_next w e ok agrees clear
+  clear_one w (entries.Base c) ok agrees clear = clear_shift w c ok clear
+
+  pub clear_after : (w : System) (log : List SystemEntry) → AreSystemSteps bases count w log → Agrees w → IsClearOff count w
+      → IsClearOff count (after_entries w log)
+  clear_after w [] all agrees clear = clear
+  clear_after w (x ∷ xs) all agrees clear = clear_after (after_one w x) xs all.1 (agrees_one bases count w x all.0 agrees) (clear_one w x all.0 agrees clear)
+
+  -- an entry that names a base finds it on line
+  pub online_named : (w : System) (e : TimerEntry) → IsSystemStep bases count w e → Agrees w → IsClearOff count w → (base : ℕ)
+      → Names base (w.timers e.timer) e.event → (w.bases base).standing.heir ≡ None
+  online_named w e ok agrees clear base names =
+      subst (λ q. (w.bases q).standing.heir ≡ None) (named_at base t e.event names)
+      (by_heir (w.bases t.base).standing.heir refl)
+    where
+      t : Timer
+      t = w.timers e.timer
+
+      by_heir : (h : Option ℕ) → (w.bases t.base).standing.heir ≡ h → (w.bases t.base).standing.heir ≡ None
+      by_heir None is = is
+      by_heir (Some heir) is =
+          let none = clear.each t.base heir is in
+          absurd (refused bases e.timer base t (w.bases t.base) e.event heir ok.needs ok.base ((unused w agrees t.base none).idle e.timer) is none names)
+
+-- nothing has happened yet: all bases are on line
+pub clear_first : (opened : List Timer) → IsClearOff (length opened) (first_system opened)
+clear_first opened = record { each = λ b heir off. refl; reach = λ b heir off t within. absurd (no_heir heir off) }
+
+module _ (bases : ℕ) (terms : Terms) (list : List Declared) (log : List SystemEntry) (history : IsSystemHistory bases list terms log) where
+  pub all_clear : IsClearOff (length list) (system_of list terms log)
+  all_clear = clear_after bases (length list) (first_system (openings list terms)) log history (first_agrees list terms)
+      (subst (λ n. IsClearOff n (first_system (openings list terms))) (length-map list (λ d. opening d terms)) (clear_first (openings list terms)))
+
+-- ---- standings
+
+standing_next : (base : ℕ) (s : Standing) (e : BaseEvent) → MayShift base s e → IsStanding base s → IsStanding base (standing_after s e)
+standing_next base s (shifts.Offline heir) may is = record {
+  stamp = omega (arith, may.2);
+  back = λ off. omega (arith, may.2);
+  heir = λ to here. let e : heir ≡ to = cc in subst (λ h. h < base) e may.1;
+}
+standing_next base s shifts.Online may is = record {
+  stamp = omega (arith, is.back may);
+  back = λ off. absurd (true≢false (sym off));
+  heir = λ to here. absurd (no_heir to here);
+}
+
+standing_all : (base : ℕ) (s : Standing) (es : List BaseEvent) → AreShifts base s es → IsStanding base s → IsStanding base (standing_after_all s es)
+standing_all base s [] all is = is
+standing_all base s (e ∷ es) all is = standing_all base (standing_after s e) es all.1 (standing_next base s e all.0 is)
+
+pub standing_fits : (bases count : ℕ) (opened : List Timer) (log : List SystemEntry) → AreSystemSteps bases count (first_system opened) log → (base : ℕ)
+    → IsStanding base ((after_entries (first_system opened) log).bases base).standing
+standing_fits bases count opened log all base =
+    subst (λ s. IsStanding base s) (sym (after_entries-shifts_of (first_system opened) base log))
+    (standing_all base first_standing (shifts_of base log) (shifts_by_turns bases count (first_system opened) base log all)
+    (record { stamp = omega arith; back = λ off. absurd (true≢false (sym off)); heir = λ to here. absurd (no_heir to here) }))

@@ -1,0 +1,8 @@
+-- What a sink has that counts receipts.
+use Rattle.std.specs.Prelude.{◌+◌}
+use Rattle.base_row.specs.declared.log.Receipt.{Receipt}
+use Rattle.shared_timer_uses.specs.declared.sink.Counted.{Counted}
+
+-- with one receipt more
+abbrev pub counted : Counted → Receipt → Counted
+counted s r = record { made = s.made + 1 }
