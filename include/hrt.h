@@ -1,4 +1,5 @@
-/* High-resolution timers of one thread at a time: the exports of the static library libhulayban_c.a (crate hulayban_c).
+/* High-resolution timers of one thread at a time, and the check of a Linux kernel's own timer trace: the exports of the static library
+ * libhulayban_c.a (crate hulayban_c).
  *
  * Times are nanoseconds. One thread at a time may call by a handle. A call never waits, and it calls no function of yours: hrt_claim says
  * whose function is to run, you run it, and hrt_finish ends the run.
@@ -27,10 +28,13 @@ enum {
     HRT_CLAIMED = 5,      /* hrt_claim: the function of out->timer is to run */
     HRT_CANCELLED = 6,    /* hrt_cancel: the timer is off */
     HRT_AGAIN = 7,        /* hrt_finish: the timer is armed again */
+    HRT_FITS = 8,         /* hrt_check: the trace is a history that the model gives */
+    HRT_MISFIT = 9,       /* hrt_check: with a line of it no history shows the lines so far */
+    HRT_UNREADABLE = 10,  /* hrt_check: a line of a timer's event can't be read */
 
     HRT_NO_TIMERS = -1,   /* the handle has no timers */
     HRT_IN_USE = -2,      /* hrt_new: the handle has timers already */
-    HRT_NO_MEMORY = -3,   /* hrt_new: malloc gave none */
+    HRT_NO_MEMORY = -3,   /* hrt_new, hrt_check: malloc gave none */
     HRT_BAD_TIMER = -4,   /* no timer has this number */
     HRT_BAD_BASE = -5,    /* no base has this number; hrt_new: 1 to 8 bases */
     HRT_BAD_MODE = -6,    /* no mode has this number */
@@ -40,6 +44,33 @@ enum {
     HRT_BAD_COUNT = -10,  /* hrt_new: at most 256 timers */
     HRT_BAD_LIMIT = -11,  /* hrt_new: a limit from 1 to 2^48 - 16 */
     HRT_NOT_RUNNING = -12 /* hrt_forward, hrt_finish: the timer's function isn't running */
+};
+
+/* What is wrong with a line of a trace (docs/TRACES.md): with it no history shows the lines so far, or, from 101 on, it can't be read. */
+enum {
+    HRT_CAUSE_SET_UP_ARMED = 1,      /* sets up a timer that is armed */
+    HRT_CAUSE_SET_UP_RUNNING = 2,    /* sets up a timer whose function runs */
+    HRT_CAUSE_SOFT_AFTER_HARD = 3,   /* starts a timer whose soft expiry is later than its hard one */
+    HRT_CAUSE_PAST_TIME = 4,         /* never comes of a text: no time in one is past 2^63 - 1 */
+    HRT_CAUSE_WAS_NOT_ARMED = 5,     /* a start tells that its timer was armed, and it wasn't */
+    HRT_CAUSE_WAS_ARMED = 6,         /* a start tells that its timer wasn't armed, and it was */
+    HRT_CAUSE_NOT_ARMED = 7,         /* cancels a timer that isn't armed, or it expires */
+    HRT_CAUSE_RUNNING = 8,           /* cancels a timer whose function runs, or it expires meanwhile */
+    HRT_CAUSE_OTHER_PROCESSOR = 9,   /* an expiry on another processor than the timer was armed on by its function */
+    HRT_CAUSE_OTHER_CONTEXT = 10,    /* an expiry, or a function's return, in another context than the timer's */
+    HRT_CAUSE_TOO_EARLY = 11,        /* an expiry at now, before the soft expiry, soft */
+    HRT_CAUSE_SECOND_FUNCTION = 12,  /* a function begins where that of the timer at the address timer runs */
+    HRT_CAUSE_OUT_OF_ORDER = 13,     /* an expiry behind one of the same queue that had to wait for it */
+    HRT_CAUSE_NOT_RUNNING = 14,      /* a function returns that doesn't run there */
+
+    HRT_CAUSE_NO_HRTIMER = 101,      /* hrtimer= and an address in hexadecimal */
+    HRT_CAUSE_NO_PROCESSOR = 102,    /* [N] before the event's name */
+    HRT_CAUSE_NO_CLOCKID = 103,      /* clockid= */
+    HRT_CAUSE_NO_MODE = 104,         /* mode= and one that is known */
+    HRT_CAUSE_NO_SOFTEXPIRES = 105,  /* softexpires= and a time up to 2^63 - 1 */
+    HRT_CAUSE_NO_EXPIRES = 106,      /* expires= and such a time */
+    HRT_CAUSE_NO_WAS_ARMED = 107,    /* was_armed= is there, and neither 0 nor 1 behind it */
+    HRT_CAUSE_NO_NOW = 108           /* now= and a time up to 2^63 - 1 */
 };
 
 /* How a start gives its time: HRTIMER_MODE_ABS and HRTIMER_MODE_REL of Linux, and a time of the clock that the timer is kept on
@@ -74,10 +105,16 @@ typedef struct hrt_answer {
     uint64_t generation, number, soft, expires, count;
 } hrt_answer;
 
+/* What the check of a trace tells beside its number. What its comment doesn't name is 0. */
+typedef struct hrt_verdict {
+    uint64_t line, events, timers, processors, soft, now, timer;
+    uint32_t cause;
+} hrt_verdict;
+
 /* Puts new timers behind a handle that has none: 1 to 8 bases, and at most 256 timers, numbered from 0 as they stand in declared, which
  * may not be null even where count is 0. At max_events entries, 1 to 2^48 - 16, a timer takes no start, forward or restart any more.
  * HRT_DONE; HRT_IN_USE, HRT_BAD_BASE, HRT_BAD_COUNT, HRT_BAD_LIMIT, HRT_BAD_CLOCK or HRT_BAD_CONTEXT of the first bad declaration,
- * HRT_NO_MEMORY. The only call that takes memory. */
+ * HRT_NO_MEMORY. The only call on a handle that takes memory. */
 int32_t hrt_new(hrt_timers *timers, uint32_t bases, const hrt_declared *declared, size_t count, uint64_t max_events);
 
 /* Frees the timers of a handle, if it has any. The handle has none afterwards, and may be used again. HRT_DONE. */
@@ -114,6 +151,13 @@ int32_t hrt_finish(hrt_timers *timers, uint32_t timer, uint32_t restart, hrt_ans
 /* How a timer is kept. HRT_DONE: timer, base, clock, armed and running: 1 if so, generation that is armed or 0, number: its count of
  * entries, soft, expires. HRT_NO_TIMERS, HRT_BAD_TIMER. */
 int32_t hrt_peek(hrt_timers *timers, uint32_t timer, hrt_answer *out);
+
+/* Checks a trace of a Linux kernel's own timers, as tracefs, trace-cmd and perf print it: whether it is a history that the model gives. text is
+ * length bytes, and may be any; it may not be null even where length is 0. It needs no handle, and several threads may call at once.
+ * HRT_FITS: events, timers and processors that the trace has. HRT_MISFIT: line, from 1 on: the first with which no history shows the lines so far,
+ * and cause; with HRT_CAUSE_TOO_EARLY soft and now too, and with HRT_CAUSE_SECOND_FUNCTION timer. HRT_UNREADABLE: line, the first that can't be
+ * read, all before it fit; and cause. HRT_NO_MEMORY, and *out is left as it was. */
+int32_t hrt_check(const void *text, size_t length, hrt_verdict *out);
 
 #ifdef __cplusplus
 }

@@ -1,4 +1,4 @@
-/* Where memory is taken: each allocation of hrt_new fails once, and the calls between hrt_new and hrt_free make none. The linker sends malloc,
+/* Where memory is taken: each allocation of hrt_new and of hrt_check fails once, and the calls between hrt_new and hrt_free make none. The linker sends malloc,
  * realloc and free of the library here: -Wl,--wrap=malloc,--wrap=realloc,--wrap=free. */
 #include "hrt.h"
 
@@ -61,6 +61,37 @@ static void call_all(uint64_t ns) {
     hrt_finish(&timers, timer, below(2), &a);
 }
 
+/* A trace of three timers on two processors. */
+static const char trace[] = "hrtimer_setup: hrtimer=a clockid=CLOCK_MONOTONIC mode=ABS\n"
+                            "hrtimer_setup: hrtimer=b clockid=CLOCK_MONOTONIC mode=ABS\n"
+                            "hrtimer_start: hrtimer=a expires=7 softexpires=7\n"
+                            "hrtimer_start: hrtimer=b expires=8 softexpires=8\n"
+                            "[1] d.h. 1: hrtimer_expire_entry: hrtimer=b now=9\n"
+                            "[0] d.h. 1: hrtimer_expire_entry: hrtimer=a now=9\n"
+                            "[1] d.h. 1: hrtimer_expire_exit: hrtimer=b\n"
+                            "hrtimer_cancel: hrtimer=c\n";
+
+static int32_t check(int fail_at, hrt_verdict *out) {
+    calls = 0;
+    failing = fail_at;
+    int32_t code = hrt_check(trace, sizeof trace - 1, out);
+    failing = 0;
+    return code;
+}
+
+static void check_all(void) {
+    hrt_verdict v = {.events = 77};
+    int32_t code;
+    int before = held, failed = 0, left = 0, changed = 0;
+    while ((code = check(failed + 1, &v)) == HRT_NO_MEMORY) {
+        failed++;
+        left += held - before;
+        changed += v.events != 77;
+    }
+    printf("check = %" PRId32 ", %" PRIu64 " events, each allocation failed once: %s", code, v.events, failed > 0 ? "yes" : "no");
+    printf(", left behind: %d, out changed: %d\n", left + (held - before), changed);
+}
+
 int main(void) {
     static const uint32_t clocks[] = {HRT_CLOCK_MONOTONIC, HRT_CLOCK_REALTIME, HRT_CLOCK_BOOTTIME};
     for (uint32_t i = 0; i < 256; i++) declared[i] = (hrt_declared){clocks[i % 3], i / 3 % 2};
@@ -76,5 +107,6 @@ int main(void) {
     printf("allocations of the other calls: %d\n", calls);
     code = hrt_free(&timers);
     printf("free = %" PRId32 ", left behind: %d\n", code, held);
+    check_all();
     return 0;
 }

@@ -1,7 +1,8 @@
 """The declarations of include/hrt.h, by ctypes, over a shared object that is linked from the archive."""
-from ctypes import CDLL, POINTER, Structure, byref, c_int32, c_size_t, c_uint32, c_uint64, c_void_p
+from ctypes import CDLL, POINTER, Structure, byref, c_char_p, c_int32, c_size_t, c_uint32, c_uint64, c_void_p
 
 CLAIMED = 5
+FITS, MISFIT, UNREADABLE = 8, 9, 10
 ABS, REL, KEEP = 0, 1, 2
 REALTIME, MONOTONIC, BOOTTIME = 0, 1, 7
 HARD, SOFT = 0, 1
@@ -23,6 +24,17 @@ class Answer(Structure):
     _fields_ = [(name, c_uint32) for name in ("timer", "base", "clock", "armed", "running", "moved")] + [
         (name, c_uint64) for name in ("generation", "number", "soft", "expires", "count")
     ]
+
+
+class Verdict(Structure):
+    _fields_ = [(name, c_uint64) for name in ("line", "events", "timers", "processors", "soft", "now", "timer")] + [("cause", c_uint32)]
+
+
+def check(library, text, out):
+    """Checks a trace, which is bytes, and answers the number of hrt_check."""
+    call = CDLL(library).hrt_check
+    call.argtypes, call.restype = [c_char_p, c_size_t, POINTER(Verdict)], c_int32
+    return call(text, len(text), byref(out))
 
 
 class Timers:

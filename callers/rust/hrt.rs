@@ -1,4 +1,5 @@
 //! The declarations of `include/hrt.h`, and a handle that frees its timers when it is dropped.
+#![allow(dead_code)] // each program here calls a part
 #[repr(C)]
 pub struct Raw {
     at: *mut u8,
@@ -34,7 +35,23 @@ pub struct Answer {
     pub count: u64,
 }
 
+#[repr(C)]
+#[derive(Clone, Copy, Default)]
+pub struct Verdict {
+    pub line: u64,
+    pub events: u64,
+    pub timers: u64,
+    pub processors: u64,
+    pub soft: u64,
+    pub now: u64,
+    pub timer: u64,
+    pub cause: u32,
+}
+
 pub const CLAIMED: i32 = 5;
+pub const FITS: i32 = 8;
+pub const MISFIT: i32 = 9;
+pub const UNREADABLE: i32 = 10;
 pub const ABS: u32 = 0;
 pub const REL: u32 = 1;
 pub const REALTIME: u32 = 0;
@@ -73,6 +90,12 @@ unsafe extern "C" {
     ) -> i32;
     fn hrt_finish(timers: &mut Raw, timer: u32, restart: u32, out: &mut Answer) -> i32;
     fn hrt_peek(timers: &mut Raw, timer: u32, out: &mut Answer) -> i32;
+    fn hrt_check(text: *const u8, length: usize, out: &mut Verdict) -> i32;
+}
+
+/// Checks a trace.
+pub fn check(text: &[u8], out: &mut Verdict) -> i32 {
+    unsafe { hrt_check(text.as_ptr(), text.len(), out) }
 }
 
 /// A handle. The pointer in it makes it neither `Send` nor `Sync`, and it is no `Copy`. The calls are safe: references are never null and

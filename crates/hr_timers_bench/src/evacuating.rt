@@ -95,6 +95,11 @@ fn rounds<R: Wait + Clock>(
     })
 }
 
+/// What of so many nanoseconds one timer takes.
+fn each(nanos: u128) -> u128 {
+    nanos / u128::from(TIMERS)
+}
+
 /// Makes timers, and takes their base off line and on line so many times.
 fn run<R: Wait + Clock>(rt: &R, alloc: Global, count: u64) -> io::Result<Done> {
     let timers = vec![in alloc; Declared::hard(ClockId::Monotonic); TIMERS as usize]?;
@@ -117,14 +122,9 @@ pub fn print_evacuations<R: Wait + Clock + Print>(
         }
         Task::Measure => {
             let done = run(rt, alloc, ROUNDS)?;
-            println!(rt;
-                "hr_timers\toffline\tone thread\t{TIMERS}\t1\t{}",
-                done.offline
-            )?;
-            println!(rt;
-                "hr_timers\tcancels and starts that move\tone thread\t{TIMERS}\t1\t{}",
-                done.back
-            )
+            let (offline, back) = (each(done.offline), each(done.back));
+            println!(rt; "hr_timers\toffline, a timer\tone thread\t{TIMERS}\t1\t{offline}")?;
+            println!(rt; "hr_timers\tcancel, moving start\tone thread\t{TIMERS}\t1\t{back}")
         }
     }
 }

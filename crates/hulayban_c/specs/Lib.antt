@@ -1,4 +1,5 @@
 -- What contracts cite.
 pub mod Calls
+pub mod Checks
 pub mod Handles
 pub mod Numbers

@@ -15,6 +15,12 @@ pub const CLAIMED: i32 = 5;
 pub const CANCELLED: i32 = 6;
 /// A finish armed the timer again.
 pub const AGAIN: i32 = 7;
+/// A trace fits.
+pub const FITS: i32 = 8;
+/// With a line of a trace no history shows the lines so far.
+pub const MISFIT: i32 = 9;
+/// A line of a trace is of a timer's event and can't be read.
+pub const UNREADABLE: i32 = 10;
 
 /// The handle has no timers.
 pub const NO_TIMERS: i32 = -1;

@@ -13,6 +13,8 @@ use std::alloc::Global;
 use told::give;
 
 mod calls;
+mod causes;
+mod checking;
 mod codes;
 mod crossing;
 mod handle;

@@ -3,8 +3,8 @@ use Rattle.std.proofs.Common.{◌≡◌, ◌⊎◌, inl, inr, ℕ, List, Option}
 use Rattle.trace_app.specs.declared.command.Asked.{Asked}
 use Rattle.trace_app.specs.declared.command.Asked.TheVariants as asks
 use Rattle.trace_app.specs.declared.status.Status.TheVariants as statuses
-use Rattle.trace_app.specs.declared.verdict.Verdict.{Verdict}
-use Rattle.trace_app.specs.declared.verdict.Verdict.TheVariants as verdicts
+use Rattle.trace_read.specs.declared.verdict.Verdict.{Verdict}
+use Rattle.trace_read.specs.declared.verdict.Verdict.TheVariants as verdicts
 use Rattle.trace_app.specs.Checking.{HasFitted, IsAnswer, IsAnswered}
 use Rattle.trace_app.specs.Status.{status_of}
 use Rattle.trace_app.specs.Streams.{Adds}

@@ -1,3 +1,3 @@
 pub mod Streams
 pub mod Fitting
-pub mod Meanings
+pub mod Endings

@@ -4,18 +4,14 @@ use Rattle.std.specs.Io.KnownBytes.{Consumes, IsAtEnd}
 use Rattle.std.specs.declared.option.Option.{Option}
 use Rattle.trace_app.specs.declared.status.Status.{Status}
 use Rattle.trace_app.specs.declared.status.Status.TheVariants as statuses
-use Rattle.trace_app.specs.declared.verdict.Verdict.{Verdict}
-use Rattle.trace_app.specs.declared.verdict.Verdict.TheVariants as verdicts
-use Rattle.trace_app.specs.Lines.{Fit, Means, lines_of, verdict_on}
+use Rattle.trace_read.specs.declared.verdict.Verdict.{Verdict}
+use Rattle.trace_read.specs.declared.verdict.Verdict.TheVariants as verdicts
+use Rattle.trace_read.specs.Lines.{Answers, Fit, lines_of, verdict_on}
 use Rattle.trace_app.specs.declared.command.Asked.{Asked}
 use Rattle.trace_app.specs.declared.command.Asked.TheVariants as asks
 use Rattle.trace_app.specs.Status.{status_of}
 use Rattle.trace_app.specs.Streams.{Adds}
 use Rattle.trace_app.specs.Texts.{fits_text, text_of}
-
--- a text is answered so, and the answer means what it says
-abbrev pub Answers : List ℕ → Verdict → Type 0
-Answers bytes verdict = (verdict_on bytes ≡ verdict) × Means (lines_of bytes) verdict
 
 -- these bytes were read, and they are answered so: as a whole, or whatever bytes follow
 pub record IsAnswered (left left_now : Option (List ℕ)) (verdict : Verdict) : Type 0 where

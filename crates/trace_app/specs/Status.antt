@@ -3,8 +3,8 @@ use Rattle.std.specs.Prelude.{ℕ, List, codes, Some, None}
 use Rattle.std.specs.declared.option.Option.{Option}
 use Rattle.trace_app.specs.declared.status.Status.{Status}
 use Rattle.trace_app.specs.declared.status.Status.TheVariants as statuses
-use Rattle.trace_app.specs.declared.verdict.Verdict.{Verdict}
-use Rattle.trace_app.specs.declared.verdict.Verdict.TheVariants as verdicts
+use Rattle.trace_read.specs.declared.verdict.Verdict.{Verdict}
+use Rattle.trace_read.specs.declared.verdict.Verdict.TheVariants as verdicts
 
 -- the number that the process ends with
 abbrev pub code_of : Status → ℕ

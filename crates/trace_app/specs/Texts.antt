@@ -5,8 +5,8 @@ use Rattle.trace_text.specs.declared.unreadable.Unreadable.{Unreadable}
 use Rattle.trace_text.specs.declared.unreadable.Unreadable.TheVariants as wrong
 use Rattle.trace_check.specs.declared.misfit.Misfit.{Misfit}
 use Rattle.trace_check.specs.declared.misfit.Misfit.TheVariants as causes
-use Rattle.trace_app.specs.declared.verdict.Verdict.{Verdict}
-use Rattle.trace_app.specs.declared.verdict.Verdict.TheVariants as verdicts
+use Rattle.trace_read.specs.declared.verdict.Verdict.{Verdict}
+use Rattle.trace_read.specs.declared.verdict.Verdict.TheVariants as verdicts
 
 -- the word of a cause
 abbrev pub cause_word : Misfit → List ℕ

@@ -2,15 +2,14 @@
 ghost use Rattle.std.specs.Prelude.{◌≡◌, ◌≤◌, ◌++◌, List, ℕ, IfOk, OnOk, IsErrOf};
 ghost use Rattle.std.specs.Io.KnownBytes.{Consumes};
 ghost use Rattle.trace_app.specs.Checking.{IsAnswered};
-ghost use Rattle.trace_app.specs.Lines.{verdict_on};
-ghost use Rattle.trace_app.specs.Readers.{Stands};
+ghost use Rattle.trace_read.specs.Lines.{verdict_on};
+ghost use Rattle.trace_read.specs.Readers.{Stands};
 ghost use Rattle.trace_app.specs.Streams.{Rose};
 ghost use Rattle.trace_app.specs.declared.checking.CheckFault.TheVariants.{OutOfMemory};
 
-use crate::reader::Reader;
 use crate::stream::Source;
-use crate::verdict::Verdict;
 use std::alloc::AllocError;
+use trace_read::{Reader, Verdict};
 
 /// The most bytes that one read of a source asks for.
 const CHUNK: usize = 65536;

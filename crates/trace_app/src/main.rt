@@ -4,16 +4,13 @@
 mod adapters;
 mod checking;
 mod command;
-mod laws;
-mod reader;
 mod status;
 mod stream;
 mod summary;
-mod tally;
 #[cfg(test)]
 mod tests;
+mod texts;
 mod top;
-mod verdict;
 mod writing;
 
 use adapters::Counted;

@@ -2,7 +2,7 @@
 ghost use Rattle.std.specs.Prelude.{◌≡◌, option_map};
 ghost use Rattle.trace_app.specs.Status.{code_of, message_of, status_of};
 
-use crate::verdict::Verdict;
+use trace_read::Verdict;
 
 /// The outcome of one run of the program.
 #[derive(Clone, Copy, Debug, PartialEq, Eq)]

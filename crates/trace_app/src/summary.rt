@@ -3,8 +3,8 @@ ghost use Rattle.std.specs.Prelude.{◌≡◌, IfOk, string_bytes};
 ghost use Rattle.trace_app.specs.Checking.{IsFitsText};
 ghost use Rattle.trace_app.specs.Texts.{counts_text, fits_text};
 
-use crate::tally::Tally;
 use std::alloc::{AllocError, Global};
+use trace_read::Tally;
 
 /// How many events and timers a trace has.
 fn counts_text(alloc: Global, events: u64, timers: u64) -> Result<String, AllocError>

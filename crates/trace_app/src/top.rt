@@ -6,17 +6,17 @@ ghost use Rattle.trace_app.specs.Streams.{Rose};
 
 use crate::checking::{CheckFault, check};
 use crate::command::{Asked, asks};
-use crate::reader::Reader;
 use crate::status::Status;
 use crate::stream::{Failed, Sink, Source};
 use crate::summary::{line, table};
-use crate::verdict::Verdict;
+use crate::texts::text_of;
 use crate::writing::write_all;
 use std::alloc::{AllocError, Global};
+use trace_read::{Reader, Verdict};
 
 /// Does what the words ask for, the program's name first: checks the trace of the source, and writes to the sink that it fits, or the first line that
 /// can't be read or with which no history shows the lines so far.
-#[tactic(auto, using(crate::proofs::Meanings::must_answer))]
+#[tactic(auto, using(crate::proofs::Endings::must_answer))]
 pub fn top<S: Source, K: Sink>(
     alloc: Global,
     words: &[String],
@@ -86,6 +86,6 @@ fn answer(
             }
             Ok(text)
         }
-        _ => verdict.text(alloc),
+        _ => text_of(alloc, verdict),
     }
 }

@@ -1,9 +1,9 @@
 use Rattle.std.proofs.Common.{◌≡◌, ◌++◌, ◌∙◌, [], List, ℕ, sym, ap, subst, append_assoc, take, arith, rules, inl, inr}
 use Rattle.std.proofs.lemmas.List.{append-nil}
 use Rattle.std.specs.Io.KnownBytes.{Consumes}
-use Rattle.trace_app.specs.Lines.{verdict_on}
-use Rattle.trace_app.specs.Readers.{ReadsOn, Stands}
-use Rattle.trace_app.proofs.Meanings.{answered}
+use Rattle.trace_read.specs.Lines.{verdict_on}
+use Rattle.trace_read.specs.Readers.{ReadsOn, Stands}
+use Rattle.trace_read.proofs.Meanings.{answered}
 use Rattle.trace_app.proofs.Streams.{Consumes-trans}
 use Rattle.trace_app.proofs.checking.check.Goals as goal
 

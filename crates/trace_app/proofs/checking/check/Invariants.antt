@@ -1,7 +1,7 @@
 use Rattle.std.specs.Prelude.{◌≡◌, ◌++◌, List, ℕ, length}
 use Rattle.std.specs.Io.KnownBytes.{Consumes}
-use Rattle.trace_app.specs.Lines.{verdict_on}
-use Rattle.trace_app.specs.Readers.{Stands}
+use Rattle.trace_read.specs.Lines.{verdict_on}
+use Rattle.trace_read.specs.Readers.{Stands}
 use Rattle.trace_app.proofs.checking.check.Given as goal
 
 -- bytes were taken from the front, and the reader has read them

@@ -1,7 +1,7 @@
 use Rattle.std.proofs.Common.{◌≡◌, ◌+◌, ◌∷◌, ◌∙◌, sym, ap, None, [], arith}
-use Rattle.trace_app.specs.Lines.{judged, known_after, line_verdict, lines_from, verdict_or}
+use Rattle.trace_read.specs.Lines.{judged, known_after, line_verdict, lines_from, verdict_or}
 use Rattle.trace_text.specs.Reading.{line_in}
-use Rattle.trace_app.proofs.reader.Reader.end_line.Goals as goal
+use Rattle.trace_read.proofs.reader.Reader.end_line.Goals as goal
 
 pub returns : goal.returns
 returns c = λ answer stands.

@@ -1,22 +1,12 @@
-//! How a trace is answered.
+//! The line for a trace that doesn't fit or can't be read.
 ghost use Rattle.std.specs.Prelude.{◌≡◌, ◌++◌, false, IfOk, codes, string_bytes};
 ghost use Rattle.std.specs.Fmt.{decimal, digits};
 ghost use Rattle.trace_app.specs.Texts.{cause_rest, cause_word, line_text, text_of, what_word};
 
 use std::alloc::{AllocError, Global};
 use trace_check::Misfit;
+use trace_read::Verdict;
 use trace_text::Unreadable;
-
-/// The answer to a text.
-#[derive(Clone, Copy, Debug, PartialEq, Eq)]
-pub enum Verdict {
-    /// Each line can be read, and they fit. They tell so many events.
-    Fits { events: u64 },
-    /// With this line no history shows the lines so far.
-    Refused { line: u64, cause: Misfit },
-    /// This line is of a timer's event and can't be read.
-    Unreadable { line: u64, what: Unreadable },
-}
 
 /// The word of a cause.
 fn cause_word(cause: Misfit) -> &'static str
@@ -89,18 +79,16 @@ fn cause_text(alloc: Global, cause: Misfit) -> Result<String, AllocError>
     }
 }
 
-impl Verdict {
-    /// The line that tells it, where the trace doesn't fit or can't be read.
-    pub fn text(self, alloc: Global) -> Result<String, AllocError>
-        ensures { IfOk result (λ t. string_bytes t ≡ text_of self) }
-    {
-        match self {
-            Verdict::Fits { .. } => Ok(String::new(alloc)),
-            Verdict::Refused { line, cause } => {
-                let reason = cause_text(alloc, cause)?;
-                line_text(alloc, line, &reason)
-            }
-            Verdict::Unreadable { line, what } => line_text(alloc, line, what_word(what)),
+/// The line that tells how a trace is answered, where it doesn't fit or can't be read.
+pub fn text_of(alloc: Global, verdict: Verdict) -> Result<String, AllocError>
+    ensures { IfOk result (λ t. string_bytes t ≡ text_of verdict) }
+{
+    match verdict {
+        Verdict::Fits { .. } => Ok(String::new(alloc)),
+        Verdict::Refused { line, cause } => {
+            let reason = cause_text(alloc, cause)?;
+            line_text(alloc, line, &reason)
         }
+        Verdict::Unreadable { line, what } => line_text(alloc, line, what_word(what)),
     }
 }

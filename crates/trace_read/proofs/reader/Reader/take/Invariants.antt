@@ -1,7 +1,7 @@
 use Rattle.std.proofs.Common.{◌++◌, List, ℕ, take}
-use Rattle.trace_app.specs.declared.verdict.Verdict.{Verdict}
-use Rattle.trace_app.specs.Readers.{Stands}
-use Rattle.trace_app.proofs.reader.Reader.take.Given as goal
+use Rattle.trace_read.specs.declared.verdict.Verdict.{Verdict}
+use Rattle.trace_read.specs.Readers.{Stands}
+use Rattle.trace_read.proofs.reader.Reader.take.Given as goal
 
 -- the bytes so far were read
 abbrev pub invariant-loop-byte : goal.invariant-loop-byte

@@ -2,9 +2,9 @@
 use Rattle.std.specs.Prelude.{ℕ, ◌≡◌, ◌++◌, List, Option, Some, None}
 use Rattle.trace_check.specs.Checkers.{HoldsKnowledge}
 use Rattle.trace_check.specs.Knowledge.{Knowledge}
-use Rattle.trace_app.specs.declared.verdict.Verdict.{Verdict}
-use Rattle.trace_app.specs.declared.reader.Reader.{Reader}
-use Rattle.trace_app.specs.Lines.{judged, lines_from}
+use Rattle.trace_read.specs.declared.verdict.Verdict.{Verdict}
+use Rattle.trace_read.specs.declared.reader.Reader.{Reader}
+use Rattle.trace_read.specs.Lines.{judged, lines_from}
 
 -- the answer to the text so far with these bytes behind it, by what a reader holds
 abbrev pub verdict_behind : Reader → Knowledge → List ℕ → Verdict

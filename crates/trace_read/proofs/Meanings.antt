@@ -1,5 +1,5 @@
 -- What an answer to lines means.
-use Rattle.std.proofs.Common.{◌≡◌, ◌+◌, ◌++◌, ◌∷◌, ◌∙◌, [], ℕ, Option, Some, None, Result, Ok, Err, List, length, refl, sym, ap, subst, arith, inl, inr}
+use Rattle.std.proofs.Common.{◌≡◌, ◌+◌, ◌++◌, ◌∷◌, ◌∙◌, [], ℕ, Option, Some, None, Result, Ok, Err, List, length, refl, sym, ap, subst, arith}
 use Rattle.std.specs.Prelude.{IsOk, option_map}
 use Rattle.trace_text.specs.declared.event.KernelEvent.{KernelEvent}
 use Rattle.trace_text.specs.declared.event.KernelEvent.TheVariants as kernel
@@ -8,13 +8,10 @@ use Rattle.trace_text.specs.Reading.{line_in}
 use Rattle.trace_check.specs.declared.misfit.Misfit.{Misfit}
 use Rattle.trace_check.specs.Knowledge.{Knowledge, misfit, misfit_or, first_misfit, learned, no_knowledge}
 use Rattle.trace_check.proofs.Histories.{fitting_fits, fits_without_misfit}
-use Rattle.trace_app.specs.declared.verdict.Verdict.{Verdict}
-use Rattle.trace_app.specs.declared.verdict.Verdict.TheVariants as verdicts
-use Rattle.trace_app.specs.Lines as lines_spec
-use Rattle.trace_app.specs.Lines.{AreReadable, Fit, Means, events_in, judged, known_after, line_verdict, lines_of, told, verdict_on, verdict_or}
-use Rattle.trace_app.specs.Checking.{Answers, MayEnd, MustAnswer}
-use Rattle.trace_app.specs.Status.{status_of}
-use Rattle.trace_app.specs.declared.status.Status.{Status}
+use Rattle.trace_read.specs.declared.verdict.Verdict.{Verdict}
+use Rattle.trace_read.specs.declared.verdict.Verdict.TheVariants as verdicts
+use Rattle.trace_read.specs.Lines as lines_spec
+use Rattle.trace_read.specs.Lines.{Answers, AreReadable, Fit, Means, events_in, judged, known_after, line_verdict, lines_of, told, verdict_on, verdict_or}
 
 -- lines can be read, and what they tell has no misfit behind what is known
 abbrev Passes : Knowledge → List (List ℕ) → Type 0
@@ -154,10 +151,10 @@ neither (Some cause) n later none = absurd cc
 not_readable : (what : Unreadable) → IsOk {T = Option KernelEvent} (Err what) → ⊥
 not_readable what h = absurd cc
 
-not_refused : {events n : ℕ} {cause : Misfit} → verdicts.Fits events ≡ verdicts.Refused n cause → ⊥
+pub not_refused : {events n : ℕ} {cause : Misfit} → verdicts.Fits events ≡ verdicts.Refused n cause → ⊥
 not_refused e = absurd cc
 
-not_unreadable : {events n : ℕ} {what : Unreadable} → verdicts.Fits events ≡ verdicts.Unreadable n what → ⊥
+pub not_unreadable : {events n : ℕ} {what : Unreadable} → verdicts.Fits events ≡ verdicts.Unreadable n what → ⊥
 not_unreadable e = absurd cc
 
 fits_by : (n : ℕ) (k : Knowledge) (line : List ℕ) (lines : List (List ℕ)) (r : Result (Option KernelEvent) Unreadable) → line_in line ≡ r
@@ -177,20 +174,3 @@ passes_fits n k (line ∷ lines) p =
 
 pub fit_verdict : (bytes : List ℕ) → Fit (lines_of bytes) → (events : ℕ) × (verdict_on bytes ≡ verdicts.Fits events)
 fit_verdict bytes fit = passes_fits 1 (no_knowledge 0) (lines_of bytes) (fit.0, fits_without_misfit (events_in (lines_of bytes)) fit.1)
-
-must_by : (bytes : List ℕ) (status : Status) (v : Verdict) → verdict_on bytes ≡ v → status ≡ status_of v → MustAnswer bytes status
-must_by bytes status (verdicts.Fits events) answer is = record { fits = λ fit. inl is; other = λ unfit. absurd (unfit ((answered bytes (verdicts.Fits events) answer).1.0)) }
-must_by bytes status (verdicts.Refused n cause) answer is = record {
-  fits = λ fit. absurd (not_refused (sym (fit_verdict bytes fit).1 ∙ answer));
-  other = λ unfit. inl is;
-}
-must_by bytes status (verdicts.Unreadable n what) answer is = record {
-  fits = λ fit. absurd (not_unreadable (sym (fit_verdict bytes fit).1 ∙ answer));
-  other = λ unfit. inr (inl is);
-}
-
-pub must_answer : (bytes : List ℕ) (status : Status) → MayEnd bytes status → MustAnswer bytes status
-must_answer bytes status end = elim end [
-  | inl is ↦ must_by bytes status (verdict_on bytes) refl is
-  | inr spent ↦ record { fits = λ fit. inr spent; other = λ unfit. inr (inr spent) }
-]

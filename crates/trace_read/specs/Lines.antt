@@ -7,8 +7,8 @@ use Rattle.trace_text.specs.declared.unreadable.Unreadable.{Unreadable}
 use Rattle.trace_text.specs.Reading.{line_in}
 use Rattle.trace_check.specs.Fits.{FitsTrace}
 use Rattle.trace_check.specs.Knowledge.{Knowledge, misfit, learned, no_knowledge}
-use Rattle.trace_app.specs.declared.verdict.Verdict.{Verdict}
-use Rattle.trace_app.specs.declared.verdict.Verdict.TheVariants as verdicts
+use Rattle.trace_read.specs.declared.verdict.Verdict.{Verdict}
+use Rattle.trace_read.specs.declared.verdict.Verdict.TheVariants as verdicts
 
 -- the lines of bytes, of which the first begins with these
 abbrev pub lines_from : List ℕ → List ℕ → List (List ℕ)
@@ -84,3 +84,7 @@ Means lines (verdicts.Fits events) = Fit lines × (events ≡ length (events_in 
 Means lines (verdicts.Refused n cause) =
     (first : IsFirst lines n) × IsOk (line_in first.line) × (FitsTrace (events_in (first.front ++ first.line ∷ [])) → ⊥)
 Means lines (verdicts.Unreadable n what) = (first : IsFirst lines n) × (line_in first.line ≡ Err what)
+
+-- a text is answered so, and the answer means what it says
+abbrev pub Answers : List ℕ → Verdict → Type 0
+Answers bytes verdict = (verdict_on bytes ≡ verdict) × Means (lines_of bytes) verdict

@@ -1,8 +1,8 @@
 //! Reads a text line by line.
 ghost use Rattle.std.specs.Prelude.{◌≡◌, ◌++◌, ◌∷◌, [], List, ℕ, IfOk, OnOk, Option, Some, None, MatchOption};
-ghost use Rattle.trace_app.specs.declared.verdict.Verdict.{Verdict};
-ghost use Rattle.trace_app.specs.Lines.{known_after, line_verdict, verdict_on};
-ghost use Rattle.trace_app.specs.Readers.{HasTaken, ReadsOn, Stands};
+ghost use Rattle.trace_read.specs.declared.verdict.Verdict.{Verdict};
+ghost use Rattle.trace_read.specs.Lines.{known_after, line_verdict, verdict_on};
+ghost use Rattle.trace_read.specs.Readers.{HasTaken, ReadsOn, Stands};
 ghost use Rattle.trace_check.specs.Checkers.{HoldsKnowledge};
 ghost use Rattle.trace_check.specs.Knowledge.{Knowledge};
 ghost use Rattle.trace_text.specs.Reading.{line_in};
@@ -113,8 +113,24 @@ impl Reader {
         })
     }
 
+    /// The answer to the text, where this is all that comes.
+    pub fn take_last(&mut self, piece: &[u8]) -> Result<Verdict, AllocError>
+        ensures { (answer : List ℕ → Verdict) → Stands self.old answer → IfOk result (λ v. answer piece.now ≡ v) }
+    {
+        match self.take(piece)? {
+            Some(verdict) => Ok(verdict),
+            None => self.end(),
+        }
+    }
+
     /// What the events so far were, by numbers.
     pub fn tally(&self) -> &Tally {
         &self.tally
+    }
+
+    /// The same, where no more is to be read.
+    pub fn into_tally(self) -> Tally {
+        let Reader { tally, .. } = self;
+        tally
     }
 }

@@ -1,7 +1,7 @@
 use Rattle.std.proofs.Common.{◌≡◌, ◌+◌, ◌++◌, ◌∷◌, ◌∙◌, [], sym, ap, subst, List, ℕ, take, drop, length, get_or, ◌<◌, append_assoc, arith}
 use Rattle.std.proofs.lemmas.List.{take_more, take-append-drop}
-use Rattle.trace_app.specs.Readers.{ReadsOn}
-use Rattle.trace_app.proofs.reader.Reader.take.Goals as goal
+use Rattle.trace_read.specs.Readers.{ReadsOn}
+use Rattle.trace_read.proofs.reader.Reader.take.Goals as goal
 
 -- bytes up to a newline, it, and what is behind
 cut_at : (bytes rest : List ℕ) (i : ℕ) → i < length bytes → get_or bytes i 0 ≡ 10

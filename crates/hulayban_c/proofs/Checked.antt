@@ -1,0 +1,38 @@
+-- What an answer to a text says of whether it fits.
+use Rattle.std.specs.Prelude.{ℕ, ℤ, ◌≡◌, ◌⊎◌, List}
+use Rattle.std.proofs.Common.{◌∙◌, refl, sym, ap, subst, inl, inr}
+use Rattle.trace_read.specs.declared.verdict.Verdict.{Verdict}
+use Rattle.trace_read.specs.declared.verdict.Verdict.TheVariants as verdicts
+use Rattle.trace_read.specs.Lines.{Answers, Fit, lines_of, verdict_on}
+use Rattle.trace_read.proofs.Meanings.{fit_verdict, not_refused, not_unreadable}
+use Rattle.hulayban_c.specs.declared.codes.TheConstants.{FITS, MISFIT, UNREADABLE, NO_MEMORY}
+use Rattle.hulayban_c.specs.declared.checking.CheckAnswer.{CheckAnswer}
+use Rattle.hulayban_c.specs.Checks.{AnswersCheck, IsChecked, check_tells}
+
+number_where_fits : (text : List ℕ) (v : Verdict) (timers processors : ℕ) → verdict_on text ≡ v → Fit (lines_of text) → (check_tells v timers processors).0 ≡ FITS
+number_where_fits text (verdicts.Fits events) timers processors is fit = refl
+number_where_fits text (verdicts.Refused line cause) timers processors is fit = absurd (not_refused (sym (fit_verdict text fit).1 ∙ is))
+number_where_fits text (verdicts.Unreadable line what) timers processors is fit = absurd (not_unreadable (sym (fit_verdict text fit).1 ∙ is))
+
+number_where_not : (text : List ℕ) (v : Verdict) (timers processors : ℕ) → Answers text v → (Fit (lines_of text) → ⊥)
+    → ((check_tells v timers processors).0 ≡ MISFIT) ⊎ ((check_tells v timers processors).0 ≡ UNREADABLE)
+number_where_not text (verdicts.Fits events) timers processors answers unfit = absurd (unfit answers.1.0)
+number_where_not text (verdicts.Refused line cause) timers processors answers unfit = inl refl
+number_where_not text (verdicts.Unreadable line what) timers processors answers unfit = inr refl
+
+one_of_three : (n : ℤ) → (n ≡ MISFIT) ⊎ (n ≡ UNREADABLE) → (n ≡ MISFIT) ⊎ ((n ≡ UNREADABLE) ⊎ (n ≡ NO_MEMORY))
+one_of_three n (inl misfit) = inl misfit
+one_of_three n (inr unreadable) = inr (inl unreadable)
+
+pub checked : (text : List ℕ) (told : ℤ × CheckAnswer) (returned : ℤ) (before after : CheckAnswer) → IsChecked text told → returned ≡ told.0 → after ≡ told.1
+    → AnswersCheck text returned before after
+checked text told returned before after c code answer =
+    let v = c.verdict in
+    let number : returned ≡ (check_tells v c.timers c.processors).0 = code ∙ ap (λ (t : ℤ × CheckAnswer). t.0) c.tells in
+    let both : ◌≡◌ {A = ℤ × CheckAnswer} (returned, after) told =
+    ap (λ (r : ℤ). (r, after)) code ∙ ap (λ (a : CheckAnswer). (told.0, a)) answer in
+    record {
+      answer = inl (subst (IsChecked text) (sym both) c);
+      fits = λ fit. inl (number ∙ number_where_fits text v c.timers c.processors c.answers.0 fit);
+      unfit = λ unfit. one_of_three returned (rw number (number_where_not text v c.timers c.processors c.answers unfit));
+    }

@@ -1,6 +1,0 @@
-use Rattle.trace_app.specs.Lines.{lines_of}
-use Rattle.trace_app.proofs.Meanings.{judged_means}
-use Rattle.trace_app.proofs.laws.an_answer_means_what_it_says.Goals as goal
-
-pub returns : goal.returns
-returns c = λ bytes. judged_means (lines_of bytes)

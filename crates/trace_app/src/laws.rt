@@ -1,9 +1,0 @@
-//! What an answer means.
-ghost use Rattle.std.specs.Prelude.{List, ℕ};
-ghost use Rattle.trace_app.specs.Lines.{lines_of, verdict_on, Means};
-
-/// An answer says that all lines of a text can be read and fit, or which line is the first that can't be read, or with which the lines so far don't
-/// fit.
-pub fn an_answer_means_what_it_says()
-    ensures { (bytes : List ℕ) → Means (lines_of bytes) (verdict_on bytes) }
-{}

@@ -1,0 +1,17 @@
+//! Reads a text that lies in memory.
+ghost use Rattle.std.specs.Prelude.{IfOk};
+ghost use Rattle.trace_read.specs.Lines.{Answers};
+
+use crate::reader::Reader;
+use crate::tally::Tally;
+use crate::verdict::Verdict;
+use std::alloc::{AllocError, Global};
+
+/// The answer to a whole text, and what the events up to it were, by numbers.
+pub fn read_whole(alloc: Global, text: &[u8]) -> Result<(Verdict, Tally), AllocError>
+    ensures { IfOk result (λ read. Answers text.now read.0) }
+{
+    let mut reader = Reader::new(alloc);
+    let verdict = reader.take_last(text)?;
+    Ok((verdict, reader.into_tally()))
+}
