@@ -1,6 +1,7 @@
 pub mod Shifts
 pub mod Keeping
 pub mod Making
+pub mod Locks
 pub mod Standing
 pub mod Logging
 pub mod Leaving

@@ -21,15 +21,23 @@ use Rattle.base_row.specs.Plays.{carried_by, carry_after}
 use Rattle.base_row.proofs.Calling.{extends_appended, looks_freed, seen_after}
 use Rattle.hr_timers.specs.Known.{AddsBehind, KnownOfTimers, Looks, MadeAt}
 use Rattle.hr_timers.specs.Calls.{entry_by}
+use Rattle.hr_timers.proofs.Locks.{locks_got, locks_refl, locks_seen, locks_trans}
 
 -- ---- looks
 
 pub looks_refl : (v : BaseView BaseContent) → Looks v v
-looks_refl v = record { seen = begins_refl v.seen; mine = refl; id = refl; claims = refl; carry = refl }
+looks_refl v =
+    record { seen = begins_refl v.seen; mine = refl; id = refl; claims = refl; carry = refl; locks = locks_refl v.takes v.met }
 
 pub looks_trans : (u v w : BaseView BaseContent) → Looks u v → Looks v w → Looks u w
-looks_trans u v w a b =
-    record { seen = begins_trans a.seen b.seen; mine = b.mine ∙ a.mine; id = b.id ∙ a.id; claims = b.claims ∙ a.claims; carry = b.carry ∙ a.carry }
+looks_trans u v w a b = record {
+  seen = begins_trans a.seen b.seen;
+  mine = b.mine ∙ a.mine;
+  id = b.id ∙ a.id;
+  claims = b.claims ∙ a.claims;
+  carry = b.carry ∙ a.carry;
+  locks = locks_trans a.locks b.locks;
+}
 
 pub looks_seen : (v w : BaseView BaseContent) → rows.SeesFurther v w → Looks v w
 looks_seen v w s = record {
@@ -38,6 +46,7 @@ looks_seen v w s = record {
   id = ap (λ (y : BaseView BaseContent). y.id) s.rest;
   claims = ap (λ (y : BaseView BaseContent). y.claims) s.rest;
   carry = ap (λ (y : BaseView BaseContent). y.carry) s.rest;
+  locks = locks_seen v w s;
 }
 
 pub looks_locked : (base : ℕ) (v w : BaseView BaseContent) (h : HeldContent BaseContent) → rows.GetsBase base v w h → Looks v w
@@ -47,6 +56,7 @@ looks_locked base v w h l = record {
   id = ap (λ (y : BaseView BaseContent). y.id) l.rest;
   claims = ap (λ (y : BaseView BaseContent). y.claims) l.rest;
   carry = ap (λ (y : BaseView BaseContent). y.carry) l.rest;
+  locks = locks_got base v w h l;
 }
 
 pub looks_on : (v w : BaseView BaseContent) → Looks v w → LooksOn (rows.known_of v) (rows.known_of w)

@@ -98,12 +98,25 @@ pub record MadeAt (v w : KnownOfTimers) (t : ℕ) (x : List SystemEntry) (es : L
   pub mine : w.mine ≡ v.mine ++ places t (length (entries_of t x)) es
   pub id : w.id ≡ v.id
 
+-- these takes of base locks, and those behind them; and of each base no older lock word
+pub record LocksGoOnFrom (before after : List (ℕ × ℕ)) (knew knows : List ℕ) : Type 0 where
+  pub takes : Begins before after
+  pub met : (b : ℕ) → slice_index knew b ≤ slice_index knows b
+
+-- the takes that were a pass's own stand at the front of those that it has afterwards, and no lock word that it knows is older
+abbrev pub LocksGoOn : PassOf → PassOf → Type 0
+LocksGoOn p q = LocksGoOnFrom p.takes q.takes p.met q.met
+
 -- another pass took the base's lock in between, or it is taken no more
 abbrev pub HasMissed : PassOf → PassOf → ℕ → Type 0
 HasMissed p q b = ((k : ℕ) × (count (is_place b k) p.takes ≡ 0) × (slice_index p.met b < k + k) × (k + k ≤ slice_index q.met b + 1))
     ⊎ (2 ^ 64 - 2 ≤ slice_index q.met b)
 
 -- ---- inside a call
+
+-- `LocksGoOn`, of a pass of the bases' table
+abbrev pub LocksGoOnIn : BaseView BaseContent → BaseView BaseContent → Type 0
+LocksGoOnIn v w = LocksGoOnFrom v.takes w.takes v.met w.met
 
 -- a pass has seen more, and has the same name, places, claims and carry
 pub record Looks (v w : BaseView BaseContent) : Type 0 where
@@ -112,6 +125,7 @@ pub record Looks (v w : BaseView BaseContent) : Type 0 where
   pub id : w.id ≡ v.id
   pub claims : w.claims ≡ v.claims
   pub carry : w.carry ≡ v.carry
+  pub locks : LocksGoOnIn v w
 
 -- these entries were added behind what a pass had seen of a timer
 abbrev pub AddsBehind : BaseView BaseContent → BaseView BaseContent → ℕ → List seq.Entry → Type 0

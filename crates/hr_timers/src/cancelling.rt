@@ -2,7 +2,7 @@
 ghost use Rattle.std.specs.Prelude.{◌≡◌, ◌<◌, ◌≤◌, ◌+◌, length, IfNone, MatchOption};
 ghost use Rattle.seq_timer.specs.Histories.{IsIdle};
 ghost use Rattle.base_row.specs.Calls.{known_of, timer_seen};
-ghost use Rattle.hr_timers.specs.Known.{HoldsTimer, IsAtRest, Looks};
+ghost use Rattle.hr_timers.specs.Known.{HoldsTimer, IsAtRest, LocksGoOnIn, Looks};
 ghost use Rattle.seq_timer.specs.declared.answer.CancelAnswer.TheVariants as cancels;
 ghost use Rattle.hr_timers.specs.Calls.{Cancels};
 ghost use Rattle.hr_timers.specs.Logged.{CancelsLogged};
@@ -25,6 +25,7 @@ pub fn try_to_cancel<R: Wait, S: ReceiptSink>(
     requires room { 0 < S.room sink.old }
     ensures rest { IsAtRest row.now pass.new }
     ensures cancels { CancelsLogged S.pushed row.now.about (known_of pass.old.knows) (known_of pass.new.knows) timer result sink.old sink.new }
+    ensures locks { LocksGoOnIn pass.old.knows pass.new.knows }
     ensures room { S.room sink.old ≤ S.room sink.new + 1 }
 {
     if let Some(stamp) = look_idle(row, pass, timer) {
@@ -41,6 +42,7 @@ fn look_idle(row: &BaseRow, pass: &mut Pass, timer: u32) -> Option<u64>
     ensures rest { IsAtRest row.now pass.new }
     ensures cancels { MatchOption result (Looks pass.old.knows pass.new.knows) (λ n. Cancels row.now.about (known_of pass.old.knows) (known_of pass.new.knows) timer (cancels.Idle n)) }
     ensures busy { IfNone result (IsIdle (timer_seen row.now.about pass.new.knows timer) → ⊥) }
+    ensures locks { LocksGoOnIn pass.old.knows pass.new.knows }
 {
     let word = row.load_word(pass, timer);
     if word.enqueued || word.running || word.moving {
@@ -61,6 +63,7 @@ pub fn cancel_held<S: ReceiptSink>(
     requires room { 0 < S.room sink.old }
     ensures rest { IsAtRest row.now pass.new }
     ensures cancels { CancelsLogged S.pushed row.now.about (known_of pass.old.knows) (known_of pass.new.knows) timer result sink.old sink.new }
+    ensures locks { LocksGoOnIn pass.old.knows pass.new.knows }
     ensures room { S.room sink.old ≤ S.room sink.new + 1 }
 {
     let state = state_of(row, pass, &held, timer);

@@ -4,7 +4,7 @@ ghost use Rattle.seq_timer.specs.Tables.{IsNextDue, in_context, runs_on};
 ghost use Rattle.seq_timer.specs.Contents.{running_in};
 ghost use Rattle.seq_timer.specs.Systems.{next_on};
 ghost use Rattle.base_row.specs.Calls.{base_seen, known_of, timer_seen};
-ghost use Rattle.hr_timers.specs.Known.{HoldsBase, HoldsTimer, IsAtRest, Looks, OwnsClaim};
+ghost use Rattle.hr_timers.specs.Known.{HoldsBase, HoldsTimer, IsAtRest, LocksGoOnIn, Looks, OwnsClaim};
 ghost use Rattle.hr_timers.specs.declared.answer.ClaimAnswer.TheVariants as claimings;
 ghost use Rattle.hr_timers.specs.Logged.{ClaimsLogged, FinishesLogged, ForwardsLogged};
 
@@ -32,6 +32,7 @@ pub fn claim_next<R: Wait, S: ReceiptSink>(
     requires room { 0 < S.room sink.old }
     ensures rest { IsAtRest row.now pass.new }
     ensures claims { ClaimsLogged S.pushed row.now.about (known_of pass.old.knows) (known_of pass.new.knows) context base reading result sink.old sink.new }
+    ensures locks { LocksGoOnIn pass.old.knows pass.new.knows }
     ensures room { S.room sink.old ≤ S.room sink.new + 1 }
 {
     let held = lock(rt, row, pass, base);
@@ -70,6 +71,7 @@ fn claim_held<S: ReceiptSink>(
     ensures rest { IsAtRest row.now pass.new }
     ensures timer { result.timer ≡ timer }
     ensures claimed { ClaimsLogged S.pushed row.now.about (known_of pass.old.knows) (known_of pass.new.knows) context base reading (claimings.Claimed result) sink.old sink.new }
+    ensures locks { LocksGoOnIn pass.old.knows pass.new.knows }
     ensures room { S.room sink.old ≤ S.room sink.new + 1 }
 {
     row.fresh();
@@ -128,6 +130,7 @@ pub fn finish<R: Wait, S: ReceiptSink>(
     requires room { 0 < S.room sink.old }
     ensures rest { IsAtRest row.now pass.new }
     ensures finishes { FinishesLogged S.pushed row.now.about (known_of pass.old.knows) (known_of pass.new.knows) claim restart result sink.old sink.new }
+    ensures locks { LocksGoOnIn pass.old.knows pass.new.knows }
     ensures room { S.room sink.old ≤ S.room sink.new + 1 }
 {
     let held = hold_claimed(rt, row, pass, claim);
@@ -159,6 +162,7 @@ pub fn forward<R: Wait, S: ReceiptSink>(
     requires room { 0 < S.room sink.old }
     ensures rest { IsAtRest row.now pass.new }
     ensures forwards { ForwardsLogged S.pushed row.now.about (known_of pass.old.knows) (known_of pass.new.knows) claim reading interval result sink.old sink.new }
+    ensures locks { LocksGoOnIn pass.old.knows pass.new.knows }
     ensures room { S.room sink.old ≤ S.room sink.new + 1 }
 {
     let held = hold_claimed(rt, row, pass, claim);
@@ -182,6 +186,7 @@ fn forward_held<S: ReceiptSink>(
     requires room { 0 < S.room sink.old }
     ensures rest { IsAtRest row.now pass.new }
     ensures forwards { ForwardsLogged S.pushed row.now.about (known_of pass.old.knows) (known_of pass.new.knows) claim reading interval result sink.old sink.new }
+    ensures locks { LocksGoOnIn pass.old.knows pass.new.knows }
     ensures room { S.room sink.old ≤ S.room sink.new + 1 }
 {
     let state = state_of(row, pass, &held, claim.timer);

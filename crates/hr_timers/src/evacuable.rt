@@ -2,7 +2,7 @@
 ghost use Rattle.std.specs.Prelude.{◌≡◌, ◌+◌, ◌*◌, ◌<◌, ◌≤◌, ◌^◌, length, replicate, [], IfOk};
 ghost use Rattle.pass_names.specs.SharedHistory.{first_known};
 ghost use Rattle.base_row.specs.Calls.{opening_of};
-ghost use Rattle.hr_timers.specs.Known.{IsEvacuable, IsPassOf};
+ghost use Rattle.hr_timers.specs.Known.{IsEvacuable, IsPassOf, LocksGoOn};
 ghost use Rattle.hr_timers.specs.Moves.{IsSamePass, OfflineFits, OnlineFits, TakesOffline};
 
 use crate::answer::{OfflineAnswer, OnlineAnswer};
@@ -61,6 +61,7 @@ impl Timers {
         ensures pass { IsPassOf self.now pass.new }
         ensures fits { TakesOffline self.now.about base heir reading pass.old.known pass.new.known budget result }
         ensures same { IsSamePass pass.old.known pass.new.known }
+        ensures locks { LocksGoOn pass.old pass.new }
     {
         self.offline_logged(rt, pass, &mut Unlogged, base, heir, budget, reading)
     }
@@ -84,6 +85,7 @@ impl Timers {
         ensures pass { IsPassOf self.now pass.new }
         ensures fits { OfflineFits S.pushed self.now.about base heir reading pass.old.known pass.new.known budget result sink.old sink.new }
         ensures same { IsSamePass pass.old.known pass.new.known }
+        ensures locks { LocksGoOn pass.old pass.new }
     {
         self.small();
         let row = &self.row;
@@ -102,6 +104,7 @@ impl Timers {
         ensures pass { IsPassOf self.now pass.new }
         ensures fits { OnlineFits self.now.about pass.old.known pass.new.known base result }
         ensures same { IsSamePass pass.old.known pass.new.known }
+        ensures locks { LocksGoOn pass.old pass.new }
     {
         let answer = evacuating::go_online(rt, &self.row, &mut pass.inner, base);
         self.check(pass);

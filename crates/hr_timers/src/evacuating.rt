@@ -12,13 +12,13 @@ ghost use Rattle.seq_timer.specs.declared.event.EventBy.TheVariants.{Out, Start}
 ghost use Rattle.seq_timer.specs.declared.standing.BaseEvent.TheVariants as shifts;
 ghost use Rattle.base_row.specs.Calls.{IsBasePassOf, base_seen, known_of, timer_seen};
 ghost use Rattle.hr_timers.specs.Calls.{entry_by};
-ghost use Rattle.hr_timers.specs.Known.{AddsBehind, HoldsBase, HoldsTimer, IsAtRest, IsEvacuable};
+ghost use Rattle.hr_timers.specs.Known.{AddsBehind, HoldsBase, HoldsTimer, IsAtRest, IsEvacuable, LocksGoOnIn};
 ghost use Rattle.hr_timers.specs.Logged.{IsLogged};
 ghost use Rattle.hr_timers.specs.Moves.{Evacuates, RunsFirstIn, KeepsBases, MayGoOffline, OfflineFits, OnlineFits, ShiftsBase, TurnFits, move_entries};
 
 use crate::answer::{OfflineAnswer, OnlineAnswer};
 use crate::moving::{send, settle};
-use crate::under_lock::{leave_base, lock};
+use crate::under_lock::{leave_base, lock, unlock_base};
 use base_row::{BaseRow, HeldBase, Pass, ReceiptSink};
 use ktime::{Mode, Reading};
 use seq_timer::{Asked, BaseEvent, Context, TimerState};
@@ -61,6 +61,7 @@ pub fn go_offline<R: Wait, S: ReceiptSink>(
     ensures rest { IsAtRest row.now pass.new }
     ensures fits { OfflineFits S.pushed row.now.about base heir reading
         (known_of pass.old.knows) (known_of pass.new.knows) budget result sink.old sink.new }
+    ensures locks { LocksGoOnIn pass.old.knows pass.new.knows }
 {
     let standing = row.load_standing(pass, base);
     let stamp = standing.stamp;
@@ -87,6 +88,7 @@ pub fn go_online<R: Wait>(rt: &R, row: &BaseRow, pass: &mut Pass, base: u32) -> 
     requires reach { IsEvacuable row.now.about }
     ensures rest { IsAtRest row.now pass.new }
     ensures fits { OnlineFits row.now.about (known_of pass.old.knows) (known_of pass.new.knows) base result }
+    ensures locks { LocksGoOnIn pass.old.knows pass.new.knows }
 {
     let held = lock(rt, row, pass, base);
     pass.known();
@@ -122,6 +124,7 @@ fn evacuate<R: Wait, S: ReceiptSink>(
     ensures rest { IsAtRest row.now pass.new }
     ensures ends { Evacuates S.pushed row.now.about base heir reading
         (known_of pass.old.knows) (known_of pass.new.knows) left moved result sink.old sink.new }
+    ensures locks { LocksGoOnIn pass.old.knows pass.new.knows }
 {
     match take_turn(rt, row, pass, sink, base, heir, reading, left > 0) {
         Turn::Busy { timer, generation } => OfflineAnswer::Busy {
@@ -170,6 +173,7 @@ fn take_turn<R: Wait, S: ReceiptSink>(
     ensures rest { IsAtRest row.now pass.new }
     ensures turns { TurnFits S.pushed row.now.about base heir reading
         (known_of pass.old.knows) (known_of pass.new.knows) goes_on result sink.old sink.new }
+    ensures locks { LocksGoOnIn pass.old.knows pass.new.knows }
     ensures room { S.room sink.old ≤ S.room sink.new + 2 }
 {
     let held = lock(rt, row, pass, base);
@@ -247,6 +251,7 @@ fn move_one<R: Wait, S: ReceiptSink>(
     ensures keeps { KeepsBases (known_of pass.old.knows) (known_of pass.new.knows) }
     ensures adds { AddsBehind pass.old.knows pass.new.knows timer (move_entries state.now heir reading) }
     ensures logged { IsLogged S.pushed row.now.about timer pass.old.knows.seen (move_entries state.now heir reading) sink.old sink.new }
+    ensures locks { LocksGoOnIn pass.old.knows pass.new.knows }
     ensures room { S.room sink.old ≤ S.room sink.new + 2 }
 {
     let asked = moving_on(state, heir, reading);
@@ -292,6 +297,7 @@ fn arrive_first<R: Wait, S: ReceiptSink>(
     ensures adds { AddsBehind pass.old.knows pass.new.knows timer (entry_by state.now (Start asked.now) ∷ []) }
     ensures logged { IsLogged S.pushed row.now.about timer pass.old.knows.seen
         (entry_by state.now (Start asked.now) ∷ []) sink.old sink.new }
+    ensures locks { LocksGoOnIn pass.old.knows pass.new.knows }
     ensures room { S.room sink.old ≤ S.room sink.new + 1 }
 {
     let held = lock(rt, row, pass, asked.base);
@@ -310,11 +316,12 @@ fn shift_held(row: &BaseRow, pass: &mut Pass, held: HeldBase, event: BaseEvent)
     ensures rest { IsAtRest row.now pass.new }
     ensures shifts { ShiftsBase row.now.about (known_of pass.old.knows) (known_of pass.new.knows) held.base event }
     ensures unused { (heir : ℕ) → event ≡ shifts.Offline heir → IsUnused (timer_seen row.now.about pass.new.knows) held.base }
+    ensures locks { LocksGoOnIn pass.old.knows pass.new.knows }
 {
     row.fresh();
     pass.known();
     let mut held = held;
     row.shift(pass, &mut held, event);
-    row.unlock_base(pass, held);
+    unlock_base(row, pass, held);
     pass.known();
 }

@@ -1,5 +1,5 @@
 //! What the calls' clauses say of the numbers in their answers: laws over what those clauses name.
-ghost use Rattle.std.specs.Prelude.{◌≡◌, ◌+◌, ◌≤◌, ℕ, Bool};
+ghost use Rattle.std.specs.Prelude.{◌≡◌, ◌+◌, ◌≤◌, ◌++◌, ℕ, Bool, List};
 ghost use Rattle.seq_timer.specs.declared.context.Context.{Context};
 ghost use Rattle.seq_timer.specs.Events.{Asked};
 ghost use Rattle.ktime.specs.Readings.{ClockReading};
@@ -10,7 +10,8 @@ ghost use Rattle.seq_timer.specs.declared.answer.ForwardAnswer.{ForwardAnswer};
 ghost use Rattle.base_row.specs.declared.view.Opening.{Opening};
 ghost use Rattle.hr_timers.specs.declared.answer.StartAnswer as answers;
 ghost use Rattle.hr_timers.specs.declared.numbers.ClaimNumbers as claimed;
-ghost use Rattle.hr_timers.specs.Known.{KnownOfTimers, KnowsTimers, timer_then};
+ghost use Rattle.hr_timers.specs.Known.{KnownOfTimers, KnowsTimers, LocksGoOn, PassOf, timer_then};
+ghost use Rattle.base_row.specs.Plays.{greater};
 ghost use Rattle.seq_timer.specs.Steps.{most_entries};
 ghost use Rattle.seq_timer.specs.Tables.{timer_at};
 ghost use Rattle.hr_timers.specs.Calls.{Cancels, ClaimsNextDue, Finishes, Forwards, Peeks, StartsTimer};
@@ -45,4 +46,13 @@ pub fn no_answer_is_far_past_the_limit()
         → KnowsTimers o w → Forwards o v w c reading interval a → forward_number a ≤ most_entries (timer_at o.timers c.timer).terms }
     ensures finish { (o : Opening) (v w : KnownOfTimers) (c : claimed.ClaimNumbers) (restart : Bool) (a : Finished)
         → KnowsTimers o w → Finishes o v w c restart a → a.number ≤ most_entries (timer_at o.timers c.timer).terms }
+{}
+
+/// What a pass has of base locks goes on over calls one behind the other (`next`). A `peek` and a `split` leave it as it is (`stays`); a pass
+/// that meets another or takes it in is told its words (`meets`, `retires`).
+pub fn locks_go_on_over_calls()
+    ensures stays { (p q : PassOf) → q.takes ≡ p.takes → q.met ≡ p.met → LocksGoOn p q }
+    ensures next { (p q r : PassOf) → LocksGoOn p q → LocksGoOn q r → LocksGoOn p r }
+    ensures meets { (p q : PassOf) (met : List ℕ) → q.takes ≡ p.takes → q.met ≡ greater p.met met → LocksGoOn p q }
+    ensures retires { (p q : PassOf) (takes : List (ℕ × ℕ)) (met : List ℕ) → q.takes ≡ p.takes ++ takes → q.met ≡ greater p.met met → LocksGoOn p q }
 {}

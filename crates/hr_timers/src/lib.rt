@@ -21,7 +21,7 @@ mod under_lock;
 
 pub use answer::{ClaimAnswer, NowAnswer, OfflineAnswer, OnlineAnswer, StartAnswer};
 pub use base_row::{Log, Noted, Receipt, ReceiptLog, ReceiptSink, Unlogged};
-pub use laws::{a_call_answers_the_stamp, no_answer_is_far_past_the_limit};
+pub use laws::{a_call_answers_the_stamp, locks_go_on_over_calls, no_answer_is_far_past_the_limit};
 pub use numbers::ClaimNumbers;
 pub use timers::Timers;
 pub use tokens::{Claim, Pass};

@@ -1,7 +1,7 @@
 //! The same calls with a sink for the receipts of the entries that they make.
 ghost use Rattle.std.specs.Prelude.{◌≤◌, ◌<◌, ◌+◌, length};
 ghost use Rattle.seq_timer.specs.Tables.{timer_at};
-ghost use Rattle.hr_timers.specs.Known.{IsPassOf, OwnsClaim};
+ghost use Rattle.hr_timers.specs.Known.{IsPassOf, LocksGoOn, OwnsClaim};
 ghost use Rattle.hr_timers.specs.Ways.{most_to_start};
 ghost use Rattle.hr_timers.specs.Logged.{CancelsLogged, ClaimsLogged, FinishesLogged, ForwardsLogged, HasRoomToStart, StartsLogged};
 
@@ -30,6 +30,7 @@ impl Timers {
         requires room { HasRoomToStart self.now.about pass.old.known timer asked.now.base (S.room sink.old) }
         ensures pass { IsPassOf self.now pass.new }
         ensures starts { StartsLogged S.pushed self.now.about pass.old.known pass.new.known timer asked.now result sink.old sink.new }
+        ensures locks { LocksGoOn pass.old pass.new }
         ensures room { S.room sink.old ≤ S.room sink.new + most_to_start (timer_at self.now.about.timers timer).terms asked.now.base }
     {
         self.small();
@@ -52,6 +53,7 @@ impl Timers {
         requires room { 0 < S.room sink.old }
         ensures pass { IsPassOf self.now pass.new }
         ensures cancels { CancelsLogged S.pushed self.now.about pass.old.known pass.new.known timer result sink.old sink.new }
+        ensures locks { LocksGoOn pass.old pass.new }
         ensures room { S.room sink.old ≤ S.room sink.new + 1 }
     {
         let row = self.base_row();
@@ -75,6 +77,7 @@ impl Timers {
         requires room { 0 < S.room sink.old }
         ensures pass { IsPassOf self.now pass.new }
         ensures claims { ClaimsLogged S.pushed self.now.about pass.old.known pass.new.known context base reading result sink.old sink.new }
+        ensures locks { LocksGoOn pass.old pass.new }
         ensures room { S.room sink.old ≤ S.room sink.new + 1 }
     {
         let row = self.base_row();
@@ -98,6 +101,7 @@ impl Timers {
         requires room { 0 < S.room sink.old }
         ensures pass { IsPassOf self.now pass.new }
         ensures forwards { ForwardsLogged S.pushed self.now.about pass.old.known pass.new.known claim.now reading interval result sink.old sink.new }
+        ensures locks { LocksGoOn pass.old pass.new }
         ensures room { S.room sink.old ≤ S.room sink.new + 1 }
     {
         let row = self.base_row();
@@ -121,6 +125,7 @@ impl Timers {
         requires room { 0 < S.room sink.old }
         ensures pass { IsPassOf self.now pass.new }
         ensures finishes { FinishesLogged S.pushed self.now.about pass.old.known pass.new.known claim restart result sink.old sink.new }
+        ensures locks { LocksGoOn pass.old pass.new }
         ensures room { S.room sink.old ≤ S.room sink.new + 1 }
     {
         let Claim { numbers } = claim;

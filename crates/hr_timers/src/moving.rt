@@ -4,14 +4,14 @@ ghost use Rattle.seq_timer.specs.Steps.{Needs, after};
 ghost use Rattle.seq_timer.specs.declared.event.EventBy.TheVariants.{Out, Start};
 ghost use Rattle.base_row.specs.Calls.{IsBasePassOf, known_of, timer_seen};
 ghost use Rattle.base_row.specs.Plays.{Steady};
-ghost use Rattle.hr_timers.specs.Known.{AddsBehind, HoldsTimer, IsAtRest, Looks};
+ghost use Rattle.hr_timers.specs.Known.{AddsBehind, HoldsTimer, IsAtRest, LocksGoOnIn, Looks};
 ghost use Rattle.hr_timers.specs.Calls.{entry_by};
 ghost use Rattle.hr_timers.specs.Logged.{IsLogged};
 ghost use Rattle.hr_timers.specs.Moves.{Arrives, KeepsBases, StartsBy, arrival_of};
 ghost use Rattle.hr_timers.specs.Ways.{IsWay, most_to_arrive, most_to_start};
 
 use crate::asked::one_bit;
-use crate::under_lock::lock;
+use crate::under_lock::{lock, unlock_base};
 use base_row::{BaseRow, HeldBase, Pass, ReceiptSink};
 use seq_timer::{Asked, Event, Placement, Reply, TimerState};
 use std::sync::Wait;
@@ -65,6 +65,7 @@ pub fn move_and_start<R: Wait, S: ReceiptSink>(
     ensures rest { IsAtRest row.now pass.new }
     ensures claims { pass.new.knows.claims ≡ pass.old.knows.claims }
     ensures starts { StartsBy S.pushed row.now.about pass.old.knows pass.new.knows timer asked.now result sink.old sink.new }
+    ensures locks { LocksGoOnIn pass.old.knows pass.new.knows }
     ensures room { S.room sink.old ≤ S.room sink.new + most_to_start (timer_seen row.now.about pass.old.knows timer).terms asked.now.base }
 {
     let state = send(row, pass, sink, held, timer, asked.base);
@@ -97,12 +98,13 @@ pub fn send<S: ReceiptSink>(
     ensures adds { AddsBehind pass.old.knows pass.new.knows timer (entry_by (timer_seen row.now.about pass.old.knows timer) (Out to) ∷ []) }
     ensures logged { IsLogged S.pushed row.now.about timer pass.old.knows.seen
         (entry_by (timer_seen row.now.about pass.old.knows timer) (Out to) ∷ []) sink.old sink.new }
+    ensures locks { LocksGoOnIn pass.old.knows pass.new.knows }
     ensures room { S.room sink.old ≤ S.room sink.new + 1 }
 {
     row.fresh();
     let mut held = held;
     let state = row.out_logged(pass, sink, &mut held, timer, to);
-    row.unlock_base(pass, held);
+    unlock_base(row, pass, held);
     state
 }
 
@@ -126,6 +128,7 @@ fn bring<R: Wait, S: ReceiptSink>(
     ensures rest { IsAtRest row.now pass.new }
     ensures claims { pass.new.knows.claims ≡ pass.old.knows.claims }
     ensures arrives { Arrives S.pushed row.now.about pass.old.knows pass.new.knows timer asked.now result sink.old sink.new }
+    ensures locks { LocksGoOnIn pass.old.knows pass.new.knows }
     ensures room { S.room sink.old ≤ S.room sink.new + most_to_arrive state.now.terms asked.now.base }
 {
     let held = lock(rt, row, pass, asked.base);
@@ -172,13 +175,14 @@ fn send_on<S: ReceiptSink>(
     ensures adds { AddsBehind pass.old.knows pass.new.knows timer (entry_by (timer_seen row.now.about pass.old.knows timer) (Out to) ∷ []) }
     ensures logged { IsLogged S.pushed row.now.about timer pass.old.knows.seen
         (entry_by (timer_seen row.now.about pass.old.knows timer) (Out to) ∷ []) sink.old sink.new }
+    ensures locks { LocksGoOnIn pass.old.knows pass.new.knows }
     ensures room { S.room sink.old ≤ S.room sink.new + 1 }
 {
     row.fresh();
     pass.known();
     let mut held = held;
     let sent = row.out_again_logged(pass, sink, &mut held, timer, state, to);
-    row.unlock_base(pass, held);
+    unlock_base(row, pass, held);
     sent
 }
 
@@ -207,6 +211,7 @@ pub fn settle<S: ReceiptSink>(
     ensures told { result ≡ arrival_of (after (timer_seen row.now.about pass.old.knows timer) (Start asked.now)) [] asked.now.base }
     ensures logged { IsLogged S.pushed row.now.about timer pass.old.knows.seen
         (entry_by (timer_seen row.now.about pass.old.knows timer) (Start asked.now) ∷ []) sink.old sink.new }
+    ensures locks { LocksGoOnIn pass.old.knows pass.new.knows }
     ensures room { S.room sink.old ≤ S.room sink.new + 1 }
 {
     row.fresh();
@@ -216,7 +221,7 @@ pub fn settle<S: ReceiptSink>(
     let mut held = held;
     let event = Event::Start(*asked);
     let reply = row.arrive_logged(pass, sink, &mut held, timer, state, &event);
-    row.unlock_base(pass, held);
+    unlock_base(row, pass, held);
     match reply {
         Reply::Start { placement, .. } => Arrival {
             asked: asked.base,

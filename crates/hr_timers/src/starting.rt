@@ -5,7 +5,7 @@ ghost use Rattle.seq_timer.specs.declared.event.EventBy.TheVariants.{Start};
 ghost use Rattle.seq_timer.specs.Steps.{after};
 ghost use Rattle.seq_timer.specs.Tables.{timer_at};
 ghost use Rattle.base_row.specs.Calls.{known_of, timer_seen};
-ghost use Rattle.hr_timers.specs.Known.{AddsBehind, HoldsTimer, IsAtRest};
+ghost use Rattle.hr_timers.specs.Known.{AddsBehind, HoldsTimer, IsAtRest, LocksGoOnIn};
 ghost use Rattle.hr_timers.specs.Calls.{entry_by};
 ghost use Rattle.hr_timers.specs.Logged.{HasRoomToStart, IsLogged, StartsLogged};
 ghost use Rattle.hr_timers.specs.Moves.{StartsBy, arrival_of};
@@ -34,6 +34,7 @@ pub fn start<R: Wait, S: ReceiptSink>(
     requires room { HasRoomToStart row.now.about (known_of pass.old.knows) timer asked.now.base (S.room sink.old) }
     ensures rest { IsAtRest row.now pass.new }
     ensures starts { StartsLogged S.pushed row.now.about (known_of pass.old.knows) (known_of pass.new.knows) timer asked.now result sink.old sink.new }
+    ensures locks { LocksGoOnIn pass.old.knows pass.new.knows }
     ensures room { S.room sink.old ≤ S.room sink.new + most_to_start (timer_at row.now.about.timers timer).terms asked.now.base }
 {
     let base = chase(row, pass, asked.base);
@@ -60,6 +61,7 @@ fn start_held<R: Wait, S: ReceiptSink>(
         else most_to_start (timer_seen row.now.about pass.old.knows timer).terms asked.now.base) ≤ S.room sink.old }
     ensures rest { IsAtRest row.now pass.new }
     ensures starts { StartsLogged S.pushed row.now.about (known_of pass.old.knows) (known_of pass.new.knows) timer asked.now result sink.old sink.new }
+    ensures locks { LocksGoOnIn pass.old.knows pass.new.knows }
     ensures room { S.room sink.old ≤ S.room sink.new + most_to_start (timer_seen row.now.about pass.old.knows timer).terms asked.now.base }
 {
     let state = state_of(row, pass, &held, timer);
@@ -97,6 +99,7 @@ fn enter_start<R: Wait, S: ReceiptSink>(
     ensures rest { IsAtRest row.now pass.new }
     ensures claims { pass.new.knows.claims ≡ pass.old.knows.claims }
     ensures starts { StartsBy S.pushed row.now.about pass.old.knows pass.new.knows timer asked.now result sink.old sink.new }
+    ensures locks { LocksGoOnIn pass.old.knows pass.new.knows }
     ensures room { S.room sink.old ≤ S.room sink.new + most_to_start (timer_seen row.now.about pass.old.knows timer).terms asked.now.base }
 {
     let standing = row.standing(pass, &held);
@@ -137,6 +140,7 @@ fn stay<S: ReceiptSink>(
     ensures told { result ≡ arrival_of (after (timer_seen row.now.about pass.old.knows timer) (Start asked.now)) [] asked.now.base }
     ensures logged { IsLogged S.pushed row.now.about timer pass.old.knows.seen
         (entry_by (timer_seen row.now.about pass.old.knows timer) (Start asked.now) ∷ []) sink.old sink.new }
+    ensures locks { LocksGoOnIn pass.old.knows pass.new.knows }
     ensures room { S.room sink.old ≤ S.room sink.new + 1 }
 {
     pass.known();

@@ -8,7 +8,7 @@ ghost use Rattle.seq_timer.specs.Calls.{asked_for};
 ghost use Rattle.base_row.specs.Calls.{opening_of};
 ghost use Rattle.base_row.specs.Plays.{greater};
 ghost use Rattle.pass_names.specs.SharedHistory.{MeetWith, TakesIn, child_known, first_known, splitter_known};
-ghost use Rattle.hr_timers.specs.Known.{HasEachPlace, HasEachShift, IsPassOf, OwnsClaim};
+ghost use Rattle.hr_timers.specs.Known.{HasEachPlace, HasEachShift, IsPassOf, LocksGoOn, OwnsClaim};
 ghost use Rattle.hr_timers.specs.Calls.{Cancels, ClaimFits, Finishes, Forwards, NowFits, Peeks, StartsTimer};
 ghost use Rattle.hr_timers.specs.declared.answer.NowAnswer.TheVariants as nows;
 
@@ -98,6 +98,7 @@ impl Timers {
         requires base { base < self.now.about.bases }
         ensures pass { IsPassOf self.now pass.new }
         ensures starts { StartsTimer self.now.about pass.old.known pass.new.known timer (asked_for mode ns 0 base reading) result }
+        ensures locks { LocksGoOn pass.old pass.new }
     {
         self.start_range(rt, pass, timer, mode, ns, 0, base, reading)
     }
@@ -120,6 +121,7 @@ impl Timers {
         requires base { base < self.now.about.bases }
         ensures pass { IsPassOf self.now pass.new }
         ensures starts { StartsTimer self.now.about pass.old.known pass.new.known timer (asked_for mode ns slack base reading) result }
+        ensures locks { LocksGoOn pass.old pass.new }
     {
         let asked = Asked {
             mode,
@@ -138,6 +140,7 @@ impl Timers {
         requires timer { timer < length self.now.about.timers }
         ensures pass { IsPassOf self.now pass.new }
         ensures cancels { Cancels self.now.about pass.old.known pass.new.known timer result }
+        ensures locks { LocksGoOn pass.old pass.new }
     {
         self.try_to_cancel_logged(rt, pass, &mut Unlogged, timer)
     }
@@ -149,6 +152,7 @@ impl Timers {
         requires timer { timer < length self.now.about.timers }
         ensures pass { IsPassOf self.now pass.new }
         ensures cancels { NowFits self.now.about pass.old pass.new timer result }
+        ensures locks { LocksGoOn pass.old pass.new }
         ensures alone { IsLast pass.old.known.id → (b : ℕ) → result ≡ nows.Contended b → 2 ^ 64 - 2 ≤ slice_index pass.new.met b }
         ensures moving { IsLast pass.old.known.id → (b : ℕ) → result ≡ nows.Moving b → ⊥ }
         ensures moved { IsLast pass.old.known.id → (a b : ℕ) → result ≡ nows.Moved a b → ⊥ }
@@ -170,6 +174,7 @@ impl Timers {
         requires base { base < self.now.about.bases }
         ensures pass { IsPassOf self.now pass.new }
         ensures claims { ClaimFits self.now.about pass.old.known pass.new.known contexts.Hard base reading result }
+        ensures locks { LocksGoOn pass.old pass.new }
     {
         self.claim_in(rt, pass, Context::Hard, base, reading)
     }
@@ -186,6 +191,7 @@ impl Timers {
         requires base { base < self.now.about.bases }
         ensures pass { IsPassOf self.now pass.new }
         ensures claims { ClaimFits self.now.about pass.old.known pass.new.known contexts.Soft base reading result }
+        ensures locks { LocksGoOn pass.old pass.new }
     {
         self.claim_in(rt, pass, Context::Soft, base, reading)
     }
@@ -203,6 +209,7 @@ impl Timers {
         requires base { base < self.now.about.bases }
         ensures pass { IsPassOf self.now pass.new }
         ensures claims { ClaimFits self.now.about pass.old.known pass.new.known context base reading result }
+        ensures locks { LocksGoOn pass.old pass.new }
     {
         self.claim_in_logged(rt, pass, &mut Unlogged, context, base, reading)
     }
@@ -220,6 +227,7 @@ impl Timers {
         requires claim { OwnsClaim self.now.about pass.old.known claim.now }
         ensures pass { IsPassOf self.now pass.new }
         ensures forwards { Forwards self.now.about pass.old.known pass.new.known claim.now reading interval result }
+        ensures locks { LocksGoOn pass.old pass.new }
     {
         self.forward_logged(rt, pass, &mut Unlogged, claim, reading, interval)
     }
@@ -230,6 +238,7 @@ impl Timers {
         requires claim { OwnsClaim self.now.about pass.old.known claim }
         ensures pass { IsPassOf self.now pass.new }
         ensures finishes { Finishes self.now.about pass.old.known pass.new.known claim restart result }
+        ensures locks { LocksGoOn pass.old pass.new }
     {
         self.finish_logged(rt, pass, &mut Unlogged, claim, restart)
     }

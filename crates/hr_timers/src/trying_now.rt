@@ -1,7 +1,7 @@
 //! Cancelling a timer at one try that waits for nobody.
 ghost use Rattle.std.specs.Prelude.{◌≡◌, ◌≤◌, ◌<◌, ◌^◌, ◌-◌, ℕ, length, slice_index};
 ghost use Rattle.pass_names.specs.Names.{IsLast};
-ghost use Rattle.hr_timers.specs.Known.{HoldsBase, IsAtRest, pass_of};
+ghost use Rattle.hr_timers.specs.Known.{HoldsBase, IsAtRest, LocksGoOnIn, pass_of};
 ghost use Rattle.hr_timers.specs.Calls.{NowFits, HeldFits};
 ghost use Rattle.hr_timers.specs.declared.answer.NowAnswer.TheVariants as nows;
 
@@ -18,6 +18,7 @@ pub fn cancel_now(row: &BaseRow, pass: &mut Pass, timer: u32) -> NowAnswer
     ensures rest { IsAtRest row.now pass.new }
     ensures cancels { NowFits row.now.about (pass_of pass.old) (pass_of pass.new) timer result }
     ensures alone { IsLast pass.old.knows.id → (b : ℕ) → result ≡ nows.Contended b → 2 ^ 64 - 2 ≤ slice_index pass.new.knows.met b }
+    ensures locks { LocksGoOnIn pass.old.knows pass.new.knows }
 {
     let word = row.load_word(pass, timer);
     if word.moving {
@@ -45,6 +46,7 @@ fn cancel_held_now(
     requires base { held.base ≡ base }
     ensures rest { IsAtRest row.now pass.new }
     ensures cancels { HeldFits row.now.about (pass_of pass.old) (pass_of pass.new) timer base result }
+    ensures locks { LocksGoOnIn pass.old.knows pass.new.knows }
 {
     let word = row.load_word(pass, timer);
     if word.base != base {

@@ -9,8 +9,8 @@ ghost use Rattle.seq_timer.specs.Contents.{running_in};
 ghost use Rattle.seq_timer.specs.Steps.{after, reply_to};
 ghost use Rattle.seq_timer.specs.Systems.{IsOn, entries_of, next_on};
 ghost use Rattle.base_row.specs.Plays.{Steady, claims_with_event};
-ghost use Rattle.base_row.specs.Calls.{base_seen, IsBasePassOf, MayAppend, known_of, timer_seen};
-ghost use Rattle.hr_timers.specs.Known.{AddsBehind, HoldsBase, HoldsTimer, IsAtRest, Looks};
+ghost use Rattle.base_row.specs.Calls.{base_seen, IsBasePassOf, LetsGo, MayAppend, known_of, timer_seen};
+ghost use Rattle.hr_timers.specs.Known.{AddsBehind, HoldsBase, HoldsTimer, IsAtRest, LocksGoOnIn, Looks};
 ghost use Rattle.hr_timers.specs.Calls.{SawMove, entry_by};
 ghost use Rattle.hr_timers.specs.Logged.{IsLogged};
 ghost use Rattle.hr_timers.specs.Moves.{KeepsBases};
@@ -105,14 +105,28 @@ pub fn enter_once<S: ReceiptSink>(
     ensures claims { pass.new.knows.claims ≡ claims_with_event timer (timer_seen row.now.about pass.old.knows timer) event.now pass.old.knows.claims }
     ensures reply { result ≡ reply_to (timer_seen row.now.about pass.old.knows timer) event.now }
     ensures adds { AddsBehind pass.old.knows pass.new.knows timer (entry_by (timer_seen row.now.about pass.old.knows timer) event.now ∷ []) }
+    ensures locks { LocksGoOnIn pass.old.knows pass.new.knows }
     ensures logged { IsLogged S.pushed row.now.about timer pass.old.knows.seen (entry_by (timer_seen row.now.about pass.old.knows timer) event.now ∷ []) sink.old sink.new }
     ensures room { S.room sink.old ≤ S.room sink.new + 1 }
 {
     row.fresh();
     let mut held = held;
     let reply = row.append_logged(pass, sink, &mut held, timer, event);
-    row.unlock_base(pass, held);
+    unlock_base(row, pass, held);
     reply
+}
+
+/// Lets a base go.
+pub fn unlock_base(row: &BaseRow, pass: &mut Pass, held: HeldBase)
+    requires row { IsBasePassOf row.now pass.old }
+    requires within { held.base < row.now.about.bases }
+    requires held { pass.old.knows.held ≡ Some held }
+    ensures row { IsBasePassOf row.now pass.new }
+    ensures free { LetsGo row.now.about held pass.old.knows pass.new.knows }
+    ensures locks { LocksGoOnIn pass.old.knows pass.new.knows }
+{
+    pass.known();
+    row.unlock_base(pass, held);
 }
 
 /// Lets a base go, of which one timer was looked at.
@@ -123,7 +137,7 @@ pub fn leave(row: &BaseRow, pass: &mut Pass, held: HeldBase, timer: u32)
     ensures looks { Looks pass.old.knows pass.new.knows }
     ensures own { IsOn held.base (timer_seen row.now.about pass.old.knows timer) → entries_of timer pass.new.knows.seen ≡ entries_of timer pass.old.knows.seen }
 {
-    row.unlock_base(pass, held);
+    unlock_base(row, pass, held);
 }
 
 /// Lets a base go. What it has then is what was held.
@@ -142,6 +156,6 @@ pub fn leave_base(row: &BaseRow, pass: &mut Pass, held: HeldBase, base: u32)
         → (clock : ClockId) → IsStopped (in_context x (timer_seen row.now.about pass.new.knows)) base reading clock }
 {
     row.fresh();
-    row.unlock_base(pass, held);
+    unlock_base(row, pass, held);
     pass.known();
 }
