@@ -98,7 +98,7 @@ pub record MadeAt (v w : KnownOfTimers) (t : ℕ) (x : List SystemEntry) (es : L
   pub mine : w.mine ≡ v.mine ++ places t (length (entries_of t x)) es
   pub id : w.id ≡ v.id
 
--- these takes of base locks, and those behind them; and of each base no older lock word
+-- takes of base locks go on with others behind them, and no base's lock word is older
 pub record LocksGoOnFrom (before after : List (ℕ × ℕ)) (knew knows : List ℕ) : Type 0 where
   pub takes : Begins before after
   pub met : (b : ℕ) → slice_index knew b ≤ slice_index knows b

@@ -49,7 +49,7 @@ pub fn no_answer_is_far_past_the_limit()
 {}
 
 /// What a pass has of base locks goes on over calls one behind the other (`next`). A `peek` and a `split` leave it as it is (`stays`); a pass
-/// that meets another or takes it in is told its words (`meets`, `retires`).
+/// that meets another or takes it in gets the newer of both words of each lock (`meets`, `retires`).
 pub fn locks_go_on_over_calls()
     ensures stays { (p q : PassOf) → q.takes ≡ p.takes → q.met ≡ p.met → LocksGoOn p q }
     ensures next { (p q r : PassOf) → LocksGoOn p q → LocksGoOn q r → LocksGoOn p r }

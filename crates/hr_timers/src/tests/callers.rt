@@ -1,7 +1,7 @@
 //! Claims as the tests make them: by a pass that has no other claim.
 ghost use Rattle.std.specs.Prelude.{◌≡◌, ◌<◌, length, [], ◌∷◌, IfOk, MatchOption};
 ghost use Rattle.pass_names.specs.Names.{IsLast, after_split, child_of, first_pass_id};
-ghost use Rattle.hr_timers.specs.Known.{IsPassOf, claimed_as};
+ghost use Rattle.hr_timers.specs.Known.{IsPassOf, LocksGoOn, claimed_as};
 
 use super::two_timers;
 use crate::{Claim, ClaimAnswer, Pass, Timers};
@@ -67,6 +67,7 @@ pub fn finish<R: Wait>(
     ensures pass { IsPassOf timers.now pass.new }
     ensures id { pass.new.known.id ≡ pass.old.known.id }
     ensures unclaimed { pass.new.known.claims ≡ [] }
+    ensures locks { LocksGoOn pass.old pass.new }
 {
     timers.finish(rt, pass, claim, restart)
 }
@@ -106,6 +107,7 @@ pub fn run<R: Wait>(rt: &R, timers: &Timers, pass: &mut Pass, base: u32, reading
     ensures pass { IsPassOf timers.now pass.new }
     ensures id { pass.new.known.id ≡ pass.old.known.id }
     ensures unclaimed { pass.new.known.claims ≡ [] }
+    ensures locks { LocksGoOn pass.old pass.new }
 {
     match timers.claim_next(rt, pass, base, reading) {
         ClaimAnswer::Claimed(claim) => {

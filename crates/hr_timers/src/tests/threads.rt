@@ -1,7 +1,7 @@
 //! Two threads that start, cancel and run the same timers over two bases.
 ghost use Rattle.std.specs.Prelude.{◌≡◌, ◌≤◌, ◌<◌, [], length};
 ghost use Rattle.pass_names.specs.Names.{IsLast, first_pass_id};
-ghost use Rattle.hr_timers.specs.Known.{IsPassOf};
+ghost use Rattle.hr_timers.specs.Known.{IsPassOf, LocksGoOn};
 
 use super::callers::{Found, retire, run};
 use super::two_timers;
@@ -19,6 +19,7 @@ fn start<R: Wait>(rt: &R, timers: &Timers, pass: &mut Pass, timer: u32, base: u3
     ensures pass { IsPassOf timers.now pass.new }
     ensures same { (pass.new.known.claims ≡ pass.old.known.claims) × (pass.new.known.id ≡ pass.old.known.id) }
     ensures few { result ≤ 2 }
+    ensures locks { LocksGoOn pass.old pass.new }
 {
     match timers.start(rt, pass, timer, Mode::Abs, 500, base, Reading::at(1000)) {
         StartAnswer::Started { outs: 0, .. } => 1,
@@ -35,6 +36,7 @@ fn turn<R: Wait>(rt: &R, timers: &Timers, pass: &mut Pass, number: u32) -> u64
     ensures pass { IsPassOf timers.now pass.new }
     ensures same { (pass.new.known.claims ≡ []) × (pass.new.known.id ≡ pass.old.known.id) }
     ensures few { result ≤ 2 }
+    ensures locks { LocksGoOn pass.old pass.new }
 {
     match number % 5 {
         0 => match timers.try_to_cancel(rt, pass, number % 2) {
@@ -58,6 +60,7 @@ fn turns<R: Wait>(rt: &R, timers: &Timers, pass: &mut Pass, first: u32) -> u64
     ensures pass { IsPassOf timers.now pass.new }
     ensures same { (pass.new.known.claims ≡ []) × (pass.new.known.id ≡ pass.old.known.id) }
     ensures few { result ≤ 2000 }
+    ensures locks { LocksGoOn pass.old pass.new }
 {
     let mut made = 0;
     for number in 0..1000u32 {
