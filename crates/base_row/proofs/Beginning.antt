@@ -14,6 +14,7 @@ use Rattle.pass_names.proofs.Passes.{begins_refl}
 use Rattle.seq_timer.specs.Steps.{Timer}
 use Rattle.seq_timer.specs.Tables.{timer_at}
 use Rattle.base_row.specs.declared.view.HeldContent.{HeldContent}
+use Rattle.base_row.specs.declared.view.Opening.{Opening}
 use Rattle.base_row.specs.declared.view.BaseView.{BaseView}
 use Rattle.seq_timer.specs.Systems.{BaseContent, no_base}
 use Rattle.seq_timer.specs.Standings.{first_standing}
@@ -44,22 +45,22 @@ fresh_standing : standing_number first_standing ≡ 0
 unfolding standing_number
 fresh_standing = refl
 
-module _ (bases : ℕ) (opened : List Timer) (fresh : AreFresh opened) where
+module _ (o : Opening) (fresh : AreFresh o.timers) where
   abbrev first : BaseView BaseContent
-  first = first_base_view (record { bases = bases; timers = opened })
+  first = first_base_view o
 
   abbrev start : State (Option BaseContent) (BaseView BaseContent)
-  start = opening (replicate (word_at bases (length opened + bases)) 0) (replicate bases (Some (no_base opened))) first
+  start = opening (replicate (word_at o.bases (length o.timers + o.bases)) 0) (replicate o.bases (Some (no_base o.timers))) first
 
-  fits_first : PassHolds bases opened number_of [] start.words first
+  fits_first : PassHolds o [] start.words first
   fits_first = record {
     seen = begins_refl [];
     heard = begins_refl [];
     held = λ h e. absurd (no_lock h e);
     carry = λ t e. absurd (no_timer t e);
-    wide = omega (arith, length-replicate {A = ℕ} bases 0);
-    full = λ live. length-replicate {A = ℕ} bases 0;
-    met = λ b h. omega (arith, met_zero bases b);
+    wide = omega (arith, length-replicate {A = ℕ} o.bases 0);
+    full = λ live. length-replicate {A = ℕ} o.bases 0;
+    met = λ b h. omega (arith, met_zero o.bases b);
     takes = λ b k some_one. absurd (omega arith);
     first = λ live name b. refl;
     gone = λ off. (refl, (refl, (refl, refl)));
@@ -71,21 +72,21 @@ module _ (bases : ℕ) (opened : List Timer) (fresh : AreFresh opened) where
       no_timer : (t : ℕ) → None ≡ Some t → ⊥
       no_timer t e = cc
 
-  begins_home : RowHolds bases opened number_of [] start
+  begins_home : RowHolds o [] start
   begins_home = record {
     allowed = tt;
-    words_len = length-replicate {A = ℕ} (word_at bases (length opened + bases)) 0;
-    homes_len = length-map (replicate bases (Some (no_base opened))) some ∙ length-replicate bases (Some (no_base opened));
+    words_len = length-replicate {A = ℕ} (word_at o.bases (length o.timers + o.bases)) 0;
+    homes_len = length-map (replicate o.bases (Some (no_base o.timers))) some ∙ length-replicate o.bases (Some (no_base o.timers));
     each_base = λ b h. record {
       taken = 0;
-      number = omega (arith, met_zero (word_at bases (length opened + bases)) (lock_at b));
+      number = omega (arith, met_zero (word_at o.bases (length o.timers + o.bases)) (lock_at b));
       once = omega arith;
-      free = λ z. slot_at bases b (Some (no_base opened)) h;
+      free = λ z. slot_at o.bases b (Some (no_base o.timers)) h;
       out = λ z. absurd (omega arith);
       each = λ k. sym (none_within k);
     };
-    each_timer = λ t h. met_zero (word_at bases (length opened + bases)) (word_at bases t) ∙ sym (fresh_word (timer_at opened t) (fresh.each t));
-    each_standing = λ b h. met_zero (word_at bases (length opened + bases)) (word_at bases (length opened + b)) ∙ sym fresh_standing;
+    each_timer = λ t h. met_zero (word_at o.bases (length o.timers + o.bases)) (word_at o.bases t) ∙ sym (fresh_word (timer_at o.timers t) (fresh.each t));
+    each_standing = λ b h. met_zero (word_at o.bases (length o.timers + o.bases)) (word_at o.bases (length o.timers + b)) ∙ sym fresh_standing;
     shifts = λ b k h. sym (none_within k);
     each_view = λ j v e. here j v e;
     tree = first_tree;
@@ -94,18 +95,18 @@ module _ (bases : ℕ) (opened : List Timer) (fresh : AreFresh opened) where
     carriers = λ t h. sym (ap one_if (fresh.each t).still);
   }
     where
-      here : (j : ℕ) (v : BaseView BaseContent) → get_elem? (first ∷ []) j ≡ some v → PassHolds bases opened number_of [] start.words v
-      here zero v e = subst (λ w. PassHolds bases opened number_of [] start.words w) (some-injective first v e) fits_first
+      here : (j : ℕ) (v : BaseView BaseContent) → get_elem? (first ∷ []) j ≡ some v → PassHolds o [] start.words v
+      here zero v e = subst (λ w. PassHolds o [] start.words w) (some-injective first v e) fits_first
       here (suc j) v e = absurd (some-ne-none v (sym e))
 
-      idle : (t g b : ℕ) → one_if (runs g b (timer_at opened t)) ≡ 0
+      idle : (t g b : ℕ) → one_if (runs g b (timer_at o.timers t)) ≡ 0
       idle t g b = grind (arith, (fresh.each t).running)
 
-  pub begins : (words : List ℕ) (slots : List (Option BaseContent)) → words ≡ replicate (word_at bases (length opened + bases)) 0
-      → slots ≡ replicate bases (Some (no_base opened)) → HasOneHistory bases opened number_of (opening words slots first)
+  pub begins : (words : List ℕ) (slots : List (Option BaseContent)) → words ≡ replicate (word_at o.bases (length o.timers + o.bases)) 0
+      → slots ≡ replicate o.bases (Some (no_base o.timers)) → HasOneHistory o (opening words slots first)
   begins words slots is_words is_slots =
-      subst (λ ws. HasOneHistory bases opened number_of (opening ws slots first)) (sym is_words)
-      (subst (λ ss. HasOneHistory bases opened number_of (opening (replicate (word_at bases (length opened + bases)) 0) ss first)) (sym is_slots) ([], begins_home))
+      subst (λ ws. HasOneHistory o (opening ws slots first)) (sym is_words)
+      (subst (λ ss. HasOneHistory o (opening (replicate (word_at o.bases (length o.timers + o.bases)) 0) ss first)) (sym is_slots) ([], begins_home))
 
-  pub knows_first : KnowsBases bases opened number_of first
-  knows_first = knows_of bases opened number_of [] start begins_home 0 first refl refl refl
+  pub knows_first : KnowsBases o first
+  knows_first = knows_of o [] start begins_home 0 first refl refl refl

@@ -22,10 +22,10 @@ use Rattle.base_row.specs.declared.view.Claimed.{Claimed}
 use Rattle.base_row.specs.declared.view.HeldContent.{HeldContent}
 use Rattle.base_row.specs.declared.view.Opening.{Opening}
 use Rattle.base_row.specs.declared.view.BaseView.{BaseView}
-use Rattle.base_row.specs.Rules.{now, number_of, takes_at}
+use Rattle.base_row.specs.Rules.{takes_at, base_seen, timer_seen}
 use Rattle.base_row.specs.Plays.{SeatState, GotBase, KnowsOwn, Lost, carried_slots}
 use Rattle.base_row.specs.Calls.{Absorbs, Appended, AreFresh, LearnsFrom, LetsGo, GetsBase, MayAppend}
-use Rattle.base_row.specs.Calls.{MissesBase, SeesFurther, Waits, entry_in, known_of, own_entry, timer_seen}
+use Rattle.base_row.specs.Calls.{MissesBase, SeesFurther, Waits, entry_in, known_of, own_entry}
 use Rattle.base_row.proofs.Stable.{steady_trans}
 
 -- ---- takes
@@ -211,7 +211,7 @@ seen_same o v w t own = after_entries-entries_of (first_system o.timers) t w.see
 
 -- a timer on the move may be started by who carries it, on the base that it was sent to
 pub may_start : (o : Opening) (v : BaseView BaseContent) (h : HeldContent BaseContent) (t : ℕ) (asked : Asked)
-    → h.content.standing.heir ≡ None → h.content ≡ (now o.bases o.timers number_of v.seen).bases h.base → t < length o.timers
+    → h.content.standing.heir ≡ None → h.content ≡ base_seen o v h.base → t < length o.timers
     → v.held ≡ Some h → v.carry ≡ Some t → (timer_seen o v t).moving ≡ true
     → asked.base ≡ (timer_seen o v t).base → (timer_seen o v t).base ≡ h.base
     → MayAppend o v h t (Start asked)
@@ -224,7 +224,7 @@ may_start o v h t asked online whole inside held carry moves here there = record
       reply = refl;
       base = record {
         needs = tt;
-        online = subst (λ q. ((now o.bases o.timers number_of v.seen).bases q).standing.heir ≡ None) (sym there)
+        online = subst (λ q. (base_seen o v q).standing.heir ≡ None) (sym there)
             (subst (λ (x : BaseContent). x.standing.heir ≡ None) whole online);
       };
     };

@@ -7,10 +7,10 @@ use Rattle.base_row.proofs.Stable.{steady_trans}
 use Rattle.base_row.specs.declared.view.HeldContent.{HeldContent}
 use Rattle.base_row.specs.declared.view.Opening.{Opening}
 use Rattle.seq_timer.specs.Systems.{BaseContent}
-use Rattle.base_row.specs.Rules.{number_of, takes_at}
+use Rattle.base_row.specs.Rules.{takes_at}
 use Rattle.base_row.specs.Plays.{SameElsewhere, SeatState, Met, GotBase, Lost, carried_slots}
 
-module _ (o : Opening) (b : ℕ) (me mid : SeatState) (found : ℕ) (met : Met o.bases o.timers number_of b me found mid) where
+module _ (o : Opening) (b : ℕ) (me mid : SeatState) (found : ℕ) (met : Met o b me found mid) where
   mid_met : mid.0.met ≡ set me.0.met b found
   mid_met = ap (λ (m : SeatState). m.0.met) met.rest
 

@@ -20,11 +20,11 @@ use Rattle.base_row.specs.declared.view.Opening.{Opening}
 use Rattle.base_row.specs.declared.view.BaseView.{BaseView}
 use Rattle.seq_timer.specs.Events.{Event}
 use Rattle.base_row.proofs.Events.{go_along}
-use Rattle.seq_timer.specs.Systems.{BaseContent, System, first_system, after_entry, changed, IsSystemStep, FitsBase}
+use Rattle.seq_timer.specs.Systems.{BaseContent, System, first_system, after_entry, changed, IsSystemStep, FitsBase, system_after}
 use Rattle.seq_timer.specs.declared.system.SystemEntry.TheVariants as entries
-use Rattle.base_row.specs.Rules.{base_place, held_in, places_at, base_claims_at, holds_at, carries_at, runs, now, HeldHolds, PassHolds, RowHolds, HasOneHistory, number_of}
+use Rattle.base_row.specs.Rules.{base_place, held_in, places_at, base_claims_at, holds_at, carries_at, runs, HeldHolds, PassHolds, RowHolds, HasOneHistory, number_of, timer_seen}
 use Rattle.base_row.specs.Plays.{SeatState, having_entered, GoAlong, MayEnter, EnteredTimer, OwnNeeds}
-use Rattle.base_row.specs.Plays.{EntersAs, EntersBy, entry_of_event, seen_timer, claims_with_event, carry_after}
+use Rattle.base_row.specs.Plays.{EntersAs, EntersBy, entry_of_event, claims_with_event, carry_after}
 use Rattle.seq_timer.proofs.Systems.{after_entries-append, base_here, timer_here, timer_else}
 use Rattle.seq_timer.proofs.Limits.{stamp-after}
 use Rattle.base_row.proofs.Begun.{same_own}
@@ -32,33 +32,33 @@ use Rattle.base_row.proofs.Frames.{some_same, holds_one, carries_one, entered}
 use Rattle.base_row.proofs.Stable.{stable}
 use Rattle.base_row.proofs.Knowing.{knows_of}
 
-module _ (bases : ℕ) (opened : List Timer) (code : Timer → ℕ) (id : ℕ) (v : BaseView BaseContent) (h : HeldContent BaseContent) (e : TimerEntry)
+module _ (o : Opening) (id : ℕ) (v : BaseView BaseContent) (h : HeldContent BaseContent) (e : TimerEntry)
     (claims : List Claimed) (carry : Option ℕ)
-    (live : v.id.live ≡ true) (may : MayEnter bases opened code v h e) where
+    (live : v.id.live ≡ true) (may : MayEnter o v h e) where
   abbrev n : ℕ
-  n = length opened
+  n = length o.timers
 
   abbrev seen : System
-  seen = now bases opened code v.seen
+  seen = system_after o.timers v.seen
 
   abbrev t : Timer
   t = seen.timers e.timer
 
-  module _ (log : List SystemEntry) (s : State (Option BaseContent) (BaseView BaseContent)) (home : RowHolds bases opened code log s)
+  module _ (log : List SystemEntry) (s : State (Option BaseContent) (BaseView BaseContent)) (home : RowHolds o log s)
       (at : get_elem? s.views id ≡ some v) (along : GoAlong t e v claims carry) where
     abbrev w : System
-    w = now bases opened code log
+    w = system_after o.timers log
 
     abbrev w' : System
-    w' = now bases opened code (log ++ entries.Timer e ∷ [])
+    w' = system_after o.timers (log ++ entries.Timer e ∷ [])
 
     abbrev v' : BaseView BaseContent
     v' = having_entered log e t h claims carry v
 
-    fits : PassHolds bases opened code log s.words v
+    fits : PassHolds o log s.words v
     fits = home.each_view id v at
 
-    holds : HeldHolds bases opened code log s.words v h
+    holds : HeldHolds o log s.words v h
     holds = fits.held h may.held
 
     same_base : w.bases h.base ≡ seen.bases h.base
@@ -66,24 +66,24 @@ module _ (bases : ℕ) (opened : List Timer) (code : Timer → ℕ) (id : ℕ) (
 
     -- the timer is as the pass has seen it: it is on the base that the pass holds, or the pass carries it
     pub same_timer : w.timers e.timer ≡ t
-    same_timer = stable bases opened code log s home v fits h may.held e.timer may.allowed.within
+    same_timer = stable o log s home v fits h may.held e.timer may.allowed.within
         (⊎_elim (λ moves. inr (may.carries moves)) (λ still. inl (record { at = may.base; still = still })) (cases_Bool t.moving))
 
     here : (w.timers e.timer).base ≡ h.base
     here = ap (λ (x : Timer). x.base) same_timer ∙ may.base
 
-    ok : IsSystemStep bases n w e
+    ok : IsSystemStep o.bases n w e
     ok = record {
       within = may.allowed.within;
       needs = subst (λ x. Needs x e.event) (sym same_timer) may.allowed.needs;
       reply = may.allowed.reply ∙ ap (λ x. reply_to x e.event) (sym same_timer);
-      base = subst (λ x. FitsBase bases (w.bases (w.timers e.timer).base) e.timer x e.event) (sym same_timer)
-          (subst (λ (x : BaseContent). FitsBase bases x e.timer t e.event) (ap (λ q. seen.bases q) may.base
+      base = subst (λ x. FitsBase o.bases (w.bases (w.timers e.timer).base) e.timer x e.event) (sym same_timer)
+          (subst (λ (x : BaseContent). FitsBase o.bases x e.timer t e.event) (ap (λ q. seen.bases q) may.base
           ∙ (sym same_base ∙ ap (λ q. w.bases q) (sym here))) may.allowed.base);
     }
 
     followed : w' ≡ after_entry w e
-    followed = after_entries-append (first_system opened) log (entries.Timer e ∷ [])
+    followed = after_entries-append (first_system o.timers) log (entries.Timer e ∷ [])
 
     new_timer : w'.timers e.timer ≡ after t e.event
     new_timer = ap (λ (x : System). x.timers e.timer) followed ∙ (timer_here w e ∙ ap (λ x. after x e.event) same_timer)
@@ -100,20 +100,20 @@ module _ (bases : ℕ) (opened : List Timer) (code : Timer → ℕ) (id : ℕ) (
         (subst (λ x. changed e.timer x e.event (w.bases (w.timers e.timer).base) ≡ w'.bases (w.timers e.timer).base) same_timer put))
 
     abbrev new_words : List ℕ
-    new_words = set s.words (word_at bases e.timer) (code (w'.timers e.timer))
+    new_words = set s.words (word_at o.bases e.timer) (number_of (w'.timers e.timer))
 
-    lock_same : (b : ℕ) → b < bases → slice_index new_words (lock_at b) ≡ slice_index s.words (lock_at b)
-    lock_same b inside = get_or-set_other s.words (word_at bases e.timer) (lock_at b) (code (w'.timers e.timer)) 0 (λ q. omega arith)
+    lock_same : (b : ℕ) → b < o.bases → slice_index new_words (lock_at b) ≡ slice_index s.words (lock_at b)
+    lock_same b inside = get_or-set_other s.words (word_at o.bases e.timer) (lock_at b) (number_of (w'.timers e.timer)) 0 (λ q. omega arith)
 
     holds_same : (b : ℕ) → holds_at b v' ≡ holds_at b v
     holds_same b = ap (held_in b) (sym may.held)
 
-    fits' : PassHolds bases opened code (log ++ entries.Timer e ∷ []) new_words v'
+    fits' : PassHolds o (log ++ entries.Timer e ∷ []) new_words v'
     fits' = record {
       seen = begins_refl (log ++ entries.Timer e ∷ []);
       heard = begins_nil (log ++ entries.Timer e ∷ []);
       held = λ g q. let r : record { base = h.base; word = h.word; content = changed e.timer t e.event h.content } ≡ g = cc in subst
-          (λ x. HeldHolds bases opened code (log ++ entries.Timer e ∷ []) new_words v' x) r
+          (λ x. HeldHolds o (log ++ entries.Timer e ∷ []) new_words v' x) r
           (record { within = holds.within; seen = new_base; whole = new_base; word = lock_same h.base holds.within ∙ holds.word; number = holds.number });
       carry = λ k q. refl;
       wide = fits.wide;
@@ -172,20 +172,20 @@ module _ (bases : ℕ) (opened : List Timer) (code : Timer → ℕ) (id : ℕ) (
         (λ apart. omega (arith, along.carry_else k apart, ap (λ (x : Timer). one_if x.moving) (timers_else k apart)))
         (cases_eq k e.timer)
 
-    pub enters_home : RowHolds bases opened code (log ++ entries.Timer e ∷ []) record {
-      words = slice_set s.words (word_at bases e.timer)
-          (code (after t e.event));
+    pub enters_home : RowHolds o (log ++ entries.Timer e ∷ []) record {
+      words = slice_set s.words (word_at o.bases e.timer)
+          (number_of (after t e.event));
       homes = s.homes;
       views = slice_set s.views id v';
     }
     enters_home =
-        subst (λ x. RowHolds bases opened code (log ++ entries.Timer e ∷ []) record {
-          words = slice_set s.words (word_at bases e.timer)
-              (code x);
+        subst (λ x. RowHolds o (log ++ entries.Timer e ∷ []) record {
+          words = slice_set s.words (word_at o.bases e.timer)
+              (number_of x);
           homes = s.homes;
           views = slice_set s.views id v';
         }) new_timer
-        (entered bases opened code log s home id v v' e at ok
+        (entered o log s home id v v' e at ok
         (ap (λ q. holds_at q v) here ∙ holds_one v h may.held)
         (λ moves. carries_one v e.timer (may.carries (ap (λ (x : Timer). x.moving) (sym same_timer) ∙ moves)))
         fits' (record { holds = holds_same; takes = λ b k. refl }) refl
@@ -193,8 +193,8 @@ module _ (bases : ℕ) (opened : List Timer) (code : Timer → ℕ) (id : ℕ) (
 
   -- the store of the timer's new word adds the entry
   pub enters : (slots : ℕ) (slot : List (ℕ × Option BaseContent)) → GoAlong t e v claims carry
-      → Allows (HasOneHistory bases opened code) slots id (v, slot) (word_at bases e.timer) (λ _. code (after t e.event))
-      (λ _. EnteredTimer bases opened code h e claims carry (v, slot))
+      → Allows (HasOneHistory o) slots id (v, slot) (word_at o.bases e.timer) (λ _. number_of (after t e.event))
+      (λ _. EnteredTimer o h e claims carry (v, slot))
   enters slots slot along s (log, home) many at small =
       let v' : BaseView BaseContent = having_entered log e t h claims carry v in
       let next = enters_home log s home at along in (
@@ -206,11 +206,11 @@ module _ (bases : ℕ) (opened : List Timer) (code : Timer → ℕ) (id : ℕ) (
           before = log;
           seen = (home.each_view id v at).seen;
           shifts = λ name b. sym ((home.each_view id v at).first live name b);
-          own = same_own (first_system opened) e.timer v.seen log (home.each_view id v at).seen (same_timer log s home at along);
+          own = same_own (first_system o.timers) e.timer v.seen log (home.each_view id v at).seen (same_timer log s home at along);
           rest = refl;
-          knows = knows_of bases opened code (log ++ entries.Timer e ∷ []) record {
-            words = slice_set s.words (word_at bases e.timer)
-                (code (after t e.event));
+          knows = knows_of o (log ++ entries.Timer e ∷ []) record {
+            words = slice_set s.words (word_at o.bases e.timer)
+                (number_of (after t e.event));
             homes = s.homes;
             views = slice_set s.views id v';
           } next id v' (set_there s.views id v v' at) live refl;
@@ -218,32 +218,32 @@ module _ (bases : ℕ) (opened : List Timer) (code : Timer → ℕ) (id : ℕ) (
       )
 
 -- the same as it is told to a seat whose event was picked
-pub enters_by : (bases : ℕ) (opened : List Timer) (id : ℕ) (v : BaseView BaseContent) (h : HeldContent BaseContent) (timer : ℕ)
-    (event asked : Event) → v.opening ≡ record { bases = bases; timers = opened } → asked ≡ event → v.id.live ≡ true
-    → MayEnter bases opened number_of v h (entry_of_event bases opened number_of v timer event)
-    → OwnNeeds v timer (seen_timer bases opened number_of v timer) event
-    → (slots : ℕ) (slot : List (ℕ × Option BaseContent)) (word stamp : ℕ) → word ≡ word_at bases timer
-    → stamp ≡ number_of (after (seen_timer bases opened number_of v timer) event)
-    → Allows (HasOneHistory bases opened number_of) slots id (v, slot) word (λ _. stamp) (λ _. EntersBy asked (step slots word stamp 0 none) (v, slot))
-enters_by bases opened id v h timer event asked opening picked live may own slots slot word stamp word_is stamp_is s kept many at small =
-    let t = seen_timer bases opened number_of v timer in
-    let e = entry_of_event bases opened number_of v timer event in
+pub enters_by : (o : Opening) (id : ℕ) (v : BaseView BaseContent) (h : HeldContent BaseContent) (timer : ℕ)
+    (event asked : Event) → v.opening ≡ o → asked ≡ event → v.id.live ≡ true
+    → MayEnter o v h (entry_of_event o v timer event)
+    → OwnNeeds v timer (timer_seen o v timer) event
+    → (slots : ℕ) (slot : List (ℕ × Option BaseContent)) (word stamp : ℕ) → word ≡ word_at o.bases timer
+    → stamp ≡ number_of (after (timer_seen o v timer) event)
+    → Allows (HasOneHistory o) slots id (v, slot) word (λ _. stamp) (λ _. EntersBy asked (step slots word stamp 0 none) (v, slot))
+enters_by o id v h timer event asked opening picked live may own slots slot word stamp word_is stamp_is s kept many at small =
+    let t = timer_seen o v timer in
+    let e = entry_of_event o v timer event in
     let along = go_along v timer t event (reply_to t event) may.allowed.needs own may.carries in
-    let r = enters bases opened number_of id v h e (claims_with_event timer t event v.claims)
+    let r = enters o id v h e (claims_with_event timer t event v.claims)
     (carry_after timer t event v.carry) live may slots slot along s kept many at
     (subst (λ i. slice_index s.words i < 18446744073709551616) word_is small) in (
       r.0,
       r.1,
       r.2,
-      subst (λ i. HasOneHistory bases opened number_of (stepped s i stamp id slot r.0 r.1)) (sym word_is)
-          (subst (λ x. HasOneHistory bases opened number_of (stepped s (word_at bases timer) x id slot r.0 r.1)) (sym stamp_is) r.3),
+      subst (λ i. HasOneHistory o (stepped s i stamp id slot r.0 r.1)) (sym word_is)
+          (subst (λ x. HasOneHistory o (stepped s (word_at o.bases timer) x id slot r.0 r.1)) (sym stamp_is) r.3),
       λ g k held at_word.
           let same : h ≡ g = some_same h g (sym may.held ∙ held) in
           let same_timer : timer ≡ k = omega (arith, word_is, at_word, ap (λ (o : Opening). o.bases) opening) in
           let me : SeatState = (v, slot) in
           let new : SeatState = (r.0, carried_after slot r.1) in
-          subst (λ (o : Opening). EntersAs o.bases o.timers number_of g k asked me new) (sym opening)
-          (subst (λ x. EntersAs bases opened number_of g k x me new) (sym picked)
-          (subst (λ x. EntersAs bases opened number_of x k event me new) same
-          (subst (λ x. EntersAs bases opened number_of h x event me new) same_timer r.4))),
+          subst (λ (o : Opening). EntersAs o g k asked me new) (sym opening)
+          (subst (λ x. EntersAs o g k x me new) (sym picked)
+          (subst (λ x. EntersAs o x k event me new) same
+          (subst (λ x. EntersAs o h x event me new) same_timer r.4))),
     )

@@ -1,5 +1,5 @@
 -- What a pass knows of the base that it holds, for the next entry.
-use Rattle.std.proofs.Common.{◌≡◌, ℕ, ◌<◌, ◌+◌, List, [], ◌∷◌, length, ap, sym, ◌∙◌, subst, arith}
+use Rattle.std.proofs.Common.{◌≡◌, ℕ, ◌<◌, ◌+◌, [], ◌∷◌, length, ap, sym, ◌∙◌, subst, arith}
 use Rattle.std.specs.Prelude.{slice_index, Some}
 use Rattle.std.proofs.lemmas.List.{get_or-set_same, length-set}
 use Rattle.pass_names.specs.Passes.{Begins}
@@ -13,41 +13,41 @@ use Rattle.seq_timer.specs.Bases.{IsQueuedAs}
 use Rattle.seq_timer.specs.Contents.{IsContentOf}
 use Rattle.base_row.specs.declared.view.HeldContent.{HeldContent}
 use Rattle.base_row.specs.declared.view.BaseView.{BaseView}
-use Rattle.seq_timer.specs.Systems.{BaseContent, System, IsFresh, IsOn, changed, entries_of, shifted}
-use Rattle.base_row.specs.Rules.{now, number_of}
+use Rattle.seq_timer.specs.Systems.{BaseContent, System, IsFresh, IsOn, changed, entries_of, shifted, system_after}
 use Rattle.base_row.specs.Plays.{SeatState, KnowsBases, KnowsOwn, IsResting, EnteredShift, EntersAs, carried_slots, FreedBase, Steady, having_freed}
-use Rattle.base_row.specs.Calls.{Appended, AreFresh, LetsGo, MayAppend, Shifted, stepped, timer_seen}
+use Rattle.base_row.specs.Calls.{Appended, AreFresh, LetsGo, MayAppend, Shifted, stepped}
 use Rattle.seq_timer.proofs.Systems.{shows}
 use Rattle.seq_timer.proofs.Agreement.{agrees}
 use Rattle.seq_timer.proofs.Contents.{IsQueuedAs-from}
+use Rattle.base_row.specs.Rules.{timer_seen}
 
 -- what a pass of a row knows, in the words of the row
-pub knows_about : (o : Opening) (v : BaseView BaseContent) → v.opening ≡ o → KnowsOwn v → KnowsBases o.bases o.timers number_of v
-knows_about o v about knows = subst (λ (q : Opening). KnowsBases q.bases q.timers number_of v) about knows
+pub knows_about : (o : Opening) (v : BaseView BaseContent) → v.opening ≡ o → KnowsOwn v → KnowsBases o v
+knows_about o v about knows = subst (λ (q : Opening). KnowsBases q v) about knows
 
-module _ (bases : ℕ) (opened : List Timer) (code : Timer → ℕ) (v : BaseView BaseContent) (h : HeldContent BaseContent)
-    (knows : KnowsBases bases opened code v) (held : v.held ≡ Some h) (t : ℕ) (within : t < length opened) where
+module _ (o : Opening) (v : BaseView BaseContent) (h : HeldContent BaseContent)
+    (knows : KnowsBases o v) (held : v.held ≡ Some h) (t : ℕ) (within : t < length o.timers) where
   abbrev w : System
-  w = now bases opened code v.seen
+  w = system_after o.timers v.seen
 
   same : h.content ≡ w.bases h.base
   same = (knows.held h held).1.0
 
   pub room : t < length h.content.states
-  room = omega (arith, ap (λ (b : BaseContent). length b.states) same, (shows bases opened v.seen knows.allowed).wide h.base)
+  room = omega (arith, ap (λ (b : BaseContent). length b.states) same, (shows o.bases o.timers v.seen knows.allowed).wide h.base)
 
   -- a timer on the base is as the base keeps it
   pub kept_state : IsOn h.base (w.timers t) → timer_at h.content.states t ≡ w.timers t
-  kept_state on = ap (λ (b : BaseContent). timer_at b.states t) same ∙ (shows bases opened v.seen knows.allowed).kept h.base t within on
+  kept_state on = ap (λ (b : BaseContent). timer_at b.states t) same ∙ (shows o.bases o.timers v.seen knows.allowed).kept h.base t within on
 
   pub shown_state : IsOn h.base (timer_at h.content.states t) → w.timers t ≡ timer_at h.content.states t
   shown_state on =
       let here : timer_at h.content.states t ≡ timer_at (w.bases h.base).states t = ap (λ (b : BaseContent). timer_at b.states t) same in
-      (shows bases opened v.seen knows.allowed).shown h.base t within (subst (λ x. IsOn h.base x) here on) ∙ sym here
+      (shows o.bases o.timers v.seen knows.allowed).shown h.base t within (subst (λ x. IsOn h.base x) here on) ∙ sym here
 
-  pub queued : ((k : ℕ) → IsFresh (timer_at opened k)) → (w.timers t).base ≡ h.base → IsQueuedAs t (w.timers t) h.content.content
+  pub queued : ((k : ℕ) → IsFresh (timer_at o.timers k)) → (w.timers t).base ≡ h.base → IsQueuedAs t (w.timers t) h.content.content
   queued fresh here =
-      let all = agrees bases opened v.seen fresh knows.allowed in
+      let all = agrees o.bases o.timers v.seen fresh knows.allowed in
       subst (λ (b : BaseContent). IsQueuedAs t (w.timers t) b.content) (sym same)
       (IsQueuedAs-from w.timers t (w.bases h.base).content (all.apart t) (subst (λ b. IsContentOf w.timers b (w.bases h.base).content)
       (sym here) (all.contents h.base)))
@@ -56,7 +56,7 @@ module _ (bases : ℕ) (opened : List Timer) (code : Timer → ℕ) (v : BaseVie
 pub room_held : (o : Opening) (v : BaseView BaseContent) (h g : HeldContent BaseContent) → v.opening ≡ o → KnowsOwn v → v.held ≡ Some h → g ≡ h
     → (t : ℕ) → t < length o.timers → t < length g.content.states
 room_held o v h g about knows held is t within = subst (λ (x : HeldContent BaseContent). t < length x.content.states) (sym is)
-    (room o.bases o.timers number_of v h (knows_about o v about knows) held t within)
+    (room o v h (knows_about o v about knows) held t within)
 
 -- what a held base and one of its timers, which is so, are for the timer's next entry
 pub record IsReady (o : Opening) (v : BaseView BaseContent) (h : HeldContent BaseContent) (t : ℕ) (event : Event) (x : Timer) : Type 0 where
@@ -71,10 +71,10 @@ pub ready : (o : Opening) (v : BaseView BaseContent) (h : HeldContent BaseConten
 ready o v h t event x about knows fresh may is =
     let known = knows_about o v about knows in
     let allowed = may.may.allowed in record {
-      below = room o.bases o.timers number_of v h known may.may.held t allowed.within;
+      below = room o v h known may.may.held t allowed.within;
       needs = subst (λ y. Needs y event) (sym is) allowed.needs;
       queued = subst (λ y. IsQueuedAs t y h.content.content) (sym is)
-          (queued o.bases o.timers number_of v h known may.may.held t allowed.within fresh.each may.may.base);
+          (queued o v h known may.may.held t allowed.within fresh.each may.may.base);
       steps = ap (λ y. record h { content = changed t y event h.content }) is;
       replies = ap (λ y. reply_to y event) is;
     }
@@ -83,7 +83,7 @@ ready o v h t event x about knows fresh may is =
 pub ready_there : (o : Opening) (v : BaseView BaseContent) (h : HeldContent BaseContent) (t : ℕ) (event : Event) → v.opening ≡ o → KnowsOwn v
     → AreFresh o.timers → MayAppend o v h t event → IsOn h.base (timer_seen o v t) → IsReady o v h t event (timer_at h.content.states t)
 ready_there o v h t event about knows fresh may on = ready o v h t event (timer_at h.content.states t) about knows fresh may
-    (kept_state o.bases o.timers number_of v h (knows_about o v about knows) may.may.held t may.may.allowed.within on)
+    (kept_state o v h (knows_about o v about knows) may.may.held t may.may.allowed.within on)
 
 -- a held base after an entry has a state of each timer, and of the entry's what the entry left
 pub room_stepped : (o : Opening) (v : BaseView BaseContent) (h g : HeldContent BaseContent) (t : ℕ) (event : Event) → g ≡ stepped o v h t event
@@ -106,7 +106,7 @@ pub record Rested (o : Opening) (h : HeldContent BaseContent) (t : ℕ) (event :
   pub held : new.0.held ≡ Some (record { base = h.base; word = h.word; content = changed t (timer_seen o me.0 t) event h.content })
 
 pub rested : (o : Opening) (h : HeldContent BaseContent) (t : ℕ) (event : Event) (me new : SeatState)
-    → me.0.opening ≡ o → IsResting me → me.0.held ≡ Some h → EntersAs o.bases o.timers number_of h t event me new → Rested o h t event me new
+    → me.0.opening ≡ o → IsResting me → me.0.held ≡ Some h → EntersAs o h t event me new → Rested o h t event me new
 rested o h t event me new about resting held told =
     let opening : new.0.opening ≡ o = ap (λ (m : SeatState). m.0.opening) told.rest ∙ about in
     let now_held = ap (λ (m : SeatState). m.0.held) told.rest in
@@ -116,7 +116,7 @@ rested o h t event me new about resting held told =
         heard = ap (λ (m : SeatState). m.0.heard) told.rest;
         carried = ap (λ (m : SeatState). m.1) told.rest
             ∙ (resting.carried ∙ (ap carried_slots held ∙ sym (ap carried_slots now_held)));
-        knows = subst (λ (q : Opening). KnowsBases q.bases q.timers number_of new.0) (sym opening) told.knows;
+        knows = subst (λ (q : Opening). KnowsBases q new.0) (sym opening) told.knows;
       };
       adds = record { before = told.before; seen = told.seen; own = told.own; shifts = told.shifts; rest = ap (λ (m : SeatState). m.0) told.rest };
       about = opening;
@@ -131,7 +131,7 @@ pub record LetGo (o : Opening) (h : HeldContent BaseContent) (me new : SeatState
 
 pub let_go : (o : Opening) (h : HeldContent BaseContent) (me mid new : SeatState) → me.0.opening ≡ o
     → IsResting me → me.0.held ≡ Some h → h.base < o.bases → mid ≡ (me.0, (h.base, Some h.content) ∷ [])
-    → FreedBase o.bases o.timers number_of h mid new → LetGo o h me new
+    → FreedBase o h mid new → LetGo o h me new
 let_go o h me mid new about resting held inside is told =
     let at_first : new ≡ (having_freed new.0.seen h.base (slice_index me.0.met h.base + 1) me.0, []) = told.rest
     ∙ ap (λ (m : SeatState). (having_freed new.0.seen h.base (slice_index m.0.met h.base + 1) m.0, rest m.1)) is in
@@ -143,7 +143,7 @@ let_go o h me mid new about resting held inside is told =
         heard = ap (λ (m : SeatState). m.0.heard) at_first;
         carried = ap (λ (m : SeatState). m.1) at_first
             ∙ sym (ap carried_slots (ap (λ (m : SeatState). m.0.held) at_first));
-        knows = subst (λ (q : Opening). KnowsBases q.bases q.timers number_of new.0) (sym opening) told.knows;
+        knows = subst (λ (q : Opening). KnowsBases q new.0) (sym opening) told.knows;
       };
       free = record {
         rest = ap (λ (m : SeatState). m.0) at_first ∙ ap (λ x. having_freed new.0.seen h.base (x + 1) me.0) (sym word);
@@ -164,7 +164,7 @@ pub record RestedShift (o : Opening) (h : HeldContent BaseContent) (event : Base
   pub held : new.0.held ≡ Some (record { base = h.base; word = h.word; content = shifted event h.content })
 
 pub rested_shift : (o : Opening) (h : HeldContent BaseContent) (event : BaseEvent) (me new : SeatState)
-    → me.0.opening ≡ o → IsResting me → me.0.held ≡ Some h → EnteredShift o.bases o.timers number_of h event me new → RestedShift o h event me new
+    → me.0.opening ≡ o → IsResting me → me.0.held ≡ Some h → EnteredShift o h event me new → RestedShift o h event me new
 rested_shift o h event me new about resting held told =
     let opening : new.0.opening ≡ o = ap (λ (m : SeatState). m.0.opening) told.rest ∙ about in
     let now_held = ap (λ (m : SeatState). m.0.held) told.rest in
@@ -174,7 +174,7 @@ rested_shift o h event me new about resting held told =
         heard = ap (λ (m : SeatState). m.0.heard) told.rest;
         carried = ap (λ (m : SeatState). m.1) told.rest
             ∙ (resting.carried ∙ (ap carried_slots held ∙ sym (ap carried_slots now_held)));
-        knows = subst (λ (q : Opening). KnowsBases q.bases q.timers number_of new.0) (sym opening) told.knows;
+        knows = subst (λ (q : Opening). KnowsBases q new.0) (sym opening) told.knows;
       };
       shifts = record { before = told.before; seen = told.seen; shifts = told.shifts; rest = ap (λ (m : SeatState). m.0) told.rest };
       about = opening;

@@ -13,16 +13,16 @@ use Rattle.pass_names.specs.Counts.{one_if, total}
 use Rattle.pass_names.specs.Passes.{within}
 use Rattle.pass_names.proofs.Counts.{met, set_there, total_set, total_at}
 use Rattle.pass_names.proofs.Passes.{begins_refl, begins_nil, count_place, within_more}
-use Rattle.seq_timer.specs.Steps.{Timer}
 use Rattle.seq_timer.specs.declared.system.SystemEntry.{SystemEntry}
 use Rattle.base_row.specs.declared.view.HeldContent.{HeldContent}
 use Rattle.base_row.specs.declared.view.BaseView.{BaseView}
-use Rattle.seq_timer.specs.Systems.{BaseContent}
-use Rattle.base_row.specs.Rules.{held_in, holds_at, takes_at, LockState, now, HeldHolds, PassHolds, RowHolds, HasOneHistory}
+use Rattle.seq_timer.specs.Systems.{BaseContent, system_after}
+use Rattle.base_row.specs.Rules.{held_in, holds_at, takes_at, LockState, HeldHolds, PassHolds, RowHolds, HasOneHistory}
 use Rattle.base_row.specs.Plays.{having_met, having_taken, having_freed, KnowsBases, LoadedWord, Met, TookBase, FoundTaken, FreedBase}
 use Rattle.base_row.proofs.Frames.{holds_one, turned, locked}
 use Rattle.base_row.proofs.Stable.{stable_own, steady_own}
 use Rattle.base_row.proofs.Knowing.{knows_of}
+use Rattle.base_row.specs.declared.view.Opening.{Opening}
 
 -- lock words that are as new as before, and no newer than they are
 pub record Newer (bases : ℕ) (words met met' : List ℕ) : Type 0 where
@@ -50,11 +50,11 @@ newer_one bases words met b word inside le below top = record {
 no_lock : (h : HeldContent BaseContent) → None ≡ Some h → ⊥
 no_lock h e = cc
 
-module _ (bases : ℕ) (opened : List Timer) (code : Timer → ℕ) where
+module _ (o : Opening) where
   -- what a seat knows stays true once it has seen the whole history and newer lock words, and holds nothing new
-  fits_seen : (log : List SystemEntry) (words met : List ℕ) (v : BaseView BaseContent) → PassHolds bases opened code log words v
-      → Newer bases words v.met met → ((h : HeldContent BaseContent) → v.held ≡ Some h → slice_index met h.base ≡ slice_index v.met h.base)
-      → PassHolds bases opened code log words (having_met log met v)
+  fits_seen : (log : List SystemEntry) (words met : List ℕ) (v : BaseView BaseContent) → PassHolds o log words v
+      → Newer o.bases words v.met met → ((h : HeldContent BaseContent) → v.held ≡ Some h → slice_index met h.base ≡ slice_index v.met h.base)
+      → PassHolds o log words (having_met log met v)
   fits_seen log words met v fits more same = record {
     seen = begins_refl log;
     heard = begins_nil log;
@@ -79,26 +79,26 @@ module _ (bases : ℕ) (opened : List Timer) (code : Timer → ℕ) where
     abbrev Goes : State (Option BaseContent) (BaseView BaseContent) → ℕ → ℕ → (BaseView BaseContent → Type 0) → Type 0
     Goes s i n then =
         (w : BaseView BaseContent) × (a : Act (Option BaseContent)) × Valid s.homes carried a
-        × HasOneHistory bases opened code (stepped s i n id carried w a) × ((carried_after carried a ≡ carried) × then w)
+        × HasOneHistory o (stepped s i n id carried w a) × ((carried_after carried a ≡ carried) × then w)
 
-    looks_with : (log : List SystemEntry) (s : State (Option BaseContent) (BaseView BaseContent)) (home : RowHolds bases opened code log s)
-        → get_elem? s.views id ≡ some v → (i : ℕ) (met : List ℕ) → Newer bases s.words v.met met
+    looks_with : (log : List SystemEntry) (s : State (Option BaseContent) (BaseView BaseContent)) (home : RowHolds o log s)
+        → get_elem? s.views id ≡ some v → (i : ℕ) (met : List ℕ) → Newer o.bases s.words v.met met
         → ((h : HeldContent BaseContent) → v.held ≡ Some h → slice_index met h.base ≡ slice_index v.met h.base)
-        → RowHolds bases opened code log (stepped s i (slice_index s.words i) id carried (having_met log met v) keeps)
-        × KnowsBases bases opened code (having_met log met v)
+        → RowHolds o log (stepped s i (slice_index s.words i) id carried (having_met log met v) keeps)
+        × KnowsBases o (having_met log met v)
     looks_with log s home at i met more same =
         let v' : BaseView BaseContent = having_met log met v in
-        let next : RowHolds bases opened code log record { words = s.words; homes = s.homes; views = slice_set s.views id v' } =
-        turned bases opened code log s home id v v' at (fits_seen log s.words met v (home.each_view id v at) more same)
+        let next : RowHolds o log record { words = s.words; homes = s.homes; views = slice_set s.views id v' } =
+        turned o log s home id v v' at (fits_seen log s.words met v (home.each_view id v at) more same)
         (record { holds = λ b. refl; takes = λ b k. refl }) (record { id = refl; places = λ t k. refl; claims = λ t g b. refl; carries = λ t. refl }) in (
-          subst (λ ws. RowHolds bases opened code log record { words = ws; homes = s.homes; views = slice_set s.views id v' })
+          subst (λ ws. RowHolds o log record { words = ws; homes = s.homes; views = slice_set s.views id v' })
               (sym (set-get_or s.words i 0)) next,
-          knows_of bases opened code log record { words = s.words; homes = s.homes; views = slice_set s.views id v' } next id v'
+          knows_of o log record { words = s.words; homes = s.homes; views = slice_set s.views id v' } next id v'
               (set_there s.views id v v' at) live refl,
         )
 
-    pub looks : (word : ℕ) → Allows (HasOneHistory bases opened code) slots id (v, carried) word (λ n. n)
-        (LoadedWord bases opened code (step slots word 0 0 none) (v, carried))
+    pub looks : (word : ℕ) → Allows (HasOneHistory o) slots id (v, carried) word (λ n. n)
+        (LoadedWord o (step slots word 0 0 none) (v, carried))
     looks word s (log, home) many at small =
         let fits = home.each_view id v at in
         let l = looks_with log s home at word v.met (record { size = refl; newer = λ b. omega arith; below = fits.met }) (λ h e. refl) in (
@@ -110,23 +110,23 @@ module _ (bases : ℕ) (opened : List Timer) (code : Timer → ℕ) where
             rest = refl;
             seen = fits.seen;
             heard = fits.heard;
-            steady = steady_own bases opened code log s home v fits live refl;
+            steady = steady_own o log s home v fits live refl;
             knows = l.1;
             timer = λ t e h. ap (λ i. slice_index s.words i) e ∙ home.each_timer t h;
             standing = λ b e h. ap (λ i. slice_index s.words i) e ∙ home.each_standing b h;
           },
         )
 
-    meets_at : (log : List SystemEntry) (s : State (Option BaseContent) (BaseView BaseContent)) (home : RowHolds bases opened code log s)
-        → get_elem? s.views id ≡ some v → (b : ℕ) → b < bases → v.held ≡ None
+    meets_at : (log : List SystemEntry) (s : State (Option BaseContent) (BaseView BaseContent)) (home : RowHolds o log s)
+        → get_elem? s.views id ≡ some v → (b : ℕ) → b < o.bases → v.held ≡ None
         → (w : BaseView BaseContent) × (a : Act (Option BaseContent)) × Valid s.homes carried a
-        × HasOneHistory bases opened code (stepped s (lock_at b) (slice_index s.words (lock_at b)) id carried w a)
-        × Met bases opened code b (v, carried) (slice_index s.words (lock_at b)) (w, carried_after carried a)
+        × HasOneHistory o (stepped s (lock_at b) (slice_index s.words (lock_at b)) id carried w a)
+        × Met o b (v, carried) (slice_index s.words (lock_at b)) (w, carried_after carried a)
     meets_at log s home at b inside idle =
         let fits = home.each_view id v at in
         let found : ℕ = slice_index s.words (lock_at b) in
         let l = looks_with log s home at (lock_at b) (set v.met b found)
-        (newer_one bases s.words v.met b found (omega (arith, fits.full live)) (fits.met b inside) fits.met (omega arith))
+        (newer_one o.bases s.words v.met b found (omega (arith, fits.full live)) (fits.met b inside) fits.met (omega arith))
         (λ h e. absurd (no_lock h (sym idle ∙ e))) in (
           having_met log (set v.met b found) v,
           keeps,
@@ -140,28 +140,28 @@ module _ (bases : ℕ) (opened : List Timer) (code : Timer → ℕ) where
             is = get_or-set_same v.met b found 0 (omega (arith, fits.full live));
             others = λ k later. let none : holds_at b v ≡ 0 = ap (held_in b) idle in ⊎_elim
                 (λ own. absurd (omega (arith, fits.takes b k own))) (λ no_one. omega arith) (cases_lt 0 (takes_at b k v));
-            steady = steady_own bases opened code log s home v fits live refl;
+            steady = steady_own o log s home v fits live refl;
             knows = l.1;
           },
         )
 
-    pub meets : (b : ℕ) → b < bases → v.held ≡ None → Allows (HasOneHistory bases opened code) slots id (v, carried) (lock_at b) (λ n. n)
-        (Met bases opened code b (v, carried))
+    pub meets : (b : ℕ) → b < o.bases → v.held ≡ None → Allows (HasOneHistory o) slots id (v, carried) (lock_at b) (λ n. n)
+        (Met o b (v, carried))
     meets b inside idle s home many at small = meets_at home.0 s home.1 at b inside idle
 
   -- ---- an exchange from a free lock word, as it was met last
 
-  module _ (slots id : ℕ) (v : BaseView BaseContent) (live : v.id.live ≡ true) (idle : v.held ≡ None) (b m : ℕ) (inside : b < bases)
+  module _ (slots id : ℕ) (v : BaseView BaseContent) (live : v.id.live ≡ true) (idle : v.held ≡ None) (b m : ℕ) (inside : b < o.bases)
       (known : slice_index v.met b ≡ m + m) where
     abbrev Told : Bool → State (Option BaseContent) (BaseView BaseContent) → Type 0
     Told hit s =
         (w : BaseView BaseContent) × (a : Act (Option BaseContent)) × Valid s.homes [] a
-        × HasOneHistory bases opened code (stepped s (lock_at b) (either hit (m + m + 1) (slice_index s.words (lock_at b))) id [] w a)
-        × MatchBool hit (TookBase bases opened code b (m + 1) (m + m + 1) (v, []) (w, carried_after [] a))
-        (FoundTaken bases opened code b (m + m) (v, []) (slice_index s.words (lock_at b)) (w, carried_after [] a))
+        × HasOneHistory o (stepped s (lock_at b) (either hit (m + m + 1) (slice_index s.words (lock_at b))) id [] w a)
+        × MatchBool hit (TookBase o b (m + 1) (m + m + 1) (v, []) (w, carried_after [] a))
+        (FoundTaken o b (m + m) (v, []) (slice_index s.words (lock_at b)) (w, carried_after [] a))
 
     told : (log : List SystemEntry) (s : State (Option BaseContent) (BaseView BaseContent))
-        → RowHolds bases opened code log s → get_elem? s.views id ≡ some v → (hit : Bool) → eqb (slice_index s.words (lock_at b)) (m + m) ≡ hit → Told hit s
+        → RowHolds o log s → get_elem? s.views id ≡ some v → (hit : Bool) → eqb (slice_index s.words (lock_at b)) (m + m) ≡ hit → Told hit s
     told log s home at false miss =
         let fits = home.each_view id v at in
         let l = meets_at slots id v [] live log s home at b inside idle in
@@ -185,7 +185,7 @@ module _ (bases : ℕ) (opened : List Timer) (code : Timer → ℕ) where
         let found : slice_index s.words (lock_at b) ≡ m + m = eqb-true (slice_index s.words (lock_at b)) (m + m) hit in
         let fits = home.each_view id v at in
         let cell = home.each_base b inside in
-        let content : BaseContent = (now bases opened code log).bases b in
+        let content : BaseContent = (system_after o.timers log).bases b in
         let free : total (holds_at b) s.views ≡ 0 = omega (arith, cell.number, cell.once) in
         let none_held : holds_at b v ≡ 0 = ap (held_in b) idle in
         let v' : BaseView BaseContent = having_taken log b content (m + 1) (m + m + 1) v in
@@ -193,18 +193,18 @@ module _ (bases : ℕ) (opened : List Timer) (code : Timer → ℕ) where
         let in_met : b < length v.met = omega (arith, fits.full live) in
         let in_words : lock_at b < length s.words = omega (arith, home.words_len) in
         let one_more : (c k : ℕ) → takes_at c k v' ≡ takes_at c k v + one_if (eqb b c && eqb (m + 1) k) = λ c k. count_place b c k (m + 1) v.takes in
-        let more : Newer bases words v.met (set v.met b (m + m + 1)) =
-        newer_one bases words v.met b (m + m + 1) in_met (omega arith)
+        let more : Newer o.bases words v.met (set v.met b (m + m + 1)) =
+        newer_one o.bases words v.met b (m + m + 1) in_met (omega arith)
         (λ c h. ⊎_elim
         (λ (e : c ≡ b). subst (λ q. slice_index v.met q ≤ slice_index words (lock_at q)) (sym e)
         (omega (arith, get_or-set_same s.words (lock_at b) (m + m + 1) 0 in_words)))
         (λ n. omega (arith, get_or-set_other s.words (lock_at b) (lock_at c) (m + m + 1) 0 (λ e. n (omega arith)), fits.met c h))
         (cases_eq c b))
         (omega (arith, get_or-set_same s.words (lock_at b) (m + m + 1) 0 in_words)) in
-        let fits' : PassHolds bases opened code log words v' = record {
+        let fits' : PassHolds o log words v' = record {
           seen = begins_refl log;
           heard = begins_nil log;
-          held = λ h e. let t : record { base = b; word = m + m + 1; content = content } ≡ h = cc in subst (λ q. HeldHolds bases opened code log words v' q) t
+          held = λ h e. let t : record { base = b; word = m + m + 1; content = content } ≡ h = cc in subst (λ q. HeldHolds o log words v' q) t
               (record {
                 within = inside;
                 seen = refl;
@@ -240,13 +240,13 @@ module _ (bases : ℕ) (opened : List Timer) (code : Timer → ℕ) where
             ap (λ n. one_if (within k n)) (half cell.taken m (omega (arith, cell.number))),
           );
         } in
-        let next : RowHolds bases opened code log record {
+        let next : RowHolds o log record {
           words = slice_set s.words (lock_at b)
               (m + m + 1);
           homes = slice_set s.homes b none;
           views = slice_set s.views id v';
         } =
-        locked bases opened code log s home b id v v' (m + m + 1) none at inside (omega arith) (omega arith) cell' fits'
+        locked o log s home b id v v' (m + m + 1) none at inside (omega arith) (omega arith) cell' fits'
         (λ c n. ap one_if (ne_eqb b c (λ e. n (sym e))) ∙ ap (held_in c) (sym idle))
         (λ c k n. omega (arith, one_more c k, ap (λ q. one_if (q && eqb (m + 1) k)) (ne_eqb b c (λ e. n (sym e)))))
         (record { id = refl; places = λ t k. refl; claims = λ t g c. refl; carries = λ t. refl }) in (
@@ -260,8 +260,8 @@ module _ (bases : ℕ) (opened : List Timer) (code : Timer → ℕ) where
             is = get_or-set_same v.met b (m + m + 1) 0 in_met;
             seen = fits.seen;
             heard = fits.heard;
-            steady = steady_own bases opened code log s home v fits live refl;
-            knows = knows_of bases opened code log record {
+            steady = steady_own o log s home v fits live refl;
+            knows = knows_of o log record {
               words = slice_set s.words (lock_at b)
                   (m + m + 1);
               homes = slice_set s.homes b none;
@@ -294,9 +294,9 @@ module _ (bases : ℕ) (opened : List Timer) (code : Timer → ℕ) where
             omega (arith, old (omega (arith, ap (λ q. one_if (q && eqb (m + 1) k)) no)), get_or-set_other v.met b c (m + m + 1) 0 n))
             (cases_eq c b)
 
-    pub takes_lock : Allows (HasOneHistory bases opened code) slots id (v, []) (lock_at b) (λ n. either (eqb n (m + m)) (m + m + 1) n)
-        (λ found new. MatchBool (eqb found (m + m)) (TookBase bases opened code b (m + 1) (m + m + 1) (v, []) new)
-        (FoundTaken bases opened code b (m + m) (v, []) found new))
+    pub takes_lock : Allows (HasOneHistory o) slots id (v, []) (lock_at b) (λ n. either (eqb n (m + m)) (m + m + 1) n)
+        (λ found new. MatchBool (eqb found (m + m)) (TookBase o b (m + 1) (m + m + 1) (v, []) new)
+        (FoundTaken o b (m + m) (v, []) found new))
     takes_lock s home many at small = told home.0 s home.1 at (eqb (slice_index s.words (lock_at b)) (m + m)) refl
 
   -- ---- a store that lets a base go
@@ -305,9 +305,9 @@ module _ (bases : ℕ) (opened : List Timer) (code : Timer → ℕ) where
     abbrev freed_word : ℕ
     freed_word = slice_index v.met h.base + 1
 
-    frees_at : (log : List SystemEntry) (s : State (Option BaseContent) (BaseView BaseContent)) → RowHolds bases opened code log s
+    frees_at : (log : List SystemEntry) (s : State (Option BaseContent) (BaseView BaseContent)) → RowHolds o log s
         → get_elem? s.views id ≡ some v
-        → RowHolds bases opened code log record {
+        → RowHolds o log record {
           words = slice_set s.words (lock_at h.base) freed_word;
           homes = slice_set s.homes h.base
               (some (Some h.content));
@@ -324,8 +324,8 @@ module _ (bases : ℕ) (opened : List Timer) (code : Timer → ℕ) where
         let in_words : lock_at b < length s.words = omega (arith, home.words_len, t.within) in
         let words : List ℕ = set s.words (lock_at b) freed_word in
         let alone : total (holds_at b) s.views ≡ holds_at b v = omega (arith, cell.once, total_at (holds_at b) s.views id v at) in
-        let more : Newer bases words v.met (set v.met b freed_word) =
-        newer_one bases words v.met b freed_word in_met (omega arith)
+        let more : Newer o.bases words v.met (set v.met b freed_word) =
+        newer_one o.bases words v.met b freed_word in_met (omega arith)
         (λ c i. ⊎_elim
         (λ (e : c ≡ b). subst (λ q. slice_index v.met q ≤ slice_index words (lock_at q)) (sym e)
         (omega (arith, get_or-set_same s.words (lock_at b) freed_word 0 in_words)))
@@ -333,7 +333,7 @@ module _ (bases : ℕ) (opened : List Timer) (code : Timer → ℕ) where
         (cases_eq c b))
         (omega (arith, get_or-set_same s.words (lock_at b) freed_word 0 in_words)) in
         let else_held : (c : ℕ) → c ≢ b → holds_at c v ≡ 0 = λ c n. ap (held_in c) held ∙ ap one_if (ne_eqb b c (λ e. n (sym e))) in
-        let fits' : PassHolds bases opened code log words v' = record {
+        let fits' : PassHolds o log words v' = record {
           seen = begins_refl log;
           heard = begins_nil log;
           held = λ g e. absurd (no_lock g e);
@@ -351,7 +351,7 @@ module _ (bases : ℕ) (opened : List Timer) (code : Timer → ℕ) where
           gone = λ off. absurd (true≢false (sym live ∙ off));
         } in
         let sum : total (holds_at b) (set s.views id v') ≡ 0 = omega (arith, total_set (holds_at b) s.views id v v' at) in
-        let cell' : LockState ((now bases opened code log).bases b) (some (some (Some h.content))) freed_word
+        let cell' : LockState ((system_after o.timers log).bases b) (some (some (Some h.content))) freed_word
         (total (holds_at b) (set s.views id v')) (λ k. total (takes_at b k) (set s.views id v')) = record {
           taken = cell.taken;
           number = omega (arith, cell.number, t.word);
@@ -360,13 +360,13 @@ module _ (bases : ℕ) (opened : List Timer) (code : Timer → ℕ) where
           out = λ z. absurd (omega arith);
           each = λ k. omega (arith, total_set (takes_at b k) s.views id v v' at, cell.each k);
         } in
-        locked bases opened code log s home b id v v' freed_word (some (Some h.content)) at t.within (omega (arith, t.word)) alone cell' fits'
+        locked o log s home b id v v' freed_word (some (Some h.content)) at t.within (omega (arith, t.word)) alone cell' fits'
         (λ c n. sym (else_held c n))
         (λ c k n. refl)
         (record { id = refl; places = λ k i. refl; claims = λ k g c. refl; carries = λ k. refl })
 
-    pub frees : Allows (HasOneHistory bases opened code) slots id (v, (h.base, Some h.content) ∷ []) (lock_at h.base) (λ _. freed_word)
-        (λ _. FreedBase bases opened code h (v, (h.base, Some h.content) ∷ []))
+    pub frees : Allows (HasOneHistory o) slots id (v, (h.base, Some h.content) ∷ []) (lock_at h.base) (λ _. freed_word)
+        (λ _. FreedBase o h (v, (h.base, Some h.content) ∷ []))
     frees s (log, home) many at small =
         let v' : BaseView BaseContent = having_freed log h.base freed_word v in
         let next = frees_at log s home at in (
@@ -377,10 +377,10 @@ module _ (bases : ℕ) (opened : List Timer) (code : Timer → ℕ) where
           record {
             rest = refl;
             seen = (home.each_view id v at).seen;
-            steady = steady_own bases opened code log s home v (home.each_view id v at) live refl;
-            own = λ t inside on. stable_own bases opened code log s home v (home.each_view id v at) h held t inside (inl on);
+            steady = steady_own o log s home v (home.each_view id v at) live refl;
+            own = λ t inside on. stable_own o log s home v (home.each_view id v at) h held t inside (inl on);
             content = sym ((home.each_view id v at).held h held).whole;
-            knows = knows_of bases opened code log record {
+            knows = knows_of o log record {
               words = slice_set s.words
                   (lock_at h.base) freed_word;
               homes = slice_set s.homes h.base

@@ -28,9 +28,9 @@ use Rattle.base_row.specs.declared.view.HeldContent.{HeldContent}
 use Rattle.base_row.specs.declared.view.Opening.{Opening}
 use Rattle.base_row.specs.declared.view.BaseView.{BaseView}
 use Rattle.seq_timer.specs.Systems.{BaseContent, System, first_system, after_entry, after_shift, after_entries, system_after, entries_of, AreSystemSteps, BeginsInTurn, IsFresh, next_on}
-use Rattle.base_row.specs.Rules.{number_of}
+use Rattle.base_row.specs.Rules.{number_of, base_seen, timer_seen}
 use Rattle.base_row.specs.Plays.{KnowsBases}
-use Rattle.base_row.specs.Calls.{AreFresh, base_seen, timer_seen}
+use Rattle.base_row.specs.Calls.{AreFresh}
 use Rattle.seq_timer.proofs.Systems.{after_entries-entries_of, timer_here, timer_else, timers_shift}
 use Rattle.seq_timer.proofs.Agreement.{agrees, agrees_first}
 use Rattle.seq_timer.proofs.Firsts.{next_on-next, next_on-none}
@@ -113,7 +113,7 @@ within_all bases count w (entries.Timer e ∷ es) first all t = within_all bases
     (λ apart. subst (λ (x : Timer). IsWithin x) (sym (timer_else w e k apart)) (first k))
     (cases_eq k e.timer)) all.1 t
 
-module _ (o : Opening) (v : BaseView BaseContent) (fresh : AreFresh o.timers) (knows : KnowsBases o.bases o.timers number_of v) where
+module _ (o : Opening) (v : BaseView BaseContent) (fresh : AreFresh o.timers) (knows : KnowsBases o v) where
   pub placed_seen : 0 < o.bases → (t : ℕ) → (timer_seen o v t).base < o.bases
   placed_seen some t = placed o.bases (length o.timers) (first_system o.timers) v.seen (λ k. omega (arith, (fresh.each k).first)) knows.allowed t
 
@@ -177,7 +177,7 @@ pub record TellsFront (o : Opening) (v : BaseView BaseContent) (h : HeldContent 
   pub clear : IfNone r (((x : Context) → running_in x h.content.content ≡ None) → h.content.content ≡ no_content)
   pub none : IfNone r ((t : ℕ) → is_armed_on h.base (timer_seen o v t) ≡ false)
 
-module _ (o : Opening) (v : BaseView BaseContent) (fresh : AreFresh o.timers) (knows : KnowsBases o.bases o.timers number_of v)
+module _ (o : Opening) (v : BaseView BaseContent) (fresh : AreFresh o.timers) (knows : KnowsBases o v)
     (h : HeldContent BaseContent) (held : v.held ≡ Some h) where
   pub tells_front : (r : Option (ℕ × ℕ)) → r ≡ front_of h.content.content → TellsFront o v h r
   tells_front None is = record {
@@ -198,11 +198,11 @@ module _ (o : Opening) (v : BaseView BaseContent) (fresh : AreFresh o.timers) (k
       }
 
 -- a base's standing, as a pass has seen it
-pub standing_seen : (o : Opening) (v : BaseView BaseContent) → KnowsBases o.bases o.timers number_of v → (b : ℕ)
+pub standing_seen : (o : Opening) (v : BaseView BaseContent) → KnowsBases o v → (b : ℕ)
     → IsStanding b (base_seen o v b).standing
 standing_seen o v knows b = standing_fits o.bases (length o.timers) o.timers v.seen knows.allowed b
 
-pub standing_held : (o : Opening) (v : BaseView BaseContent) (h : HeldContent BaseContent) → KnowsBases o.bases o.timers number_of v
+pub standing_held : (o : Opening) (v : BaseView BaseContent) (h : HeldContent BaseContent) → KnowsBases o v
     → v.held ≡ Some h → IsStanding h.base h.content.standing
 standing_held o v h knows held = subst (λ (b : BaseContent). IsStanding h.base b.standing) (sym (knows.held h held).1.0) (standing_seen o v knows h.base)
 
@@ -212,7 +212,7 @@ shift_room base s (shifts.Offline heir) may is = omega (arith, may.2)
 shift_room base s shifts.Online may is = is.back may
 
 -- where a pass has seen a base off line, it has nothing, and each timer has a reach
-pub off_line_seen : (o : Opening) (v : BaseView BaseContent) → AreFresh o.timers → KnowsBases o.bases o.timers number_of v
+pub off_line_seen : (o : Opening) (v : BaseView BaseContent) → AreFresh o.timers → KnowsBases o v
     → IsClearOff (length o.timers) (after_entries (first_system o.timers) v.seen)
 off_line_seen o v fresh knows =
     clear_after o.bases (length o.timers) (first_system o.timers) v.seen knows.allowed (agrees_first o.timers fresh.each) (clear_first o.timers)
@@ -226,7 +226,7 @@ pub record TellsOff (o : Opening) (v : BaseView BaseContent) (h : HeldContent Ba
   pub unused : IfSome heir (λ to. IsUnused (timer_seen o v) h.base)
   pub reach : IfSome heir (λ to. (t : ℕ) → t < length o.timers → 0 < (timer_at o.timers t).terms.reach)
 
-pub tells_off : (o : Opening) (v : BaseView BaseContent) → AreFresh o.timers → KnowsBases o.bases o.timers number_of v → (h : HeldContent BaseContent)
+pub tells_off : (o : Opening) (v : BaseView BaseContent) → AreFresh o.timers → KnowsBases o v → (h : HeldContent BaseContent)
     → v.held ≡ Some h → (heir : Option ℕ) → heir ≡ h.content.standing.heir → TellsOff o v h heir
 tells_off o v fresh knows h held None is = record { unused = tt; reach = tt }
 tells_off o v fresh knows h held (Some to) is =

@@ -14,7 +14,6 @@ use Rattle.pass_names.specs.Passes.{is_place}
 use Rattle.pass_names.proofs.Counts.{total-append}
 use Rattle.pass_names.proofs.Names.{splits_tree, gone_tree, joins_tree}
 use Rattle.pass_names.proofs.Passes.{begins_nil}
-use Rattle.seq_timer.specs.Steps.{Timer}
 use Rattle.base_row.specs.declared.view.Claimed.{Claimed}
 use Rattle.seq_timer.specs.declared.system.SystemEntry.{SystemEntry}
 use Rattle.base_row.specs.declared.view.HeldContent.{HeldContent}
@@ -43,11 +42,11 @@ greater_len [] ys = omega arith
 greater_len (x ∷ xs) [] = omega arith
 greater_len (x ∷ xs) (y ∷ ys) = omega (arith, greater_len xs ys)
 
-module _ (bases : ℕ) (opened : List Timer) (code : Timer → ℕ) where
+module _ (o : Opening) where
   -- a view that has nothing of its own fits, with what was seen and met
   fits_reader : (log : List SystemEntry) (words : List ℕ) (pass : PassId) (opening : Opening) (v : BaseView BaseContent)
-      → PassHolds bases opened code log words v → (pass.live ≡ true → length v.met ≡ bases)
-      → (pass.live ≡ true → pass.name ≡ [] → ⊥) → PassHolds bases opened code log words record {
+      → PassHolds o log words v → (pass.live ≡ true → length v.met ≡ o.bases)
+      → (pass.live ≡ true → pass.name ≡ [] → ⊥) → PassHolds o log words record {
         id = pass;
         opening = opening;
         seen = v.seen;
@@ -72,8 +71,8 @@ module _ (bases : ℕ) (opened : List Timer) (code : Timer → ℕ) where
     gone = λ off. (refl, (refl, (refl, refl)));
   }
 
-  fits_split : (log : List SystemEntry) (words : List ℕ) (v : BaseView BaseContent) → PassHolds bases opened code log words v
-      → PassHolds bases opened code log words (split_base_view v)
+  fits_split : (log : List SystemEntry) (words : List ℕ) (v : BaseView BaseContent) → PassHolds o log words v
+      → PassHolds o log words (split_base_view v)
   fits_split log words v fits = record {
     seen = fits.seen;
     heard = fits.heard;
@@ -90,22 +89,22 @@ module _ (bases : ℕ) (opened : List Timer) (code : Timer → ℕ) where
   child_named : (l : List ℕ) (k : ℕ) → l ++ k ∷ [] ≡ [] → ⊥
   child_named l k e = omega (arith, ap length e, length-append l (k ∷ []))
 
-  pub splits : (id : ℕ) (v : BaseView BaseContent) → v.id.live ≡ true → Splits (HasOneHistory bases opened code) id v (split_base_view v) (new_base_view v)
+  pub splits : (id : ℕ) (v : BaseView BaseContent) → v.id.live ≡ true → Splits (HasOneHistory o) id v (split_base_view v) (new_base_view v)
   splits id v live s (log, home) at =
       let fits = home.each_view id v at in (
         log,
-        grown bases opened code log s home id v (split_base_view v) (new_base_view v) at (fits_split log s.words v fits)
+        grown o log s home id v (split_base_view v) (new_base_view v) at (fits_split log s.words v fits)
             (fits_reader log s.words (base_pass_id (new_base_view v)) v.opening v fits (λ t. fits.full live)
             (λ t name. child_named v.id.name (v.id.made + 1) name))
             (splits_tree (map base_pass_id s.views) home.tree id (base_pass_id v) (at_map base_pass_id s.views id v at) live)
             (record { places = λ t k. refl; claims = λ t g b. refl; holds = λ b. refl; takes = λ b k. refl; carries = λ t. refl }),
       )
 
-  pub notes : (id : ℕ) (v : BaseView BaseContent) → Splits (HasOneHistory bases opened code) id v v (base_note_of v)
+  pub notes : (id : ℕ) (v : BaseView BaseContent) → Splits (HasOneHistory o) id v v (base_note_of v)
   notes id v s (log, home) at =
       let fits = home.each_view id v at in (
         log,
-        grown bases opened code log s home id v v (base_note_of v) at fits
+        grown o log s home id v v (base_note_of v) at fits
             (fits_reader log s.words gone_pass_id no_opening v fits (λ t. absurd (true≢false (sym t))) (λ t name. absurd (true≢false (sym t))))
             (subst (λ ls. IsPassTree (ls ++ gone_pass_id ∷ []))
             (sym (set_again (map base_pass_id s.views) id (base_pass_id v) (at_map base_pass_id s.views id v at)))
@@ -113,7 +112,7 @@ module _ (bases : ℕ) (opened : List Timer) (code : Timer → ℕ) where
             (record { places = λ t k. refl; claims = λ t g b. refl; holds = λ b. refl; takes = λ b k. refl; carries = λ t. refl }),
       )
 
-  fits_gone : (log : List SystemEntry) (words : List ℕ) → PassHolds bases opened code log words gone_base_view
+  fits_gone : (log : List SystemEntry) (words : List ℕ) → PassHolds o log words gone_base_view
   fits_gone log words = record {
     seen = begins_nil log;
     heard = begins_nil log;
@@ -128,8 +127,8 @@ module _ (bases : ℕ) (opened : List Timer) (code : Timer → ℕ) where
   }
 
   fits_joined : (log : List SystemEntry) (words : List ℕ) (v u : BaseView BaseContent) → v.id.live ≡ true → v.held ≡ None → u.held ≡ None
-      → PassHolds bases opened code log words v → PassHolds bases opened code log words u
-      → PassHolds bases opened code log words (joined_base_view v u)
+      → PassHolds o log words v → PassHolds o log words u
+      → PassHolds o log words (joined_base_view v u)
   fits_joined log words v u live idle idle_u fits fits_u = record {
     seen = fits.seen;
     heard = fits_u.seen;
@@ -159,14 +158,14 @@ module _ (bases : ℕ) (opened : List Timer) (code : Timer → ℕ) where
 
   pub joins : (id other : ℕ) (v u : BaseView BaseContent) → v.id.live ≡ true → u.id.live ≡ true → v.held ≡ None → u.held ≡ None
       → u.carry ≡ None → AnswersFor v.id u.id
-      → Joins (HasOneHistory bases opened code) id v other u (joined_base_view v u) gone_base_view
+      → Joins (HasOneHistory o) id v other u (joined_base_view v u) gone_base_view
   joins id other v u live live_u idle idle_u empty answers s (log, home) at apart at_other =
       let at_u : get_elem? s.views other ≡ some u = sym (set_else s.views id other (joined_base_view v u) apart) ∙ at_other in
       let lines_at : get_elem? (set (map base_pass_id s.views) id (base_pass_id (joined_base_view v u))) other ≡ some (base_pass_id u) =
       ap (λ ls. get_elem? ls other) (sym (map-set base_pass_id s.views id (joined_base_view v u)))
       ∙ at_map base_pass_id (set s.views id (joined_base_view v u)) other u at_other in (
         log,
-        merged bases opened code log s home id other v (joined_base_view v u) u gone_base_view at at_other
+        merged o log s home id other v (joined_base_view v u) u gone_base_view at at_other
             (fits_joined log s.words v u live idle idle_u (home.each_view id v at) (home.each_view other u at_u))
             (fits_gone log s.words)
             (joins_tree (map base_pass_id s.views) home.tree id other (base_pass_id v) (base_pass_id u)
@@ -182,7 +181,7 @@ module _ (bases : ℕ) (opened : List Timer) (code : Timer → ℕ) where
 
   -- a note is taken in
   pub tells : (id other : ℕ) (v x : BaseView BaseContent)
-      → Joins (HasOneHistory bases opened code) id v other (base_note_of x) (told_base_view v (base_note_of x)) gone_base_view
+      → Joins (HasOneHistory o) id v other (base_note_of x) (told_base_view v (base_note_of x)) gone_base_view
   tells id other v x s (log, home) at apart at_other =
       let u = base_note_of x in
       let fits = home.each_view id v at in
@@ -193,7 +192,7 @@ module _ (bases : ℕ) (opened : List Timer) (code : Timer → ℕ) where
       ap (λ ls. set ls other gone_pass_id) (set_again (map base_pass_id s.views) id (base_pass_id v) (at_map base_pass_id s.views id v at))
       ∙ set_again (map base_pass_id s.views) other gone_pass_id line_at in (
         log,
-        merged bases opened code log s home id other v (told_base_view v u) u gone_base_view at at_other
+        merged o log s home id other v (told_base_view v u) u gone_base_view at at_other
             (record {
               seen = fits.seen;
               heard = fits_u.seen;

@@ -2,50 +2,50 @@
 use Rattle.std.proofs.Common.{◌≡◌, ℕ, ◌<◌, ◌⊎◌, ⊎_elim, true, List, length, ap, sym, ◌∙◌}
 use Rattle.std.specs.Prelude.{Option, Some}
 use Rattle.atomic_table.specs.Table.{State}
-use Rattle.seq_timer.specs.Steps.{Timer}
 use Rattle.seq_timer.specs.declared.system.SystemEntry.{SystemEntry}
 use Rattle.base_row.specs.declared.view.HeldContent.{HeldContent}
 use Rattle.base_row.specs.declared.view.BaseView.{BaseView}
-use Rattle.seq_timer.specs.Systems.{BaseContent, first_system, IsOn, entries_of, shifts_of}
+use Rattle.seq_timer.specs.Systems.{BaseContent, first_system, IsOn, entries_of, shifts_of, system_after}
 use Rattle.base_row.specs.Plays.{Steady}
 use Rattle.pass_names.specs.declared.PassId.{PassId}
-use Rattle.base_row.specs.Rules.{now, PassHolds, RowHolds}
+use Rattle.base_row.specs.Rules.{PassHolds, RowHolds, timer_seen}
 use Rattle.seq_timer.proofs.Systems.{shows, same_on}
 use Rattle.base_row.proofs.Begun.{steps_begins, same_own}
+use Rattle.base_row.specs.declared.view.Opening.{Opening}
 
-module _ (bases : ℕ) (opened : List Timer) (code : Timer → ℕ) (log : List SystemEntry) (s : State (Option BaseContent) (BaseView BaseContent))
-    (home : RowHolds bases opened code log s)
-    (v : BaseView BaseContent) (fits : PassHolds bases opened code log s.words v) (h : HeldContent BaseContent) (held : v.held ≡ Some h) (t : ℕ)
-    (within : t < length opened)
-    (ours : IsOn h.base ((now bases opened code v.seen).timers t) ⊎ (v.carry ≡ Some t)) where
-  pub stable : (now bases opened code log).timers t ≡ (now bases opened code v.seen).timers t
+module _ (o : Opening) (log : List SystemEntry) (s : State (Option BaseContent) (BaseView BaseContent))
+    (home : RowHolds o log s)
+    (v : BaseView BaseContent) (fits : PassHolds o log s.words v) (h : HeldContent BaseContent) (held : v.held ≡ Some h) (t : ℕ)
+    (within : t < length o.timers)
+    (ours : IsOn h.base (timer_seen o v t) ⊎ (v.carry ≡ Some t)) where
+  pub stable : (system_after o.timers log).timers t ≡ timer_seen o v t
   stable =
       ⊎_elim
       (λ on.
       let holds = fits.held h held in
-      same_on (length opened) (now bases opened code v.seen) (now bases opened code log) h.base t
-      (shows bases opened v.seen (steps_begins bases (length opened) (first_system opened) v.seen log fits.seen home.allowed))
-      (shows bases opened log home.allowed)
+      same_on (length o.timers) (system_after o.timers v.seen) (system_after o.timers log) h.base t
+      (shows o.bases o.timers v.seen (steps_begins o.bases (length o.timers) (first_system o.timers) v.seen log fits.seen home.allowed))
+      (shows o.bases o.timers log home.allowed)
       (sym holds.seen ∙ holds.whole) within on)
       (λ carry. sym (fits.carry t carry))
       ours
 
   pub stable_own : entries_of t log ≡ entries_of t v.seen
-  stable_own = same_own (first_system opened) t v.seen log fits.seen stable
+  stable_own = same_own (first_system o.timers) t v.seen log fits.seen stable
 
-module _ (bases : ℕ) (opened : List Timer) (code : Timer → ℕ) (log : List SystemEntry) (s : State (Option BaseContent) (BaseView BaseContent))
-    (home : RowHolds bases opened code log s)
-    (v : BaseView BaseContent) (fits : PassHolds bases opened code log s.words v) (t : ℕ) (carry : v.carry ≡ Some t) where
+module _ (o : Opening) (log : List SystemEntry) (s : State (Option BaseContent) (BaseView BaseContent))
+    (home : RowHolds o log s)
+    (v : BaseView BaseContent) (fits : PassHolds o log s.words v) (t : ℕ) (carry : v.carry ≡ Some t) where
   pub carry_own : entries_of t log ≡ entries_of t v.seen
-  carry_own = same_own (first_system opened) t v.seen log fits.seen (sym (fits.carry t carry))
+  carry_own = same_own (first_system o.timers) t v.seen log fits.seen (sym (fits.carry t carry))
 
 -- where a pass has seen the whole history, it is steady
-module _ (bases : ℕ) (opened : List Timer) (code : Timer → ℕ) (log : List SystemEntry) (s : State (Option BaseContent) (BaseView BaseContent))
-    (home : RowHolds bases opened code log s)
-    (v : BaseView BaseContent) (fits : PassHolds bases opened code log s.words v) (live : v.id.live ≡ true) where
+module _ (o : Opening) (log : List SystemEntry) (s : State (Option BaseContent) (BaseView BaseContent))
+    (home : RowHolds o log s)
+    (v : BaseView BaseContent) (fits : PassHolds o log s.words v) (live : v.id.live ≡ true) where
   pub steady_own : {w : BaseView BaseContent} → w.seen ≡ log → Steady v w
   steady_own {w} whole = record {
-    carried = λ t e. ap (entries_of t) whole ∙ carry_own bases opened code log s home v fits t e;
+    carried = λ t e. ap (entries_of t) whole ∙ carry_own o log s home v fits t e;
     shifts = λ name b. ap (shifts_of b) whole ∙ sym (fits.first live name b);
   }
 

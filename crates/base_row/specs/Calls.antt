@@ -20,9 +20,10 @@ use Rattle.base_row.specs.declared.view.Claimed.{Claimed}
 use Rattle.base_row.specs.declared.view.HeldContent.{HeldContent}
 use Rattle.base_row.specs.declared.view.Opening.{Opening}
 use Rattle.base_row.specs.declared.view.BaseView.{BaseView}
-use Rattle.base_row.specs.Rules.{now, number_of}
+pub use Rattle.base_row.specs.Rules.{timer_seen, base_seen}
 use Rattle.base_row.specs.Plays.{MayEnter, Missed, NoOlder, OwnNeeds, SameElsewhere, Steady, carry_after, claims_with_event}
-use Rattle.base_row.specs.Plays.{entry_of_event, greater, having_entered, having_freed, having_met, having_shifted, joined_base_view, seen_timer}
+use Rattle.base_row.specs.Plays.{entry_of_event, greater, having_entered, having_freed, having_met, having_shifted, joined_base_view}
+use Rattle.base_row.specs.Rules.{base_seen, timer_seen}
 
 -- a row, and what it was made of
 pub record BaseRowOf : Type 0 where
@@ -47,18 +48,12 @@ pub record AreFresh (timers : List Timer) : Type 0 where
   pub each : (t : ℕ) → IsFresh (timer_at timers t)
   pub room : (t : ℕ) → HasRoom (timer_at timers t).terms
 
-abbrev pub timer_seen : Opening → BaseView BaseContent → ℕ → Timer
-timer_seen o v t = seen_timer o.bases o.timers number_of v t
-
-abbrev pub base_seen : Opening → BaseView BaseContent → ℕ → BaseContent
-base_seen o v b = (now o.bases o.timers number_of v.seen).bases b
-
 abbrev pub entry_in : Opening → BaseView BaseContent → ℕ → Event → TimerEntry
-entry_in o v t event = entry_of_event o.bases o.timers number_of v t event
+entry_in o v t event = entry_of_event o v t event
 
 -- a pass may make this entry, by what it has seen
 pub record MayAppend (o : Opening) (v : BaseView BaseContent) (h : HeldContent BaseContent) (t : ℕ) (event : Event) : Type 0 where
-  pub may : MayEnter o.bases o.timers number_of v h (entry_in o v t event)
+  pub may : MayEnter o v h (entry_in o v t event)
   pub own : OwnNeeds v t (timer_seen o v t) event
 
 -- a pass has made this entry

@@ -22,20 +22,20 @@ use Rattle.base_row.specs.declared.view.Claimed.{Claimed}
 use Rattle.base_row.specs.declared.view.HeldContent.{HeldContent}
 use Rattle.base_row.specs.declared.view.Opening.{Opening}
 use Rattle.base_row.specs.declared.view.BaseView.{BaseView}
-use Rattle.seq_timer.specs.Systems.{BaseContent, first_system, IsSystemStep, AreSystemSteps, IsClear, changed, entries_of, shifted, shifts_of, IsOn}
-use Rattle.base_row.specs.Rules.{base_place, is_base_claim, carried_in, number_of, standing_number, now, runs, places_at, base_claims_at, carries_at, takes_at}
+use Rattle.seq_timer.specs.Systems.{BaseContent, first_system, IsSystemStep, AreSystemSteps, IsClear, changed, entries_of, shifted, shifts_of, IsOn, system_after}
+use Rattle.base_row.specs.Rules.{base_place, is_base_claim, carried_in, number_of, standing_number, runs, places_at, base_claims_at, carries_at, takes_at, base_seen, timer_seen}
 
 -- what a pass's seat has: what the pass knows, and the slots that it carries
 abbrev pub SeatState : Type 0
 SeatState = Me (Option BaseContent) (BaseView BaseContent)
 
 -- this seat's pass holds no base, and may look at the lock of a base, whose word in the table is this one
-pub record MayMeetLock (table : TableId) (bases : ℕ) (opened : List Timer) (of : TableId) (me : SeatState) (base word : ℕ) : Type 0 where
+pub record MayMeetLock (table : TableId) (o : Opening) (of : TableId) (me : SeatState) (base word : ℕ) : Type 0 where
   pub same : of ≡ table
-  pub about : me.0.opening ≡ record { bases = bases; timers = opened }
+  pub about : me.0.opening ≡ o
   pub at : word ≡ lock_at base
   pub inside : word < table.words
-  pub within : base < bases
+  pub within : base < o.bases
   pub live : me.0.id.live ≡ true
   pub idle : me.0.held ≡ None
 
@@ -186,20 +186,20 @@ NoOlder base v w = slice_index v.met base ≤ slice_index w.met base
 abbrev pub Missed : BaseView BaseContent → ℕ → ℕ → ℕ → Type 0
 Missed v b old found = (k : ℕ) × (takes_at b k v ≡ 0) × (old < k + k) × (k + k ≤ found + 1)
 
-module _ (bases : ℕ) (opened : List Timer) (code : Timer → ℕ) where
+module _ (o : Opening) where
   -- What is known of what a pass knows.
   pub record KnowsBases (v : BaseView BaseContent) : Type 0 where
-    pub allowed : AreSystemSteps bases (length opened) (first_system opened) v.seen
-    pub held : (h : HeldContent BaseContent) → v.held ≡ Some h → (h.base < bases) × ((h.content ≡ (now bases opened code v.seen).bases h.base)
+    pub allowed : AreSystemSteps o.bases (length o.timers) (first_system o.timers) v.seen
+    pub held : (h : HeldContent BaseContent) → v.held ≡ Some h → (h.base < o.bases) × ((h.content ≡ base_seen o v h.base)
         × (h.word ≡ slice_index v.met h.base))
-    pub carry : (t : ℕ) → t < length opened → v.carry ≡ Some t → ((now bases opened code v.seen).timers t).moving ≡ true
-    pub claims : (t g b : ℕ) → t < length opened → 0 < base_claims_at t g b v → runs g b ((now bases opened code v.seen).timers t) ≡ true
+    pub carry : (t : ℕ) → t < length o.timers → v.carry ≡ Some t → (timer_seen o v t).moving ≡ true
+    pub claims : (t g b : ℕ) → t < length o.timers → 0 < base_claims_at t g b v → runs g b (timer_seen o v t) ≡ true
     -- the last pass has made each entry, each once, and each take; no timer is on the move but one that it carries
-    pub all_entries : IsLast v.id → (t k : ℕ) → t < length opened → places_at t k v ≡ one_if (within k ((now bases opened code v.seen).timers t).stamp)
-    pub all_shifts : IsLast v.id → (b k : ℕ) → b < bases
-        → places_at (base_place (length opened) b) k v ≡ one_if (within k ((now bases opened code v.seen).bases b).standing.stamp)
-    pub all_carried : IsLast v.id → (t : ℕ) → t < length opened → ((now bases opened code v.seen).timers t).moving ≡ true → v.carry ≡ Some t
-    pub all_takes : IsLast v.id → (b k : ℕ) → b < bases → 0 < k → k + k ≤ slice_index v.met b + 1 → takes_at b k v ≡ 1
+    pub all_entries : IsLast v.id → (t k : ℕ) → t < length o.timers → places_at t k v ≡ one_if (within k (timer_seen o v t).stamp)
+    pub all_shifts : IsLast v.id → (b k : ℕ) → b < o.bases
+        → places_at (base_place (length o.timers) b) k v ≡ one_if (within k (base_seen o v b).standing.stamp)
+    pub all_carried : IsLast v.id → (t : ℕ) → t < length o.timers → (timer_seen o v t).moving ≡ true → v.carry ≡ Some t
+    pub all_takes : IsLast v.id → (b k : ℕ) → b < o.bases → 0 < k → k + k ≤ slice_index v.met b + 1 → takes_at b k v ≡ 1
 
   -- a load of word 0 or of a timer's word
   pub record LoadedWord (st : Step (Option BaseContent)) (me : SeatState) (found : ℕ)
@@ -209,9 +209,9 @@ module _ (bases : ℕ) (opened : List Timer) (code : Timer → ℕ) where
     pub heard : Begins me.0.heard new.0.seen
     pub steady : Steady me.0 new.0
     pub knows : KnowsBases new.0
-    pub timer : (t : ℕ) → st.word ≡ word_at bases t → t < length opened → found ≡ code ((now bases opened code new.0.seen).timers t)
-    pub standing : (b : ℕ) → st.word ≡ word_at bases (base_place (length opened) b) → b < bases
-        → found ≡ standing_number ((now bases opened code new.0.seen).bases b).standing
+    pub timer : (t : ℕ) → st.word ≡ word_at o.bases t → t < length o.timers → found ≡ number_of (timer_seen o new.0 t)
+    pub standing : (b : ℕ) → st.word ≡ word_at o.bases (base_place (length o.timers) b) → b < o.bases
+        → found ≡ standing_number (base_seen o new.0 b).standing
 
   -- a load of a base's lock word
   pub record Met (b : ℕ) (me : SeatState) (found : ℕ) (new : SeatState) : Type 0 where
@@ -247,9 +247,9 @@ module _ (bases : ℕ) (opened : List Timer) (code : Timer → ℕ) where
     pub rest : new ≡ (having_freed new.0.seen h.base (slice_index me.0.met h.base + 1) me.0, rest me.1)
     pub seen : Begins me.0.seen new.0.seen
     -- of the timers on the base nothing more was seen
-    pub own : (t : ℕ) → t < length opened → IsOn h.base ((now bases opened code me.0.seen).timers t) → entries_of t new.0.seen ≡ entries_of t me.0.seen
+    pub own : (t : ℕ) → t < length o.timers → IsOn h.base (timer_seen o me.0 t) → entries_of t new.0.seen ≡ entries_of t me.0.seen
     -- the base is left as it was held
-    pub content : (now bases opened code new.0.seen).bases h.base ≡ h.content
+    pub content : base_seen o new.0 h.base ≡ h.content
     pub steady : Steady me.0 new.0
     pub knows : KnowsBases new.0
 
@@ -302,16 +302,13 @@ pub record MayEnterShift (v : BaseView BaseContent) (h : HeldContent BaseContent
   pub clear : IsClear h.content event
   pub reach : (t : ℕ) → t < length v.opening.timers → 0 < (timer_at v.opening.timers t).terms.reach
 
-module _ (bases : ℕ) (opened : List Timer) (code : Timer → ℕ) where
-  abbrev pub seen_timer : BaseView BaseContent → ℕ → Timer
-  seen_timer v t = (now bases opened code v.seen).timers t
-
+module _ (o : Opening) where
   -- a pass may add this entry, by what it has seen: it holds the timer's base, and carries the timer where that is on the move
   pub record MayEnter (v : BaseView BaseContent) (h : HeldContent BaseContent) (e : TimerEntry) : Type 0 where
     pub held : v.held ≡ Some h
-    pub allowed : IsSystemStep bases (length opened) (now bases opened code v.seen) e
-    pub base : (seen_timer v e.timer).base ≡ h.base
-    pub carries : (seen_timer v e.timer).moving ≡ true → v.carry ≡ Some e.timer
+    pub allowed : IsSystemStep o.bases (length o.timers) (system_after o.timers v.seen) e
+    pub base : (timer_seen o v e.timer).base ≡ h.base
+    pub carries : (timer_seen o v e.timer).moving ≡ true → v.carry ≡ Some e.timer
 
   -- what the store of a timer's word tells
   pub record EnteredTimer (h : HeldContent BaseContent) (e : TimerEntry) (claims : List Claimed) (carry : Option ℕ)
@@ -320,34 +317,34 @@ module _ (bases : ℕ) (opened : List Timer) (code : Timer → ℕ) where
     pub seen : Begins me.0.seen before
     pub own : entries_of e.timer before ≡ entries_of e.timer me.0.seen
     pub shifts : me.0.id.name ≡ [] → (b : ℕ) → shifts_of b before ≡ shifts_of b me.0.seen
-    pub rest : new ≡ (having_entered before e (seen_timer me.0 e.timer) h claims carry me.0, me.1)
-    pub knows : KnowsBases bases opened code new.0
+    pub rest : new ≡ (having_entered before e (timer_seen o me.0 e.timer) h claims carry me.0, me.1)
+    pub knows : KnowsBases o new.0
 
   -- the entry of an event, with the reply that it gets after what the pass has seen
   abbrev pub entry_of_event : BaseView BaseContent → ℕ → Event → TimerEntry
-  entry_of_event v t event = record { timer = t; event = event; reply = reply_to (seen_timer v t) event }
+  entry_of_event v t event = record { timer = t; event = event; reply = reply_to (timer_seen o v t) event }
 
   -- the store tells so of an entry with its own claims and carry
   abbrev pub EntersAs : HeldContent BaseContent → ℕ → Event → SeatState
       → SeatState → Type 0
-  EntersAs h t event me new = EnteredTimer h (entry_of_event me.0 t event) (claims_with_event t (seen_timer me.0 t) event me.0.claims)
-      (carry_after t (seen_timer me.0 t) event me.0.carry) me new
+  EntersAs h t event me new = EnteredTimer h (entry_of_event me.0 t event) (claims_with_event t (timer_seen o me.0 t) event me.0.claims)
+      (carry_after t (timer_seen o me.0 t) event me.0.carry) me new
 
   -- what the store of a base's word tells
   pub record EnteredShift (h : HeldContent BaseContent) (event : BaseEvent) (me : SeatState) (new : SeatState) : Type 0 where
     pub before : List SystemEntry
     pub seen : Begins me.0.seen before
     pub shifts : (b : ℕ) → shifts_of b before ≡ shifts_of b me.0.seen
-    pub rest : new ≡ (having_shifted before (length opened) event h me.0, me.1)
-    pub knows : KnowsBases bases opened code new.0
+    pub rest : new ≡ (having_shifted before (length o.timers) event h me.0, me.1)
+    pub knows : KnowsBases o new.0
 
 abbrev pub ShiftsBy : BaseEvent → Step (Option BaseContent) → SeatState → SeatState → Type 0
 ShiftsBy event st me new = (h : HeldContent BaseContent) → me.0.held ≡ Some h
-    → EnteredShift me.0.opening.bases me.0.opening.timers number_of h event me new
+    → EnteredShift me.0.opening h event me new
 
 abbrev pub EntersBy : Event → Step (Option BaseContent) → SeatState → SeatState → Type 0
 EntersBy event st me new = (h : HeldContent BaseContent) (t : ℕ) → me.0.held ≡ Some h → st.word ≡ word_at me.0.opening.bases t
-    → EntersAs me.0.opening.bases me.0.opening.timers number_of h t event me new
+    → EntersAs me.0.opening h t event me new
 
 -- the slot that a pass carries while it holds a base: it is empty
 abbrev pub carried_slots : Option (HeldContent BaseContent) → List (ℕ × Option BaseContent)
@@ -356,7 +353,7 @@ carried_slots (Some h) = (h.base, None) ∷ []
 
 -- what is known of what a pass knows, of a row of its opening
 abbrev pub KnowsOwn : BaseView BaseContent → Type 0
-KnowsOwn v = KnowsBases v.opening.bases v.opening.timers number_of v
+KnowsOwn v = KnowsBases v.opening v
 
 -- what a seat of a pass is like between calls
 pub record IsResting (me : SeatState) : Type 0 where
@@ -367,21 +364,21 @@ pub record IsResting (me : SeatState) : Type 0 where
 
 -- what single steps tell a seat of a row of its opening
 abbrev pub LooksOwn : StepMeaning
-LooksOwn st me found new = LoadedWord me.0.opening.bases me.0.opening.timers number_of st me found new
+LooksOwn st me found new = LoadedWord me.0.opening st me found new
 
 abbrev pub MeetsOwn : StepMeaning
-MeetsOwn st me found new = (b : ℕ) → st.word ≡ lock_at b → Met me.0.opening.bases me.0.opening.timers number_of b me found new
+MeetsOwn st me found new = (b : ℕ) → st.word ≡ lock_at b → Met me.0.opening b me found new
 
 abbrev pub TakesAt : Opening → ℕ → StepMeaning
 TakesAt o b st me found new =
     MatchBool (found == st.first) ((k : ℕ) × (st.first + 2 ≡ k + k)
-    × TookBase o.bases o.timers number_of b k (st.first + 1) me new) (FoundTaken o.bases o.timers number_of b st.first me found new)
+    × TookBase o b k (st.first + 1) me new) (FoundTaken o b st.first me found new)
 
 abbrev pub TakesOwn : StepMeaning
 TakesOwn st me found new = (b : ℕ) → st.word ≡ lock_at b → TakesAt me.0.opening b st me found new
 
 abbrev pub FreesOwn : StepMeaning
-FreesOwn st me stored new = (h : HeldContent BaseContent) → me.0.held ≡ Some h → FreedBase me.0.opening.bases me.0.opening.timers number_of h me new
+FreesOwn st me stored new = (h : HeldContent BaseContent) → me.0.held ≡ Some h → FreedBase me.0.opening h me new
 
 -- a seat has got a base
 pub record GotBase (o : Opening) (base : ℕ) (me new : SeatState) (h : HeldContent BaseContent) : Type 0 where
@@ -403,7 +400,7 @@ pub record GotBase (o : Opening) (base : ℕ) (me new : SeatState) (h : HeldCont
   pub apart : SameElsewhere base me.0 new.0
   pub seen : Begins me.0.seen new.0.seen
   pub steady : Steady me.0 new.0
-  pub knows : KnowsBases o.bases o.timers number_of new.0
+  pub knows : KnowsBases o new.0
 
 -- a seat has not got a base: another pass took it in between, or it is taken no more
 pub record Lost (o : Opening) (base : ℕ) (me new : SeatState) : Type 0 where
@@ -413,4 +410,4 @@ pub record Lost (o : Opening) (base : ℕ) (me new : SeatState) : Type 0 where
   pub apart : SameElsewhere base me.0 new.0
   pub seen : Begins me.0.seen new.0.seen
   pub steady : Steady me.0 new.0
-  pub knows : KnowsBases o.bases o.timers number_of new.0
+  pub knows : KnowsBases o new.0

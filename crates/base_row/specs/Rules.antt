@@ -15,6 +15,7 @@ use Rattle.seq_timer.specs.declared.system.SystemEntry.{SystemEntry}
 use Rattle.seq_timer.specs.declared.standing.Standing.{Standing}
 use Rattle.base_row.specs.declared.view.Claimed.{Claimed}
 use Rattle.base_row.specs.declared.view.HeldContent.{HeldContent}
+use Rattle.base_row.specs.declared.view.Opening.{Opening}
 use Rattle.base_row.specs.declared.view.BaseView.{BaseView}
 use Rattle.seq_timer.specs.Systems.{BaseContent, System, first_system, shifts_of, system_after, AreSystemSteps}
 
@@ -84,15 +85,22 @@ base_place timers b = timers + b
 unfoldable pub number_of : Timer → ℕ
 number_of t = packed (peek_of t)
 
-module _ (bases : ℕ) (opened : List Timer) (code : Timer → ℕ) where
-  abbrev pub now : List SystemEntry → System
-  now log = system_after opened log
+abbrev pub timer_seen : Opening → BaseView BaseContent → ℕ → Timer
+timer_seen o v t = (system_after o.timers v.seen).timers t
 
+abbrev pub base_seen : Opening → BaseView BaseContent → ℕ → BaseContent
+base_seen o v b = (system_after o.timers v.seen).bases b
+
+-- the system after a history of a row that was made so, in its parts
+abbrev pub now : ℕ → List Timer → (Timer → ℕ) → List SystemEntry → System
+now bases opened code log = system_after opened log
+
+module _ (o : Opening) where
   -- what a pass holds is what the base has, by the whole history and by what the pass has seen
   pub record HeldHolds (log : List SystemEntry) (words : List ℕ) (v : BaseView BaseContent) (h : HeldContent BaseContent) : Type 0 where
-    pub within : h.base < bases
-    pub seen : h.content ≡ (now v.seen).bases h.base
-    pub whole : h.content ≡ (now log).bases h.base
+    pub within : h.base < o.bases
+    pub seen : h.content ≡ base_seen o v h.base
+    pub whole : h.content ≡ (system_after o.timers log).bases h.base
     pub word : slice_index words (lock_at h.base) ≡ slice_index v.met h.base
     pub number : h.word ≡ slice_index v.met h.base
 
@@ -103,11 +111,11 @@ module _ (bases : ℕ) (opened : List Timer) (code : Timer → ℕ) where
     pub heard : Begins v.heard log
     pub held : (h : HeldContent BaseContent) → v.held ≡ Some h → HeldHolds log words v h
     -- it has seen all of the timer that it carries
-    pub carry : (t : ℕ) → v.carry ≡ Some t → (now v.seen).timers t ≡ (now log).timers t
+    pub carry : (t : ℕ) → v.carry ≡ Some t → timer_seen o v t ≡ (system_after o.timers log).timers t
     -- the lock words that it knows are no newer than they are, and its takes no later; the last take of a held base is its holder's
-    pub wide : length v.met ≤ bases
-    pub full : v.id.live ≡ true → length v.met ≡ bases
-    pub met : (b : ℕ) → b < bases → slice_index v.met b ≤ slice_index words (lock_at b)
+    pub wide : length v.met ≤ o.bases
+    pub full : v.id.live ≡ true → length v.met ≡ o.bases
+    pub met : (b : ℕ) → b < o.bases → slice_index v.met b ≤ slice_index words (lock_at b)
     pub takes : (b k : ℕ) → 0 < takes_at b k v → k + k ≤ slice_index v.met b + holds_at b v
     -- the first pass has seen all that happened to bases
     pub first : v.id.live ≡ true → v.id.name ≡ [] → (b : ℕ) → shifts_of b v.seen ≡ shifts_of b log
@@ -116,26 +124,26 @@ module _ (bases : ℕ) (opened : List Timer) (code : Timer → ℕ) where
 
   -- The rule: what the table holds and what each pass knows is what one history says.
   pub record RowHolds (log : List SystemEntry) (s : State (Option BaseContent) (BaseView BaseContent)) : Type 0 where
-    pub allowed : AreSystemSteps bases (length opened) (first_system opened) log
-    pub words_len : length s.words ≡ word_at bases (length opened + bases)
-    pub homes_len : length s.homes ≡ bases
-    pub each_base : (b : ℕ) → b < bases → LockState ((now log).bases b) (get_elem? s.homes b) (slice_index s.words (lock_at b))
+    pub allowed : AreSystemSteps o.bases (length o.timers) (first_system o.timers) log
+    pub words_len : length s.words ≡ word_at o.bases (length o.timers + o.bases)
+    pub homes_len : length s.homes ≡ o.bases
+    pub each_base : (b : ℕ) → b < o.bases → LockState ((system_after o.timers log).bases b) (get_elem? s.homes b) (slice_index s.words (lock_at b))
         (total (holds_at b) s.views) (λ k. total (takes_at b k) s.views)
     -- a timer's word is that of its state after the history
-    pub each_timer : (t : ℕ) → t < length opened → slice_index s.words (word_at bases t) ≡ code ((now log).timers t)
+    pub each_timer : (t : ℕ) → t < length o.timers → slice_index s.words (word_at o.bases t) ≡ number_of ((system_after o.timers log).timers t)
     -- and a base's that of its standing
-    pub each_standing : (b : ℕ) → b < bases
-        → slice_index s.words (word_at bases (base_place (length opened) b)) ≡ standing_number ((now log).bases b).standing
+    pub each_standing : (b : ℕ) → b < o.bases
+        → slice_index s.words (word_at o.bases (base_place (length o.timers) b)) ≡ standing_number ((system_after o.timers log).bases b).standing
     pub each_view : (j : ℕ) (v : BaseView BaseContent) → get_elem? s.views j ≡ some v → PassHolds log s.words v
     pub tree : IsPassTree (map base_pass_id s.views)
     -- each entry is one pass's own, once
-    pub tally : (t k : ℕ) → t < length opened → total (places_at t k) s.views ≡ one_if (within k ((now log).timers t).stamp)
-    pub shifts : (b k : ℕ) → b < bases
-        → total (places_at (base_place (length opened) b) k) s.views ≡ one_if (within k ((now log).bases b).standing.stamp)
+    pub tally : (t k : ℕ) → t < length o.timers → total (places_at t k) s.views ≡ one_if (within k ((system_after o.timers log).timers t).stamp)
+    pub shifts : (b k : ℕ) → b < o.bases
+        → total (places_at (base_place (length o.timers) b) k) s.views ≡ one_if (within k ((system_after o.timers log).bases b).standing.stamp)
     -- a function runs where one pass has the claim, once
-    pub claims : (t g b : ℕ) → t < length opened → total (base_claims_at t g b) s.views ≡ one_if (runs g b ((now log).timers t))
+    pub claims : (t g b : ℕ) → t < length o.timers → total (base_claims_at t g b) s.views ≡ one_if (runs g b ((system_after o.timers log).timers t))
     -- a timer is on the move where one pass carries it
-    pub carriers : (t : ℕ) → t < length opened → total (carries_at t) s.views ≡ one_if ((now log).timers t).moving
+    pub carriers : (t : ℕ) → t < length o.timers → total (carries_at t) s.views ≡ one_if ((system_after o.timers log).timers t).moving
 
   -- there is one history of all timers that says it all
   abbrev pub HasOneHistory : State (Option BaseContent) (BaseView BaseContent) → Type 0

@@ -5,13 +5,12 @@ ghost use lib.ListN.{get_elem?};
 ghost use Rattle.atomic_table.specs.Table.{State};
 ghost use Rattle.pass_names.specs.SharedHistory.{ExtendsBy, LooksOn, MeetWith, TakesIn};
 ghost use Rattle.seq_timer.specs.Events.{Event};
-ghost use Rattle.seq_timer.specs.Steps.{Timer};
 ghost use Rattle.seq_timer.specs.declared.system.SystemEntry as entry;
 ghost use Rattle.seq_timer.specs.Systems.{BaseContent, IsOn, entries_of};
 ghost use Rattle.base_row.specs.declared.view.HeldContent as locked;
 ghost use Rattle.base_row.specs.declared.view.Opening as opening;
 ghost use Rattle.base_row.specs.declared.view.BaseView as view;
-ghost use Rattle.base_row.specs.Rules.{RowHolds, now, number_of};
+ghost use Rattle.base_row.specs.Rules.{RowHolds, timer_seen};
 ghost use Rattle.base_row.specs.Calls.{Absorbs, Appended, AreFresh, LearnsFrom, LetsGo, GetsBase, SeesFurther, Waits, known_of, own_entry};
 
 /// Taking a base's lock, letting it go and loading a word add no entry: what was seen goes on, and name, places and claims stay.
@@ -39,8 +38,8 @@ pub fn passes_tell_what_they_saw()
 
 /// What a pass that holds a base has seen of the timers on it, and of the one that it carries, is all that has happened to them.
 pub fn a_holder_has_seen_all_of_its_timers()
-    ensures { (bases : ℕ) (opened : List Timer) (log : List entry.SystemEntry) (s : State (Option BaseContent) (view.BaseView BaseContent))
-        → RowHolds bases opened number_of log s → (j : ℕ) (v : view.BaseView BaseContent) → get_elem? s.views j ≡ some v
-        → (h : locked.HeldContent BaseContent) → v.held ≡ Some h → (t : ℕ) → t < length opened
-        → (IsOn h.base ((now bases opened number_of v.seen).timers t) ⊎ (v.carry ≡ Some t)) → entries_of t log ≡ entries_of t v.seen }
+    ensures { (o : opening.Opening) (log : List entry.SystemEntry) (s : State (Option BaseContent) (view.BaseView BaseContent))
+        → RowHolds o log s → (j : ℕ) (v : view.BaseView BaseContent) → get_elem? s.views j ≡ some v
+        → (h : locked.HeldContent BaseContent) → v.held ≡ Some h → (t : ℕ) → t < length o.timers
+        → (IsOn h.base (timer_seen o v t) ⊎ (v.carry ≡ Some t)) → entries_of t log ≡ entries_of t v.seen }
 {}

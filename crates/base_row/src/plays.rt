@@ -14,10 +14,10 @@ pub type About = (u64, Snapshot<Vec<TimerState>>);
 pub struct BaseRule;
 
 impl TableRule<BaseCell, SlotView, About> for BaseRule {
-    ghost use Rattle.base_row.specs.Rules.{HasOneHistory, number_of};
+    ghost use Rattle.base_row.specs.Rules.{HasOneHistory};
     ghost use Rattle.base_row.specs.Plays.{first_base_view};
 
-    ghost holds = { λ k s. HasOneHistory k.0 k.1.value.items number_of s };
+    ghost holds = { λ k s. HasOneHistory (record { bases = k.0; timers = k.1.value.items }) s };
 
     ghost first = { λ k. first_base_view (record { bases = k.0; timers = k.1.value.items }) };
 }

@@ -5,12 +5,12 @@ ghost use mathlib.Core.Option.{none};
 ghost use Rattle.atomic_table.specs.Table.{step};
 ghost use Rattle.pass_names.specs.Names.{AnswersFor};
 ghost use Rattle.seq_timer.specs.Steps.{after};
-ghost use Rattle.base_row.specs.Rules.{base_place, number_of, standing_number};
+ghost use Rattle.base_row.specs.Rules.{base_place, number_of, standing_number, timer_seen};
 ghost use Rattle.seq_timer.specs.Standings.{standing_after};
 ghost use Rattle.seq_timer.specs.Systems.{BaseContent};
 ghost use Rattle.base_row.specs.declared.view.HeldContent.{HeldContent};
 ghost use Rattle.base_row.specs.Plays.{MayEnter, MayEnterShift, EnteredShift, OwnNeeds, EntersAs};
-ghost use Rattle.base_row.specs.Plays.{MayMeetLock, Met, TookBase, FoundTaken, LooksOwn, FreesOwn, KnowsBases, entry_of_event, seen_timer};
+ghost use Rattle.base_row.specs.Plays.{MayMeetLock, Met, TookBase, FoundTaken, LooksOwn, FreesOwn, KnowsBases, entry_of_event};
 ghost use Rattle.base_row.specs.Calls.{LearnsFrom, Absorbs};
 
 use crate::cell::BaseCell;
@@ -39,13 +39,13 @@ pub fn enter<K: EventPick>(
     requires word { (word ≡ word_at cells.now.key.0 timer) × (word < cells.now.table_id.words) }
     requires live { seat.old.me.0.id.live ≡ true }
     requires asked { K.event ≡ event.now }
-    requires may { (h : HeldContent BaseContent) × MayEnter cells.now.key.0 cells.now.key.1.value.items number_of seat.old.me.0 h
-        (entry_of_event cells.now.key.0 cells.now.key.1.value.items number_of seat.old.me.0 timer event.now) }
-    requires own { OwnNeeds seat.old.me.0 timer (seen_timer cells.now.key.0 cells.now.key.1.value.items number_of seat.old.me.0 timer) event.now }
-    requires stamp { stamp ≡ number_of (after (seen_timer cells.now.key.0 cells.now.key.1.value.items number_of seat.old.me.0 timer) event.now) }
+    requires may { (h : HeldContent BaseContent) × MayEnter (record { bases = cells.now.key.0; timers = cells.now.key.1.value.items }) seat.old.me.0 h
+        (entry_of_event (record { bases = cells.now.key.0; timers = cells.now.key.1.value.items }) seat.old.me.0 timer event.now) }
+    requires own { OwnNeeds seat.old.me.0 timer (timer_seen (record { bases = cells.now.key.0; timers = cells.now.key.1.value.items }) seat.old.me.0 timer) event.now }
+    requires stamp { stamp ≡ number_of (after (timer_seen (record { bases = cells.now.key.0; timers = cells.now.key.1.value.items }) seat.old.me.0 timer) event.now) }
     ensures same { seat.new.table_id ≡ seat.old.table_id }
     ensures entered { (h : HeldContent BaseContent) → seat.old.me.0.held ≡ Some h
-        → EntersAs cells.now.key.0 cells.now.key.1.value.items number_of h timer event.now seat.old.me seat.new.me }
+        → EntersAs (record { bases = cells.now.key.0; timers = cells.now.key.1.value.items }) h timer event.now seat.old.me seat.new.me }
 {
     cells.store::<Enter<K>>(seat, word, stamp)
 }
@@ -67,7 +67,7 @@ pub fn enter_shift<K: BaseEventPick>(
         × (stamp ≡ standing_number (standing_after h.content.standing event.now)) }
     ensures same { seat.new.table_id ≡ seat.old.table_id }
     ensures shifted { (h : HeldContent BaseContent) → seat.old.me.0.held ≡ Some h
-        → EnteredShift cells.now.key.0 cells.now.key.1.value.items number_of h event.now seat.old.me seat.new.me }
+        → EnteredShift (record { bases = cells.now.key.0; timers = cells.now.key.1.value.items }) h event.now seat.old.me seat.new.me }
 {
     cells.store::<Shift<K>>(seat, word, stamp)
 }
@@ -86,22 +86,22 @@ pub fn look(cells: &BaseCells, seat: &mut BaseSeat, word: usize) -> u64
 
 /// Loads a base's lock word.
 pub fn meet_lock(cells: &BaseCells, seat: &mut BaseSeat, base: u32, word: usize) -> u64
-    requires may { MayMeetLock cells.now.table_id cells.now.key.0 cells.now.key.1.value.items seat.old.table_id seat.old.me base word }
+    requires may { MayMeetLock cells.now.table_id (record { bases = cells.now.key.0; timers = cells.now.key.1.value.items }) seat.old.table_id seat.old.me base word }
     ensures same { seat.new.table_id ≡ seat.old.table_id }
-    ensures met { Met cells.now.key.0 cells.now.key.1.value.items number_of base seat.old.me result seat.new.me }
+    ensures met { Met (record { bases = cells.now.key.0; timers = cells.now.key.1.value.items }) base seat.old.me result seat.new.me }
 {
     cells.load::<Meet>(seat, word)
 }
 
 /// Takes a base's lock, if its word still is as it was met.
 pub fn take(cells: &BaseCells, seat: &mut BaseSeat, base: u32, word: usize, first: u64) -> bool
-    requires may { MayMeetLock cells.now.table_id cells.now.key.0 cells.now.key.1.value.items seat.old.table_id seat.old.me base word }
+    requires may { MayMeetLock cells.now.table_id (record { bases = cells.now.key.0; timers = cells.now.key.1.value.items }) seat.old.table_id seat.old.me base word }
     requires empty { seat.old.me.1 ≡ [] }
     requires known { (slice_index seat.old.me.0.met base ≡ first) × (first % 2 ≡ 0) × (first < 2 ^ 64 - 2) }
     ensures same { seat.new.table_id ≡ seat.old.table_id }
     ensures took { MatchBool result
-        ((k : ℕ) × (first + 2 ≡ k + k) × TookBase cells.now.key.0 cells.now.key.1.value.items number_of base k (first + 1) seat.old.me seat.new.me)
-        ((found : ℕ) × FoundTaken cells.now.key.0 cells.now.key.1.value.items number_of base first seat.old.me found seat.new.me) }
+        ((k : ℕ) × (first + 2 ≡ k + k) × TookBase (record { bases = cells.now.key.0; timers = cells.now.key.1.value.items }) base k (first + 1) seat.old.me seat.new.me)
+        ((found : ℕ) × FoundTaken (record { bases = cells.now.key.0; timers = cells.now.key.1.value.items }) base first seat.old.me found seat.new.me) }
 {
     cells.compare_exchange::<Take>(seat, word, first, first + 1) == first
 }
@@ -130,7 +130,7 @@ pub fn tell(cells: &BaseCells, from: &mut BaseSeat, to: &mut BaseSeat)
     ensures from { from.new.me ≡ from.old.me }
     ensures to { to.new.me.1 ≡ to.old.me.1 }
     ensures hears { LearnsFrom to.old.me.0 from.old.me.0 to.new.me.0 }
-    ensures knows { KnowsBases cells.now.key.0 cells.now.key.1.value.items number_of to.new.me.0 }
+    ensures knows { KnowsBases (record { bases = cells.now.key.0; timers = cells.now.key.1.value.items }) to.new.me.0 }
 {
     let note = cells.split_seat::<Note>(from);
     cells.join_seat::<Note>(to, note);
@@ -148,7 +148,7 @@ pub fn absorb(cells: &BaseCells, main: &mut BaseSeat, other: BaseSeat)
     ensures same { main.new.table_id ≡ main.old.table_id }
     ensures slots { main.new.me.1 ≡ main.old.me.1 }
     ensures retires { Absorbs main.old.me.0 other.me.0 main.new.me.0 }
-    ensures knows { KnowsBases cells.now.key.0 cells.now.key.1.value.items number_of main.new.me.0 }
+    ensures knows { KnowsBases (record { bases = cells.now.key.0; timers = cells.now.key.1.value.items }) main.new.me.0 }
 {
     cells.join_seat::<Child>(main, other);
     look(cells, main, 0);

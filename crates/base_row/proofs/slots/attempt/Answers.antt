@@ -3,8 +3,8 @@ use Rattle.std.specs.Prelude.{MatchOption}
 use Rattle.base_row.specs.declared.view.Opening.{Opening}
 use Rattle.base_row.specs.Plays.{SeatState, GotBase, Lost}
 use Rattle.base_row.proofs.Catching.{lost_at, told_after}
-use Rattle.base_row.proofs.slots.attempt.Goals as goal
 use Rattle.base_row.proofs.slots.attempt.Goals.{else-first-eq0-via-then-first-eq0+else-first-lt-LAST, else-first-eq0-via-else-first-eq0}
+use Rattle.base_row.proofs.slots.attempt.Goals as goal
 
 pub returns-else-first-eq0-clause-taken : goal.returns-else-first-eq0-clause-taken
 returns-else-first-eq0-clause-taken c =

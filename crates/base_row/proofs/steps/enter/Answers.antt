@@ -1,7 +1,6 @@
 use Rattle.base_row.specs.Places.{word_at}
 use Rattle.std.proofs.Common.{ap, sym, subst, ◌∙◌}
 use Rattle.base_row.specs.declared.view.Opening.{Opening}
-use Rattle.base_row.specs.Rules.{number_of}
 use Rattle.base_row.specs.Plays.{EntersAs}
 use Rattle.base_row.proofs.Entering.{enters_by}
 use Rattle.base_row.proofs.steps.enter.Goals as goal
@@ -12,7 +11,7 @@ store-requires g c =
     let key = c.args.cells.now.key in (
       c.requires.same,
       c.requires.word.1,
-      enters_by key.0 key.1.value.items seat.id seat.me.0 c.requires.may.0 c.args.timer c.args.event.now g.K.EventPick.event
+      enters_by (record { bases = key.0; timers = key.1.value.items }) seat.id seat.me.0 c.requires.may.0 c.args.timer c.args.event.now g.K.EventPick.event
           c.requires.about c.requires.asked c.requires.live c.requires.may.1 c.requires.own
           c.args.cells.now.table_id.slots seat.me.1 c.args.word c.args.stamp c.requires.word.0 c.requires.stamp,
     )
@@ -22,5 +21,5 @@ returns-clause-entered g c = λ h e.
     let seat = c.args.seat.now in
     let key = c.args.cells.now.key in
     let told = c.store.ensures.2 h c.args.timer e (c.requires.word.0 ∙ ap (λ (o : Opening). word_at o.bases c.args.timer) (sym c.requires.about)) in
-    subst (λ x. EntersAs key.0 key.1.value.items number_of h c.args.timer x seat.me c.store.new.seat.me) c.requires.asked
-    (subst (λ (o : Opening). EntersAs o.bases o.timers number_of h c.args.timer g.K.EventPick.event seat.me c.store.new.seat.me) c.requires.about told)
+    subst (λ x. EntersAs (record { bases = key.0; timers = key.1.value.items }) h c.args.timer x seat.me c.store.new.seat.me) c.requires.asked
+    (subst (λ (o : Opening). EntersAs o h c.args.timer g.K.EventPick.event seat.me c.store.new.seat.me) c.requires.about told)

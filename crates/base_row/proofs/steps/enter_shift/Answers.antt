@@ -1,6 +1,5 @@
 use Rattle.std.proofs.Common.{subst}
 use Rattle.base_row.specs.declared.view.Opening.{Opening}
-use Rattle.base_row.specs.Rules.{number_of}
 use Rattle.base_row.specs.Plays.{EnteredShift}
 use Rattle.base_row.proofs.Shifting.{shifts_by}
 use Rattle.base_row.proofs.steps.enter_shift.Goals as goal
@@ -12,7 +11,7 @@ store-requires g c =
     let may = c.requires.may in (
       c.requires.same,
       may.3,
-      shifts_by key.0 key.1.value.items seat.id seat.me.0 may.0 c.args.event.now g.K.BaseEventPick.event c.requires.about c.requires.asked c.requires.live
+      shifts_by (record { bases = key.0; timers = key.1.value.items }) seat.id seat.me.0 may.0 c.args.event.now g.K.BaseEventPick.event c.requires.about c.requires.asked c.requires.live
           may.1 c.args.cells.now.table_id.slots seat.me.1 c.args.word c.args.stamp may.2 may.4,
     )
 
@@ -21,5 +20,5 @@ returns-clause-shifted g c = λ h e.
     let seat = c.args.seat.now in
     let key = c.args.cells.now.key in
     let told = c.store.ensures.2 h e in
-    subst (λ x. EnteredShift key.0 key.1.value.items number_of h x seat.me c.store.new.seat.me) c.requires.asked
-    (subst (λ (o : Opening). EnteredShift o.bases o.timers number_of h g.K.BaseEventPick.event seat.me c.store.new.seat.me) c.requires.about told)
+    subst (λ x. EnteredShift (record { bases = key.0; timers = key.1.value.items }) h x seat.me c.store.new.seat.me) c.requires.asked
+    (subst (λ (o : Opening). EnteredShift o h g.K.BaseEventPick.event seat.me c.store.new.seat.me) c.requires.about told)

@@ -9,6 +9,6 @@ store-requires c =
       c.requires.same,
       held.4,
       rw (held.2)
-          (frees_by key.0 key.1.value.items seat.id seat.me.0 c.requires.about c.requires.live c.args.cells.now.table_id.slots held.0
+          (frees_by (record { bases = key.0; timers = key.1.value.items }) seat.id seat.me.0 c.requires.about c.requires.live c.args.cells.now.table_id.slots held.0
           c.args.word c.args.stored held.3 held.5 held.1),
     )

@@ -6,5 +6,5 @@ load-requires c =
     let seat = c.args.seat.now in
     let key = c.args.cells.now.key in
     let told =
-    looks_by key.0 key.1.value.items seat.id seat.me.0 c.requires.about c.requires.live c.args.cells.now.table_id.slots seat.me.1 c.args.word in
+    looks_by (record { bases = key.0; timers = key.1.value.items }) seat.id seat.me.0 c.requires.about c.requires.live c.args.cells.now.table_id.slots seat.me.1 c.args.word in
     (c.requires.same, c.requires.word, told)

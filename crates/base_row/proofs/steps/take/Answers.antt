@@ -1,8 +1,6 @@
-use Rattle.std.proofs.Common.{◌≡◌, ℕ, ◌+◌, ◌/◌, Bool, true, false, List, nat_eq, subst, ◌∙◌, arith}
+use Rattle.std.proofs.Common.{◌≡◌, ℕ, ◌+◌, ◌/◌, Bool, true, false, nat_eq, subst, ◌∙◌, arith}
 use Rattle.std.specs.Prelude.{MatchBool}
-use Rattle.seq_timer.specs.Steps.{Timer}
 use Rattle.base_row.specs.declared.view.Opening.{Opening}
-use Rattle.base_row.specs.Rules.{number_of}
 use Rattle.base_row.specs.Plays.{SeatState, TookBase, FoundTaken}
 use Rattle.base_row.proofs.Telling.{takes_by}
 use Rattle.base_row.proofs.steps.take.Goals as goal
@@ -15,25 +13,25 @@ compare_exchange-requires c =
       c.requires.may.same,
       c.requires.may.inside,
       rw (c.requires.empty)
-          (takes_by key.0 key.1.value.items seat.id seat.me.0 c.requires.may.about c.requires.may.live c.args.cells.now.table_id.slots c.args.base
+          (takes_by (record { bases = key.0; timers = key.1.value.items }) seat.id seat.me.0 c.requires.may.about c.requires.may.live c.args.cells.now.table_id.slots c.args.base
           c.args.word (c.args.first / 2) c.args.first (c.args.first + 1) c.requires.may.at c.requires.may.within c.requires.may.idle
           (c.requires.known.0 ∙ half) half (omega arith)),
     )
 
-loose : (bases : ℕ) (opened : List Timer) (b first found : ℕ) (hit : Bool) (me new : SeatState)
-    → MatchBool hit ((k : ℕ) × (first + 2 ≡ k + k) × TookBase bases opened number_of b k (first + 1) me new)
-    (FoundTaken bases opened number_of b first me found new)
-    → MatchBool hit ((k : ℕ) × (first + 2 ≡ k + k) × TookBase bases opened number_of b k (first + 1) me new) ((x : ℕ)
-    × FoundTaken bases opened number_of b first me x new)
-loose bases opened b first found true me new told = told
-loose bases opened b first found false me new told = (found, told)
+loose : (o : Opening) (b first found : ℕ) (hit : Bool) (me new : SeatState)
+    → MatchBool hit ((k : ℕ) × (first + 2 ≡ k + k) × TookBase o b k (first + 1) me new)
+    (FoundTaken o b first me found new)
+    → MatchBool hit ((k : ℕ) × (first + 2 ≡ k + k) × TookBase o b k (first + 1) me new) ((x : ℕ)
+    × FoundTaken o b first me x new)
+loose o b first found true me new told = told
+loose o b first found false me new told = (found, told)
 
 pub returns-clause-took : goal.returns-clause-took
 returns-clause-took c =
     let key = c.args.cells.now.key in
-    loose key.0 key.1.value.items c.args.base c.args.first c.compare_exchange.result
+    loose (record { bases = key.0; timers = key.1.value.items }) c.args.base c.args.first c.compare_exchange.result
     (nat_eq c.compare_exchange.result c.args.first) c.args.seat.now.me c.compare_exchange.new.seat.me
     (subst (λ (o : Opening). MatchBool (nat_eq c.compare_exchange.result c.args.first) ((k : ℕ) × (c.args.first + 2 ≡ k + k)
-    × TookBase o.bases o.timers number_of c.args.base k (c.args.first + 1) c.args.seat.now.me c.compare_exchange.new.seat.me)
-    (FoundTaken o.bases o.timers number_of c.args.base c.args.first c.args.seat.now.me c.compare_exchange.result
+    × TookBase o c.args.base k (c.args.first + 1) c.args.seat.now.me c.compare_exchange.new.seat.me)
+    (FoundTaken o c.args.base c.args.first c.args.seat.now.me c.compare_exchange.result
     c.compare_exchange.new.seat.me)) c.requires.may.about (c.compare_exchange.ensures.2 c.args.base c.requires.may.at))

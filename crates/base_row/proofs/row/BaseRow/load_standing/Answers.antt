@@ -6,9 +6,9 @@ use Rattle.seq_timer.specs.Standings.{IsStanding}
 use Rattle.seq_timer.specs.Systems.{BaseContent}
 use Rattle.base_row.specs.declared.view.Opening.{Opening}
 use Rattle.base_row.specs.Places.{word_at}
-use Rattle.base_row.specs.Rules.{base_place, number_of, standing_number}
+use Rattle.base_row.specs.Rules.{base_place, standing_number, base_seen}
 use Rattle.base_row.specs.Plays.{KnowsOwn, LoadedWord, LooksOwn, SeatState}
-use Rattle.base_row.specs.Calls.{BasePassOf, base_seen}
+use Rattle.base_row.specs.Calls.{BasePassOf}
 use Rattle.base_row.proofs.Holding.{knows_about}
 use Rattle.base_row.proofs.Placed.{standing_seen}
 use Rattle.base_row.proofs.row.BaseRow.load_standing.Goals as goal
@@ -23,7 +23,7 @@ read : (o : Opening) (few : o.bases ≤ 256) (st : Step (Option BaseContent)) (m
     → ((s : Standing) → s.stamp < 65536 → IfSome s.heir (λ h. h < 256) → standing_number s ≡ number → r ≡ s)
     → (r ≡ (base_seen o new.0 b).standing) × IsStanding b r
 read o few st me new number b r about looked knows at within back =
-    let told = subst (λ (q : Opening). LoadedWord q.bases q.timers number_of st me number new) about looked in
+    let told = subst (λ (q : Opening). LoadedWord q st me number new) about looked in
     let known = knows_about o new.0 (ap (λ (m : SeatState). m.0.opening) told.rest ∙ about) knows in
     let fits = standing_seen o new.0 known b in
     let is = back (base_seen o new.0 b).standing fits.stamp (heir_fits b o.bases (base_seen o new.0 b).standing.heir fits.heir within few)

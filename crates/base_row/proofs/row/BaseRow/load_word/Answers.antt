@@ -7,12 +7,12 @@ use Rattle.timer_word.specs.Words.{IsWord, packed}
 use Rattle.seq_timer.specs.declared.observation.Peek.{Peek}
 use Rattle.base_row.specs.declared.view.Opening.{Opening}
 use Rattle.base_row.specs.Places.{word_at}
-use Rattle.base_row.specs.Rules.{number_of}
 use Rattle.base_row.specs.Plays.{KnowsOwn, LoadedWord, LooksOwn, SeatState}
-use Rattle.base_row.specs.Calls.{AreFresh, BasePassOf, timer_seen}
+use Rattle.base_row.specs.Calls.{AreFresh, BasePassOf}
 use Rattle.base_row.proofs.Holding.{knows_about}
 use Rattle.base_row.proofs.Placed.{reads_back, placed_seen}
 use Rattle.base_row.proofs.row.BaseRow.load_word.Goals as goal
+use Rattle.base_row.specs.Rules.{timer_seen}
 
 -- the number that was loaded is read as the timer's word, of one of the bases
 read : (o : Opening) (fresh : AreFresh o.timers) (some : 0 < o.bases) (few : o.bases ≤ 256) (st : Step (Option BaseContent)) (me new : SeatState)
@@ -20,7 +20,7 @@ read : (o : Opening) (fresh : AreFresh o.timers) (some : 0 < o.bases) (few : o.b
     → t < length o.timers → ((w : Peek) → IsWord w → packed w ≡ number → r ≡ Some w)
     → (r ≡ Some (peek_of (timer_seen o new.0 t))) × ((timer_seen o new.0 t).base < o.bases)
 read o fresh some few st me new number t r about looked knows at within back =
-    let told = subst (λ (q : Opening). LoadedWord q.bases q.timers number_of st me number new) about looked in
+    let told = subst (λ (q : Opening). LoadedWord q st me number new) about looked in
     let known = knows_about o new.0 (ap (λ (m : SeatState). m.0.opening) told.rest ∙ about) knows in
     (reads_back o new.0 fresh known some few t number (told.timer t at within) r back, placed_seen o new.0 fresh known some t)
 

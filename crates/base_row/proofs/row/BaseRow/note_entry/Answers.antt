@@ -6,8 +6,8 @@ use Rattle.seq_timer.proofs.Effects.{by_effect, placed_by}
 use Rattle.base_row.specs.declared.log.Noted.TheVariants as noteds
 use Rattle.base_row.specs.declared.view.Opening.{Opening}
 use Rattle.base_row.specs.declared.view.BaseView.{BaseView}
-use Rattle.base_row.specs.Rules.{now, number_of}
-use Rattle.base_row.specs.Calls.{BasePassOf, BaseRowOf, Appended, stepped, timer_seen}
+use Rattle.base_row.specs.Rules.{number_of, base_seen, timer_seen}
+use Rattle.base_row.specs.Calls.{BasePassOf, BaseRowOf, Appended, stepped}
 use Rattle.base_row.proofs.Placed.{placed_seen}
 use Rattle.base_row.proofs.Holding.{Rested, knows_about, rested}
 use Rattle.base_row.proofs.row.BaseRow.note_entry.Given.{Over}
@@ -55,7 +55,7 @@ number_of-number-requires g c =
     let may = c.requires.may.1 in
     let t = timer_seen o v c.args.timer in
     let seen = placed_seen o v c.fresh.ensures.fresh (knows_about o v c.requires.row.about c.known.ensures) c.fresh.ensures.some c.args.timer in
-    let here = placed_by (BeginsInTurn ((now o.bases o.timers number_of v.seen).bases t.base) c.args.timer t) o.bases t c.args.event.now
+    let here = placed_by (BeginsInTurn (base_seen o v t.base) c.args.timer t) o.bases t c.args.event.now
     may.may.allowed.needs may.may.allowed.base.needs seen in
     record { base = omega (arith, c.fresh.ensures.few, here, ap (λ (x : Timer). x.base) (c.state-state.ensures ∙ c.requires.left)) }
 

@@ -2,7 +2,6 @@ use Rattle.std.proofs.Common.{Some, ◌∷◌, [], ap, subst, ◌∙◌}
 use Rattle.base_row.specs.declared.view.HeldContent.{HeldContent}
 use Rattle.base_row.specs.declared.view.Opening.{Opening}
 use Rattle.seq_timer.specs.Systems.{BaseContent}
-use Rattle.base_row.specs.Rules.{number_of}
 use Rattle.base_row.specs.Plays.{FreedBase}
 use Rattle.base_row.specs.Calls.{BasePassOf, LetsGo}
 use Rattle.base_row.proofs.Holding.{LetGo, let_go}
@@ -18,7 +17,7 @@ told c =
     let back = c.put_back.ensures.full in
     let mid = back ∙ ap (λ (x : HeldContent BaseContent). (me.0, (x.base, Some x.content) ∷ [])) c.held.view_is in
     let_go o h me c.put_back.new.seat.me c.free.new.seat.me about c.pass.invariant held c.requires.within mid
-    (subst (λ (x : Opening). FreedBase x.bases x.timers number_of h c.put_back.new.seat.me c.free.new.seat.me)
+    (subst (λ (x : Opening). FreedBase x h c.put_back.new.seat.me c.free.new.seat.me)
     (ap (λ m. m.0.opening) back ∙ about) (c.free.ensures.freed h (ap (λ m. m.0.held) back ∙ held)))
 
 pub invariant_of-pass : goal.invariant_of-pass

@@ -10,6 +10,6 @@ new-requires c =
     let timers = c.args.timers in
     let count : c.timer_index.result ≡ word_at c.args.bases (length timers.items + c.args.bases) = omega (arith, c.len-count.ensures, timers.ok.0) in
     rw (c.from.ensures, told)
-    (begins c.args.bases timers.items c.requires.fresh _ _
+    (begins (record { bases = c.args.bases; timers = timers.items }) c.requires.fresh _ _
     (c.as_slice-2.ensures.value ∙ (c.in_ok-words.ensures ∙ ap (λ n. replicate n 0) count))
     (c.in_ok-slots.ensures ∙ ap (λ l. replicate c.args.bases (Some (no_base l))) c.as_slice.ensures.value))
