@@ -1,16 +1,14 @@
 -- One entry more, of a timer whose base the seat holds: the rule stays, whatever the event is.
-use Rattle.base_row.specs.Places.{lock_at, word_at}
-use Rattle.std.proofs.Common.{◌≡◌, ℕ, eqb, ◌&&◌, ◌+◌, ◌<◌, ◌≢◌, true, List, [], ◌∷◌, ◌++◌, length, set, refl, ap, sym, ◌∙◌, subst, inl, inr, ⊎_elim, arith}
+use Rattle.base_row.specs.Places.{word_at}
+use Rattle.std.proofs.Common.{◌≡◌, ℕ, ◌+◌, ◌<◌, ◌≢◌, true, List, [], ◌∷◌, ◌++◌, length, refl, ap, sym, ◌∙◌, subst, inl, inr, ⊎_elim, arith}
 use Rattle.std.specs.Prelude.{slice_index, slice_set, Option}
-use Rattle.std.proofs.lemmas.Bool.{cases_Bool, cases_eq, eq-eqb, ne_eqb, true≢false}
-use Rattle.std.proofs.lemmas.List.{get_or-set_other}
+use Rattle.std.proofs.lemmas.Bool.{cases_Bool, cases_eq}
 use mathlib.Core.Option.{some, none}
 use lib.ListN.{get_elem?}
 use Rattle.atomic_table.specs.Table.{State, step, stepped, carried_after, keeps, Allows}
 use Rattle.pass_names.specs.Counts.{one_if}
 use Rattle.pass_names.specs.Passes.{within}
 use Rattle.pass_names.proofs.Counts.{set_there}
-use Rattle.pass_names.proofs.Passes.{begins_refl, begins_nil, count_place, within_more}
 use Rattle.seq_timer.specs.Steps.{Timer, Needs, after, reply_to}
 use Rattle.seq_timer.specs.declared.system.SystemEntry.{SystemEntry}
 use Rattle.seq_timer.specs.declared.system.TimerEntry.{TimerEntry}
@@ -22,15 +20,22 @@ use Rattle.seq_timer.specs.Events.{Event}
 use Rattle.base_row.proofs.Events.{go_along}
 use Rattle.seq_timer.specs.Systems.{BaseContent, System, first_system, after_entry, changed, IsSystemStep, FitsBase, system_after}
 use Rattle.seq_timer.specs.declared.system.SystemEntry.TheVariants as entries
-use Rattle.base_row.specs.Rules.{base_place, held_in, places_at, base_claims_at, holds_at, carries_at, runs, HeldHolds, PassHolds, RowHolds, HasOneHistory, number_of, timer_seen}
+use Rattle.base_row.specs.Rules.{runs, HeldHolds, PassHolds, RowHolds, HasOneHistory, number_of, timer_seen, standing_number, carried_in, is_base_claim, has, Claim, Carry}
 use Rattle.base_row.specs.Plays.{SeatState, having_entered, GoAlong, MayEnter, EnteredTimer, OwnNeeds}
 use Rattle.base_row.specs.Plays.{EntersAs, EntersBy, entry_of_event, claims_with_event, carry_after}
-use Rattle.seq_timer.proofs.Systems.{after_entries-append, base_here, timer_here, timer_else}
+use Rattle.seq_timer.proofs.Systems.{after_entries-append, base_else, base_here, shifts_of-append, standing_same, steps_push, timer_here, timer_else}
+use Rattle.pass_names.specs.Counts.{count, total}
+use Rattle.pass_names.proofs.Counts.{total_at}
+use Rattle.std.proofs.lemmas.List.{append-nil}
+use Rattle.seq_timer.specs.declared.standing.Standing.{Standing}
+use Rattle.seq_timer.specs.Systems.{shifts_of}
+use Rattle.std.proofs.Common.{◌⊎◌}
 use Rattle.seq_timer.proofs.Limits.{stamp-after}
 use Rattle.base_row.proofs.Begun.{same_own}
-use Rattle.base_row.proofs.Frames.{some_same, holds_one, carries_one, entered}
+use Rattle.base_row.proofs.Frames.{some_same, carries_one}
 use Rattle.base_row.proofs.Stable.{stable}
 use Rattle.base_row.proofs.Knowing.{knows_of}
+use Rattle.base_row.proofs.Adding.{Goes, added}
 
 module _ (o : Opening) (id : ℕ) (v : BaseView BaseContent) (h : HeldContent BaseContent) (e : TimerEntry)
     (claims : List Claimed) (carry : Option ℕ)
@@ -99,97 +104,54 @@ module _ (o : Opening) (id : ℕ) (v : BaseView BaseContent) (h : HeldContent Ba
         (subst (λ q. changed e.timer t e.event (w.bases q) ≡ w'.bases q) here
         (subst (λ x. changed e.timer x e.event (w.bases (w.timers e.timer).base) ≡ w'.bases (w.timers e.timer).base) same_timer put))
 
-    abbrev new_words : List ℕ
-    new_words = set s.words (word_at o.bases e.timer) (number_of (w'.timers e.timer))
+    bases_else : (b : ℕ) → b ≢ h.base → w'.bases b ≡ w.bases b
+    bases_else b apart = ap (λ (x : System). x.bases b) followed ∙ base_else w e b (λ q. apart (q ∙ here))
 
-    lock_same : (b : ℕ) → b < o.bases → slice_index new_words (lock_at b) ≡ slice_index s.words (lock_at b)
-    lock_same b inside = get_or-set_other s.words (word_at o.bases e.timer) (lock_at b) (number_of (w'.timers e.timer)) 0 (λ q. omega arith)
+    standings : (b : ℕ) → (w'.bases b).standing ≡ (w.bases b).standing
+    standings b = ap (λ (x : System). (x.bases b).standing) followed ∙ standing_same w e b
 
-    holds_same : (b : ℕ) → holds_at b v' ≡ holds_at b v
-    holds_same b = ap (held_in b) (sym may.held)
+    within_all : e.timer < length o.timers + o.bases
+    within_all = omega (arith, may.allowed.within)
 
-    fits' : PassHolds o (log ++ entries.Timer e ∷ []) new_words v'
-    fits' = record {
-      seen = begins_refl (log ++ entries.Timer e ∷ []);
-      heard = begins_nil (log ++ entries.Timer e ∷ []);
-      held = λ g q. let r : record { base = h.base; word = h.word; content = changed e.timer t e.event h.content } ≡ g = cc in subst
-          (λ x. HeldHolds o (log ++ entries.Timer e ∷ []) new_words v' x) r
-          (record { within = holds.within; seen = new_base; whole = new_base; word = lock_same h.base holds.within ∙ holds.word; number = holds.number });
-      carry = λ k q. refl;
-      wide = fits.wide;
-      full = fits.full;
-      met = λ b inside. omega (arith, fits.met b inside, lock_same b inside);
-      takes = λ b k some_one. omega (arith, fits.takes b k some_one, holds_same b);
-      first = λ alive name b. refl;
-      gone = λ off. absurd (true≢false (sym live ∙ off));
-    }
-
-    places : (k i : ℕ) → places_at k i v' + one_if (within i (w.timers k).stamp) ≡ places_at k i v + one_if (within i (w'.timers k).stamp)
-    places k i =
-        let more = count_place e.timer k i (t.stamp + 1) v.mine in
-        ⊎_elim
-        (λ (q : k ≡ e.timer). omega (
-          arith,
-          more,
-          ap (λ x. one_if (x && eqb (t.stamp + 1) i)) (eq-eqb e.timer k (sym q)),
-          ap (λ x. one_if (within i (w.timers x).stamp)) q,
-          ap (λ (x : Timer). one_if (within i x.stamp)) same_timer,
-          ap (λ x. one_if (within i (w'.timers x).stamp)) q,
-          ap (λ (x : Timer). one_if (within i x.stamp)) new_timer,
-          ap (λ x. one_if (within i x)) (stamp-after t e.event).0,
-          within_more i t.stamp,
-        ))
-        (λ apart. omega (
-          arith,
-          more,
-          ap (λ x. one_if (x && eqb (t.stamp + 1) i)) (ne_eqb e.timer k (λ q. apart (sym q))),
-          ap
-              (λ (x : Timer). one_if (within i x.stamp)) (timers_else k apart),
-        ))
+    -- what holds of the timer, as the pass has seen it, and of all others, holds of each
+    each : (P : ℕ → Timer → Timer → Type 0) → P e.timer t (after t e.event) → ((k : ℕ) → k ≢ e.timer → P k (w.timers k) (w.timers k))
+        → (k : ℕ) → P k (w.timers k) (w'.timers k)
+    each P own apart k = ⊎_elim
+        (λ (q : k ≡ e.timer). subst (λ y. P y (w.timers y) (w'.timers y)) (sym q)
+        (subst (λ x. P e.timer x (w'.timers e.timer)) (sym same_timer) (subst (λ x. P e.timer t x) (sym new_timer) own)))
+        (λ n. subst (λ x. P k (w.timers k) x) (sym (timers_else k n)) (apart k n))
         (cases_eq k e.timer)
 
-    places_else : (c i : ℕ) → places_at (base_place n c) i v' ≡ places_at (base_place n c) i v
-    places_else c i = omega (
-      arith,
-      count_place e.timer (base_place n c) i (t.stamp + 1) v.mine,
-      ap (λ x. one_if (x && eqb (t.stamp + 1) i)) (ne_eqb e.timer (base_place n c) (λ q. omega (arith, q, may.allowed.within))),
-    )
+    carried : (k : ℕ) → carried_in k carry + one_if (w.timers k).moving ≡ has o (Carry k) v + one_if (w'.timers k).moving
+    carried = each (λ k was is. carried_in k carry + one_if was.moving ≡ has o (Carry k) v + one_if is.moving)
+        along.carry_here (λ k n. omega (arith, along.carry_else k n))
 
-    claimed : (k g b : ℕ) → base_claims_at k g b v' + one_if (runs g b (w.timers k)) ≡ base_claims_at k g b v + one_if (runs g b (w'.timers k))
-    claimed k g b =
-        ⊎_elim
-        (λ (q : k ≡ e.timer). subst (λ x. base_claims_at x g b v' + one_if (runs g b (w.timers x))
-        ≡ base_claims_at x g b v + one_if (runs g b (w'.timers x))) (sym q)
-        (omega (arith, along.own g b, ap (λ x. one_if (runs g b x)) same_timer, ap (λ x. one_if (runs g b x)) new_timer)))
-        (λ apart. omega (arith, along.apart k g b apart, ap (λ x. one_if (runs g b x)) (timers_else k apart)))
-        (cases_eq k e.timer)
-
-    carried : (k : ℕ) → carries_at k v' + one_if (w.timers k).moving ≡ carries_at k v + one_if (w'.timers k).moving
-    carried k =
-        ⊎_elim
-        (λ (q : k ≡ e.timer). subst (λ x. carries_at x v' + one_if (w.timers x).moving ≡ carries_at x v + one_if (w'.timers x).moving) (sym q)
-        (omega (arith, along.carry_here, ap (λ (x : Timer). one_if x.moving) same_timer, ap (λ (x : Timer). one_if x.moving) new_timer)))
-        (λ apart. omega (arith, along.carry_else k apart, ap (λ (x : Timer). one_if x.moving) (timers_else k apart)))
-        (cases_eq k e.timer)
+    -- the timer is the pass's own where it is on the move
+    moves : (total (has o (Carry e.timer)) s.views ≡ has o (Carry e.timer) v)
+    moves = ⊎_elim
+        (λ m. omega (arith, total_at (has o (Carry e.timer)) s.views id v at, home.tokens (Carry e.timer) may.allowed.within, carries_one v e.timer (may.carries m),
+        ap (λ (x : Timer). one_if x.moving) same_timer, ap one_if m))
+        (λ still. omega (arith, total_at (has o (Carry e.timer)) s.views id v at, home.tokens (Carry e.timer) may.allowed.within,
+        ap (λ (x : Timer). one_if x.moving) same_timer, ap one_if still))
+        (cases_Bool t.moving)
 
     pub enters_home : RowHolds o (log ++ entries.Timer e ∷ []) record {
-      words = slice_set s.words (word_at o.bases e.timer)
-          (number_of (after t e.event));
+      words = slice_set s.words (word_at o.bases e.timer) (number_of (after t e.event));
       homes = s.homes;
       views = slice_set s.views id v';
     }
-    enters_home =
-        subst (λ x. RowHolds o (log ++ entries.Timer e ∷ []) record {
-          words = slice_set s.words (word_at o.bases e.timer)
-              (number_of x);
-          homes = s.homes;
-          views = slice_set s.views id v';
-        }) new_timer
-        (entered o log s home id v v' e at ok
-        (ap (λ q. holds_at q v) here ∙ holds_one v h may.held)
-        (λ moves. carries_one v e.timer (may.carries (ap (λ (x : Timer). x.moving) (sym same_timer) ∙ moves)))
-        fits' (record { holds = holds_same; takes = λ b k. refl }) refl
-        (λ k i inside. places k i) (λ c i. places_else c i) (λ k g b inside. claimed k g b) (λ k inside. carried k))
+    enters_home = added o log s home id v h at live may.held (entries.Timer e) e.timer (t.stamp + 1) (number_of (after t e.event))
+        (changed e.timer t e.event h.content) claims carry within_all
+        (steps_push o.bases n (first_system o.timers) log (entries.Timer e) home.allowed ok) new_base bases_else
+        (λ k r. each (λ k was is. Goes o log s home id v h at live may.held (entries.Timer e) e.timer (t.stamp + 1) (number_of (after t e.event))
+        (changed e.timer t e.event h.content) claims carry within_all k was.stamp is.stamp (number_of was) (number_of is))
+        (inl (refl, refl, (stamp-after t e.event).0, refl)) (λ k n. inr (n, refl, refl)) k)
+        (λ b r. inr ((λ q. omega (arith, q, may.allowed.within)), ap (λ (x : Standing). x.stamp) (standings b), ap standing_number (standings b)))
+        (λ k g b. each (λ k was is. count (is_base_claim k g b) claims + one_if (runs g b was) ≡ has o (Claim k g b) v + one_if (runs g b is))
+        (along.own g b) (λ k n. omega (arith, along.apart k g b n)) k)
+        carried
+        (λ k. each (λ k was is. (total (has o (Carry k)) s.views ≡ has o (Carry k) v) ⊎ (is ≡ was)) (inl moves) (λ k n. inr refl) k)
+        (inr (λ b. shifts_of-append b log (entries.Timer e ∷ []) ∙ append-nil (shifts_of b log)))
 
   -- the store of the timer's new word adds the entry
   pub enters : (slots : ℕ) (slot : List (ℕ × Option BaseContent)) → GoAlong t e v claims carry
@@ -208,12 +170,7 @@ module _ (o : Opening) (id : ℕ) (v : BaseView BaseContent) (h : HeldContent Ba
           shifts = λ name b. sym ((home.each_view id v at).first live name b);
           own = same_own (first_system o.timers) e.timer v.seen log (home.each_view id v at).seen (same_timer log s home at along);
           rest = refl;
-          knows = knows_of o (log ++ entries.Timer e ∷ []) record {
-            words = slice_set s.words (word_at o.bases e.timer)
-                (number_of (after t e.event));
-            homes = s.homes;
-            views = slice_set s.views id v';
-          } next id v' (set_there s.views id v v' at) live refl;
+          knows = knows_of o _ id v' next (set_there s.views id v v' at) live;
         },
       )
 

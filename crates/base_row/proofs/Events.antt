@@ -14,7 +14,7 @@ use Rattle.pass_names.proofs.Counts.{total-append, count-without_first}
 use Rattle.base_row.specs.declared.view.Claimed.{Claimed}
 use Rattle.base_row.specs.declared.view.BaseView.{BaseView}
 use Rattle.seq_timer.specs.Systems.{BaseContent}
-use Rattle.base_row.specs.Rules.{base_claims_at, carried_in, is_base_claim, is_generation, runs}
+use Rattle.base_row.specs.Rules.{carried_in, is_base_claim, is_generation, runs}
 use Rattle.base_row.specs.Plays.{CarriesAlone, GoAlong, OwnNeeds, OwnNeedsBy, carried_by, carry_after, claims_by, claims_with_event}
 
 none_runs : (g b : ℕ) (t : Timer) → t.running ≡ None → one_if (runs g b t) ≡ 0
@@ -44,7 +44,7 @@ let_go id k g b r base c e = let t = claim_is id r base c e in rw (t.0, t.1.0, t
 
 -- what an event needs of its pass, taken apart
 own_claims : (v : BaseView BaseContent) (id : ℕ) (t : Timer) (by_claimer : Bool) (sent : Option ℕ) → OwnNeedsBy by_claimer sent v id t → by_claimer ≡ true
-    → 0 < base_claims_at id (unwrap_or t.running 0) t.base v
+    → 0 < count (is_base_claim id (unwrap_or t.running 0) t.base) v.claims
 own_claims v id t false sent own is = absurd (false≢true is)
 own_claims v id t true None own is = own
 own_claims v id t true (Some base) own is = own.0
@@ -105,19 +105,19 @@ runs_same g b t now None is needs same = λ i. one_if (is_generation g (same i) 
 runs_same g b t now (Some base) is needs same = none_runs g b now needs.2 ∙ sym (none_runs g b t needs.0)
 
 module _ (v : BaseView BaseContent) (id : ℕ) (t now : Timer) (by_claimer : Bool)
-    (claimed : by_claimer ≡ true → 0 < base_claims_at id (unwrap_or t.running 0) t.base v) where
+    (claimed : by_claimer ≡ true → 0 < count (is_base_claim id (unwrap_or t.running 0) t.base) v.claims) where
   abbrev kept : RunEffect → ℕ → ℕ → ℕ → ℕ
   kept f k g b = count (is_base_claim k g b) (claims_by f id t v.claims)
 
   -- of a function that ends its claim is gone
   gone : by_claimer ≡ true → (k g b : ℕ)
-      → kept functions.Ends k g b + one_if (eqb id k && (eqb (unwrap_or t.running 0) g && eqb t.base b)) ≡ base_claims_at k g b v
+      → kept functions.Ends k g b + one_if (eqb id k && (eqb (unwrap_or t.running 0) g && eqb t.base b)) ≡ count (is_base_claim k g b) v.claims
   gone is k g b = count-without_first (is_base_claim id (unwrap_or t.running 0) t.base) (is_base_claim k g b)
       (eqb id k && (eqb (unwrap_or t.running 0) g && eqb t.base b)) (let_go id k g b (unwrap_or t.running 0) t.base) v.claims (claimed is)
 
   claims_here : (f : RunEffect) → now.running ≡ running_afterwards f t → RunNeeds f by_claimer t now
       → ((g b : ℕ) → now.running ≡ t.running → one_if (runs g b now) ≡ one_if (runs g b t))
-      → (g b : ℕ) → kept f id g b + one_if (runs g b t) ≡ base_claims_at id g b v + one_if (runs g b now)
+      → (g b : ℕ) → kept f id g b + one_if (runs g b t) ≡ count (is_base_claim id g b) v.claims + one_if (runs g b now)
   claims_here functions.Stays running needs same g b = omega (arith, same g b running)
   claims_here (functions.Begins reading) running needs same g b = omega (
     arith,
@@ -138,7 +138,7 @@ module _ (v : BaseView BaseContent) (id : ℕ) (t now : Timer) (by_claimer : Boo
     none_runs g b now running,
   )
 
-  claims_else : (f : RunEffect) → RunNeeds f by_claimer t now → (k g b : ℕ) → k ≢ id → kept f k g b ≡ base_claims_at k g b v
+  claims_else : (f : RunEffect) → RunNeeds f by_claimer t now → (k g b : ℕ) → k ≢ id → kept f k g b ≡ count (is_base_claim k g b) v.claims
   claims_else functions.Stays needs k g b n = refl
   claims_else (functions.Begins reading) needs k g b n = omega (
     arith,

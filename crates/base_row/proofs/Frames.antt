@@ -1,190 +1,173 @@
 -- What a step has to show of the base or the timer and the seat that it changes; all else stays.
 use Rattle.base_row.specs.Places.{lock_at, word_at}
-use Rattle.std.proofs.Common.{◌≡◌, ℕ, ◌+◌, ◌<◌, ◌≤◌, ◌≢◌, true, List, [], ◌∷◌, ◌++◌, length, map, set, refl, ap, sym, ◌∙◌, subst, ⊎_elim, arith}
+use Rattle.std.proofs.Common.{◌≡◌, ℕ, ◌+◌, ◌<◌, ◌≤◌, ◌≢◌, true, List, [], ◌∷◌, ◌++◌, length, map, set, refl, ap, sym, ◌∙◌, subst, ⊎_elim, arith, true≢false, ◌⊎◌, ◌%◌, inl, inr, None}
 use Rattle.std.specs.Prelude.{slice_index, slice_set, Option, Some}
-use Rattle.std.proofs.lemmas.Bool.{cases_eq, cases_Bool, eq-eqb}
-use Rattle.std.proofs.lemmas.List.{append-nil, length-set, get_or-set_same, get_or-set_other, map-append, map-set}
+use Rattle.std.proofs.lemmas.Bool.{cases_eq, eq-eqb}
+use Rattle.std.proofs.lemmas.List.{length-set, get_or-set_same, get_or-set_other, map-append, map-set}
 use mathlib.Core.Option.{some}
 use lib.ListN.{get_elem?}
 use Rattle.atomic_table.specs.Table.{State}
-use Rattle.atomic_table.proofs.Lists.{at_set, at_snoc, set_here, set_else}
+use Rattle.atomic_table.proofs.Lists.{at_set, at_snoc, set_here, set_else, at_map}
 use Rattle.pass_names.specs.Counts.{one_if, total}
 use Rattle.pass_names.specs.Names.{IsPassTree}
 use Rattle.pass_names.specs.Passes.{Begins, within}
-use Rattle.pass_names.proofs.Counts.{total-append, total_set, total_at, total_two, map_kept}
-use Rattle.pass_names.proofs.Passes.{begins_refl, begins_trans, begins_more}
+use Rattle.pass_names.proofs.Counts.{total-append, total_set, total_two, map_kept}
+use Rattle.pass_names.proofs.Passes.{begins_refl, begins_trans, begins_nil}
 use Rattle.seq_timer.specs.declared.system.SystemEntry.{SystemEntry}
-use Rattle.seq_timer.specs.declared.system.TimerEntry.{TimerEntry}
 use Rattle.base_row.specs.declared.view.HeldContent.{HeldContent}
 use Rattle.base_row.specs.declared.view.BaseView.{BaseView}
-use Rattle.seq_timer.specs.declared.standing.Standing.{Standing}
 use Rattle.seq_timer.specs.declared.system.SystemEntry.TheVariants as entries
-use Rattle.seq_timer.specs.Systems.{BaseContent, System, first_system, after_entry, shifts_of, IsSystemStep, system_after}
-use Rattle.base_row.specs.Rules.{base_pass_id, base_place, standing_number, held_in, carried_in, places_at, base_claims_at, holds_at, number_of}
-use Rattle.base_row.specs.Rules.{carries_at, takes_at, runs, LockState, PassHolds, RowHolds}
-use Rattle.seq_timer.proofs.Systems.{after_entries-append, steps_push, base_else, shifts_of-append, standing_same, timer_else}
+use Rattle.seq_timer.specs.Systems.{BaseContent, System, shifts_of, system_after}
+use Rattle.base_row.specs.Rules.{base_pass_id, base_place, held_in, carried_in, HeldHolds, Token, has, owed, slot_of, IsIn, Place, Carry, Hold}
+use Rattle.base_row.specs.Rules.{takes_at, PassHolds, RowHolds}
 use Rattle.base_row.specs.declared.view.Opening.{Opening}
-
--- the same locks are held and were taken
-pub record SameLocks (v v' : BaseView BaseContent) : Type 0 where
-  pub holds : (b : ℕ) → holds_at b v' ≡ holds_at b v
-  pub takes : (b k : ℕ) → takes_at b k v' ≡ takes_at b k v
-
--- the pass has the same name, places, claims and carry
-pub record SameWork (v v' : BaseView BaseContent) : Type 0 where
-  pub id : base_pass_id v' ≡ base_pass_id v
-  pub places : (t k : ℕ) → places_at t k v' ≡ places_at t k v
-  pub claims : (t g b : ℕ) → base_claims_at t g b v' ≡ base_claims_at t g b v
-  pub carries : (t : ℕ) → carries_at t v' ≡ carries_at t v
-
--- so many passes have together as much of this as others had
-abbrev pub SameTotal : (old new : List (BaseView BaseContent)) (f : BaseView BaseContent → ℕ) → Type 0
-SameTotal old new f = total f new ≡ total f old
-
--- and as much of each kind
-pub record SameTotals (old new : List (BaseView BaseContent)) : Type 0 where
-  pub places : (t k : ℕ) → SameTotal old new (places_at t k)
-  pub claims : (t g b : ℕ) → SameTotal old new (base_claims_at t g b)
-  pub holds : (b : ℕ) → SameTotal old new (holds_at b)
-  pub takes : (b k : ℕ) → SameTotal old new (takes_at b k)
-  pub carries : (t : ℕ) → SameTotal old new (carries_at t)
-
-totalled : (a b old new : List (BaseView BaseContent)) → SameTotals a b
-    → ((f : BaseView BaseContent → ℕ) → SameTotal a b f → SameTotal old new f) → SameTotals old new
-totalled a b old new same on = record {
-  places = λ t k. on (places_at t k) (same.places t k);
-  claims = λ t g b. on (base_claims_at t g b) (same.claims t g b);
-  holds = λ b. on (holds_at b) (same.holds b);
-  takes = λ b k. on (takes_at b k) (same.takes b k);
-  carries = λ t. on (carries_at t) (same.carries t);
-}
-
-pub sum_same : (f : BaseView BaseContent → ℕ) (vs : List (BaseView BaseContent)) (id : ℕ) (v v' : BaseView BaseContent) → get_elem? vs id ≡ some v
-    → f v' ≡ f v → total f (set vs id v') ≡ total f vs
-sum_same f vs id v v' at e = omega (arith, total_set f vs id v v' at)
+use Rattle.pass_names.proofs.Names.{one_name}
+use Rattle.pass_names.specs.declared.PassId.{PassId}
 
 pub views_on : (P : BaseView BaseContent → Type 0) (vs : List (BaseView BaseContent)) (id : ℕ) (v' : BaseView BaseContent) → P v'
     → ((j : ℕ) (u : BaseView BaseContent) → j ≢ id → get_elem? vs j ≡ some u → P u)
     → (j : ℕ) (u : BaseView BaseContent) → get_elem? (set vs id v') j ≡ some u → P u
 views_on P vs id v' here else j u e = ⊎_elim (λ t. subst P t.1 here) (λ t. else j u t.0 t.1) (at_set vs id j v' u e)
 
-pub cell_on : (c c' : BaseContent) (home : mathlib.Core.Option.Option (mathlib.Core.Option.Option (Option BaseContent)))
-    (word held held' : ℕ) (takes takes' : ℕ → ℕ)
-    → LockState c home word held takes → held' ≡ held → ((k : ℕ) → takes' k ≡ takes k) → (held ≡ 0 → c' ≡ c) → LockState c' home word held' takes'
-cell_on c c' home word held held' takes takes' cell e f g = record {
-  taken = cell.taken;
-  number = omega (arith, cell.number);
-  once = omega (arith, cell.once);
-  free = λ z. let o : held ≡ 0 = omega arith in cell.free o ∙ ap (λ x. some (some (Some x))) (sym (g o));
-  out = λ z. cell.out (omega arith);
-  each = λ k. f k ∙ cell.each k;
-}
+-- What holds of each number that stands at a place of its own in a list, once one of them was written.
+each_set : (place : ℕ → ℕ) → ((c b : ℕ) → place c ≡ place b → c ≡ b) → (xs : List ℕ) (b x : ℕ) (P : ℕ → ℕ → Type 0) → place b < length xs → P b x
+    → ((c : ℕ) → c ≢ b → P c (slice_index xs (place c))) → (c : ℕ) → P c (slice_index (set xs (place b) x) (place c))
+each_set place apart xs b x P inside here else c = ⊎_elim
+    (λ (e : c ≡ b). subst (λ q. P q (slice_index (set xs (place b) x) (place q))) (sym e)
+    (subst (λ y. P b y) (sym (get_or-set_same xs (place b) x 0 inside)) here))
+    (λ n. subst (λ y. P c y) (sym (get_or-set_other xs (place b) (place c) x 0 (λ e. n (apart c b e)))) (else c n))
+    (cases_eq c b)
+
+-- a lock word; and a word that a pass knows
+pub at_lock : (words : List ℕ) (b word : ℕ) (P : ℕ → ℕ → Type 0) → lock_at b < length words → P b word
+    → ((c : ℕ) → c ≢ b → P c (slice_index words (lock_at c))) → (c : ℕ) → P c (slice_index (set words (lock_at b) word) (lock_at c))
+at_lock = each_set lock_at (λ c b e. omega arith)
+
+pub at_met : (met : List ℕ) (b word : ℕ) (P : ℕ → ℕ → Type 0) → b < length met → P b word
+    → ((c : ℕ) → c ≢ b → P c (slice_index met c)) → (c : ℕ) → P c (slice_index (set met b word) c)
+at_met = each_set (λ b. b) (λ c b e. e)
 
 pub some_same : (h g : HeldContent BaseContent) → Some h ≡ Some g → h ≡ g
 some_same h g e = cc
 
-pub holds_one : (v : BaseView BaseContent) (h : HeldContent BaseContent) → v.held ≡ Some h → holds_at h.base v ≡ 1
+pub no_lock : (h : HeldContent BaseContent) → None ≡ Some h → ⊥
+no_lock h e = cc
+
+pub holds_one : (v : BaseView BaseContent) (h : HeldContent BaseContent) → v.held ≡ Some h → held_in h.base v.held ≡ 1
 holds_one v h e = ap (held_in h.base) e ∙ ap one_if (eq-eqb h.base h.base refl)
 
-pub carries_one : (v : BaseView BaseContent) (t : ℕ) → v.carry ≡ Some t → carries_at t v ≡ 1
+pub carries_one : (v : BaseView BaseContent) (t : ℕ) → v.carry ≡ Some t → carried_in t v.carry ≡ 1
 carries_one v t e = ap (carried_in t) e ∙ ap one_if (eq-eqb t t refl)
 
-module _ (o : Opening) where
-  -- what a seat knows stays true where the history goes on, but for what it holds and carries, and no lock word falls
-  pub fits_on : (log log' : List SystemEntry) (words words' : List ℕ) (v : BaseView BaseContent) → PassHolds o log words v → Begins log log'
-      → ((b : ℕ) → b < o.bases → slice_index words (lock_at b) ≤ slice_index words' (lock_at b))
-      → ((h : HeldContent BaseContent) → v.held ≡ Some h → ((system_after o.timers log').bases h.base ≡
-      (system_after o.timers log).bases h.base) × (slice_index words' (lock_at h.base) ≡ slice_index words (lock_at h.base)))
-      → ((t : ℕ) → v.carry ≡ Some t → (system_after o.timers log').timers t ≡ (system_after o.timers log).timers t)
-      → (v.id.live ≡ true → v.id.name ≡ [] → (b : ℕ) → shifts_of b log' ≡ shifts_of b log)
-      → PassHolds o log' words' v
-  fits_on log log' words words' v fits more rise holds carries shifts = record {
-    seen = begins_trans fits.seen more;
-    heard = begins_trans fits.heard more;
-    held = λ h e. let t = fits.held h e in let u = holds h e in record {
-      within = t.within;
-      seen = t.seen;
-      whole = t.whole
-          ∙ sym u.0;
-      word = u.1 ∙ t.word;
-      number = t.number;
-    };
-    carry = λ t e. fits.carry t e ∙ sym (carries t e);
-    wide = fits.wide;
-    full = fits.full;
-    met = λ b h. omega (arith, fits.met b h, rise b h);
-    takes = fits.takes;
-    first = λ live name b. fits.first live name b ∙ sym (shifts live name b);
-    gone = fits.gone;
+-- what a pass has depends neither on its name nor on what it has seen and met
+pub has_kept : (o : Opening) (x : Token) (v : BaseView BaseContent) (id : PassId) (seen heard : List SystemEntry) (met : List ℕ)
+    → has o x (record v { id = id; seen = seen; heard = heard; met = met }) ≡ has o x v
+has_kept o (Place t k) v id seen heard met = refl
+has_kept o x v id seen heard met = refl
+
+-- what a pass knows is true that has just seen the whole history
+pub fits_whole : (o : Opening) (words : List ℕ) (v : BaseView BaseContent) → v.heard ≡ [] → v.id.live ≡ true → length v.met ≡ o.bases
+    → ((h : HeldContent BaseContent) → v.held ≡ Some h → HeldHolds o v.seen words v h)
+    → ((b : ℕ) → b < o.bases → slice_index v.met b ≤ slice_index words (lock_at b))
+    → ((b k : ℕ) → 0 < takes_at b k v → k + k ≤ slice_index v.met b + held_in b v.held) → PassHolds o v.seen words v
+fits_whole o words v heard live full held met takes = record {
+  seen = begins_refl v.seen;
+  heard = subst (λ l. Begins l v.seen) (sym heard) (begins_nil v.seen);
+  held = held;
+  carry = λ t e. refl;
+  wide = omega (arith, full);
+  full = λ _. full;
+  met = met;
+  takes = takes;
+  first = λ _ name b. refl;
+  gone = λ off. absurd (true≢false (sym live ∙ off));
+}
+
+module _ (o : Opening) (log : List SystemEntry) (s : State (Option BaseContent) (BaseView BaseContent)) (home : RowHolds o log s) where
+  abbrev w : System
+  w = system_after o.timers log
+
+  -- The seats are other than before, and have together as much.
+  pub reviewed : (views : List (BaseView BaseContent)) → ((x : Token) → total (has o x) views ≡ total (has o x) s.views)
+      → ((j : ℕ) (u : BaseView BaseContent) → get_elem? views j ≡ some u → PassHolds o log s.words u)
+      → IsPassTree (map base_pass_id views) → RowHolds o log record { words = s.words; homes = s.homes; views = views }
+  reviewed views same each tree = record {
+    allowed = home.allowed;
+    words_len = home.words_len;
+    homes_len = home.homes_len;
+    each_slot = home.each_slot;
+    each_timer = home.each_timer;
+    each_standing = home.each_standing;
+    each_view = each;
+    tree = tree;
+    tokens = λ x h. same x ∙ home.tokens x h;
   }
 
-  module _ (log : List SystemEntry) (s : State (Option BaseContent) (BaseView BaseContent)) (home : RowHolds o log s) where
-    -- The seats are other than before, and have together as much.
-    pub reviewed : (views : List (BaseView BaseContent)) → SameTotals s.views views
-        → ((j : ℕ) (u : BaseView BaseContent) → get_elem? views j ≡ some u → PassHolds o log s.words u)
-        → IsPassTree (map base_pass_id views) → RowHolds o log record { words = s.words; homes = s.homes; views = views }
-    reviewed views same each tree = record {
-      allowed = home.allowed;
-      words_len = home.words_len;
-      homes_len = home.homes_len;
-      each_base = λ b h. cell_on _ _ _ _ _ _ _ _ (home.each_base b h) (same.holds b) (λ k. same.takes b k) (λ z. refl);
-      each_timer = home.each_timer;
-      each_standing = home.each_standing;
-      each_view = each;
-      tree = tree;
-      tally = λ t k h. same.places t k ∙ home.tally t k h;
-      shifts = λ b k h. same.places (base_place (length o.timers) b) k ∙ home.shifts b k h;
-      claims = λ t g b h. same.claims t g b ∙ home.claims t g b h;
-      carriers = λ t h. same.carries t ∙ home.carriers t h;
-    }
+  -- One seat is other than before.
+  module _ (id : ℕ) (v v' : BaseView BaseContent) (at : get_elem? s.views id ≡ some v) (same_id : base_pass_id v' ≡ base_pass_id v) where
+    pub kept_tree : IsPassTree (map base_pass_id (set s.views id v'))
+    kept_tree = subst (λ ls. IsPassTree ls) (sym (map_kept base_pass_id s.views id v v' at same_id)) home.tree
 
-    -- One seat alone is other than before.
-    module _ (id : ℕ) (v v' : BaseView BaseContent) (at : get_elem? s.views id ≡ some v) (fits : PassHolds o log s.words v')
-        (locks : SameLocks v v') (work : SameWork v v') where
-      pub turned : RowHolds o log record { words = s.words; homes = s.homes; views = slice_set s.views id v' }
-      turned = reviewed (slice_set s.views id v')
-          (record {
-            places = λ t k. sum_same (places_at t k) s.views id v v' at (work.places t k);
-            claims = λ t g b. sum_same (base_claims_at t g b) s.views id v v' at (work.claims t g b);
-            holds = λ b. sum_same (holds_at b) s.views id v v' at (locks.holds b);
-            takes = λ b k. sum_same (takes_at b k) s.views id v v' at (locks.takes b k);
-            carries = λ t. sum_same (carries_at t) s.views id v v' at (work.carries t);
+    pub turned : PassHolds o log s.words v' → ((x : Token) → has o x v' ≡ has o x v)
+        → RowHolds o log record { words = s.words; homes = s.homes; views = slice_set s.views id v' }
+    turned fits same = reviewed (slice_set s.views id v') (λ x. omega (arith, total_set (has o x) s.views id v v' at, same x))
+        (views_on (λ u. PassHolds o log s.words u) s.views id v' fits (λ j u n e. home.each_view j u e)) kept_tree
+
+    -- the pass has all that there is of this
+    abbrev HasAll : Token → Type 0
+    HasAll x = total (has o x) s.views ≡ has o x v
+
+    alone : (x : Token) → HasAll x → (j : ℕ) (u : BaseView BaseContent) → j ≢ id → get_elem? s.views j ≡ some u → has o x u ≡ 0
+    alone x all j u n at_u = omega (arith, total_two (has o x) s.views id j v u (λ q. n (sym q)) at at_u, all)
+
+    -- So are history and words: what has changed of a base or a timer is all the pass's own, and what it has of each kind has changed by as much.
+    module _ (log' : List SystemEntry) (words : List ℕ) (more : Begins log log') where
+      abbrev w' : System
+      w' = system_after o.timers log'
+
+      pub counted : ((x : Token) → IsIn o x → has o x v' + owed w s.words x ≡ has o x v + owed w' words x)
+          → (x : Token) → IsIn o x → total (has o x) (set s.views id v') ≡ owed w' words x
+      counted change x h = omega (arith, total_set (has o x) s.views id v v' at, change x h, home.tokens x h)
+
+      pub fits_on : ((b : ℕ) → b < o.bases → slice_index s.words (lock_at b) ≤ slice_index words (lock_at b))
+          → ((b : ℕ) → b < o.bases → HasAll (Hold b) ⊎ ((w'.bases b ≡ w.bases b) × (slice_index words (lock_at b) ≡ slice_index s.words (lock_at b))))
+          → ((t : ℕ) → HasAll (Carry t) ⊎ (w'.timers t ≡ w.timers t))
+          → (((v.id.live ≡ true) × (v.id.name ≡ [])) ⊎ ((b : ℕ) → shifts_of b log' ≡ shifts_of b log))
+          → PassHolds o log' words v' → (j : ℕ) (u : BaseView BaseContent) → get_elem? (set s.views id v') j ≡ some u → PassHolds o log' words u
+      fits_on rise bases timers shifts fits = views_on (λ u. PassHolds o log' words u) s.views id v' fits (λ j u n at_u.
+          let old = home.each_view j u at_u in record {
+            seen = begins_trans old.seen more;
+            heard = begins_trans old.heard more;
+            held = λ h e. let t = old.held h e in ⊎_elim
+                (λ all. absurd (omega (arith, alone (Hold h.base) all j u n at_u, holds_one u h e)))
+                (λ same. record { within = t.within; seen = t.seen; whole = t.whole ∙ sym same.0; word = same.1 ∙ t.word; number = t.number })
+                (bases h.base t.within);
+            carry = λ t e. ⊎_elim
+                (λ all. absurd (omega (arith, alone (Carry t) all j u n at_u, carries_one u t e))) (λ same. old.carry t e ∙ sym same) (timers t);
+            wide = old.wide;
+            full = old.full;
+            met = λ b h. omega (arith, old.met b h, rise b h);
+            takes = old.takes;
+            first = λ live name b. ⊎_elim
+                (λ ours. absurd (one_name (map base_pass_id s.views) home.tree id j (base_pass_id v) (base_pass_id u) (λ q. n (sym q))
+                (at_map base_pass_id s.views id v at) (at_map base_pass_id s.views j u at_u) ours.0 live (name ∙ sym ours.1)))
+                (λ same. old.first live name b ∙ sym (same b)) shifts;
+            gone = old.gone;
           })
-          (views_on (λ u. PassHolds o log s.words u) s.views id v' fits (λ j u n e. home.each_view j u e))
-          (subst (λ ls. IsPassTree ls) (sym (map_kept base_pass_id s.views id v v' at work.id)) home.tree)
 
-    -- One base's lock and one seat are other than before.
-    module _ (b id : ℕ) (v v' : BaseView BaseContent) (word : ℕ) (slot : mathlib.Core.Option.Option (Option BaseContent))
-        (at : get_elem? s.views id ≡ some v) (inside : b < o.bases)
-        (rises : slice_index s.words (lock_at b) ≤ word)
-        (alone : total (holds_at b) s.views ≡ holds_at b v)
-        (cell : LockState ((system_after o.timers log).bases b) (some slot) word (total (holds_at b) (set s.views id v'))
-        (λ k. total (takes_at b k) (set s.views id v')))
-        (fits : PassHolds o log (set s.words (lock_at b) word) v')
-        (holds_else : (c : ℕ) → c ≢ b → holds_at c v' ≡ holds_at c v)
-        (takes_else : (c k : ℕ) → c ≢ b → takes_at c k v' ≡ takes_at c k v)
-        (work : SameWork v v') where
-      in_words : lock_at b < length s.words
-      in_words = omega (arith, home.words_len)
-
+    -- One base's lock is other than before too.
+    module _ (b word : ℕ) (slot : mathlib.Core.Option.Option (Option BaseContent)) (inside : b < o.bases) (rises : slice_index s.words (lock_at b) ≤ word)
+        (all : HasAll (Hold b)) (slot_is : slot ≡ slot_of (word % 2) (w.bases b)) (fits : PassHolds o log (set s.words (lock_at b) word) v')
+        (change : (x : Token) → IsIn o x → has o x v' + owed w s.words x ≡ has o x v + owed w (set s.words (lock_at b) word) x) where
       word_else : (k : ℕ) → k ≢ lock_at b → slice_index (set s.words (lock_at b) word) k ≡ slice_index s.words k
       word_else k n = get_or-set_other s.words (lock_at b) k word 0 n
 
-      risen : (c : ℕ) → c < o.bases → slice_index s.words (lock_at c) ≤ slice_index (set s.words (lock_at b) word) (lock_at c)
-      risen c h =
-          ⊎_elim
-          (λ (e : c ≡ b). subst (λ q. slice_index s.words (lock_at q) ≤ slice_index (set s.words (lock_at b) word) (lock_at q)) (sym e)
-          (omega (arith, get_or-set_same s.words (lock_at b) word 0 in_words)))
-          (λ n. omega (arith, word_else (lock_at c) (λ e. n (omega arith))))
-          (cases_eq c b)
-
-      unheld : (j : ℕ) (u : BaseView BaseContent) (h : HeldContent BaseContent) → j ≢ id → get_elem? s.views j ≡ some u → u.held ≡ Some h → h.base ≢ b
-      unheld j u h n at_u e here =
-          omega (arith, total_two (holds_at b) s.views id j v u (λ q. n (sym q)) at at_u, ap (λ q. holds_at q u) here, holds_one u h e)
+      each_lock : (P : ℕ → ℕ → Type 0) → P b word → ((c : ℕ) → c ≢ b → P c (slice_index s.words (lock_at c)))
+          → (c : ℕ) → P c (slice_index (set s.words (lock_at b) word) (lock_at c))
+      each_lock P = at_lock s.words b word P (omega (arith, home.words_len))
 
       pub locked : RowHolds o log record {
-        words = slice_set s.words
-            (lock_at b) word;
+        words = slice_set s.words (lock_at b) word;
         homes = slice_set s.homes b slot;
         views = slice_set s.views id v';
       }
@@ -192,173 +175,44 @@ module _ (o : Opening) where
         allowed = home.allowed;
         words_len = length-set s.words (lock_at b) word ∙ home.words_len;
         homes_len = length-set s.homes b slot ∙ home.homes_len;
-        each_base = λ c h. ⊎_elim
-            (λ (e : c ≡ b). subst (λ q. LockState ((system_after o.timers log).bases q) (get_elem? (set s.homes b slot) q)
-            (slice_index (set s.words (lock_at b) word) (lock_at q)) (total (holds_at q) (set s.views id v'))
-            (λ k. total (takes_at q k) (set s.views id v'))) (sym e)
-            (rw (set_here s.homes b slot (omega (arith, home.homes_len)), get_or-set_same s.words (lock_at b) word 0 in_words) cell))
-            (λ n. rw (set_else s.homes b c slot n, word_else (lock_at c) (λ e. n (omega arith)))
-            (cell_on _ _ _ _ _ _ _ _ (home.each_base c h) (sum_same (holds_at c) s.views id v v' at (holds_else c n))
-            (λ k. sum_same (takes_at c k) s.views id v v' at (takes_else c k n)) (λ z. refl)))
-            (cases_eq c b);
+        each_slot = each_lock (λ c x. c < o.bases → get_elem? (set s.homes b slot) c ≡ some (slot_of (x % 2) (w.bases c)))
+            (λ h. set_here s.homes b slot (omega (arith, home.homes_len)) ∙ ap some slot_is) (λ c n h. set_else s.homes b c slot n ∙ home.each_slot c h);
         each_timer = λ t h. word_else (word_at o.bases t) (λ e. omega arith) ∙ home.each_timer t h;
         each_standing = λ c h. word_else (word_at o.bases (base_place (length o.timers) c)) (λ e. omega arith) ∙ home.each_standing c h;
-        each_view = views_on (λ u. PassHolds o log (set s.words (lock_at b) word) u) s.views id v' fits
-            (λ j u n e. fits_on log log s.words (set s.words (lock_at b) word) u (home.each_view j u e) (begins_refl log) risen
-            (λ h held. (refl, word_else (lock_at h.base) (λ q. unheld j u h n e held (omega arith))))
-            (λ t carry. refl) (λ live name b. refl));
-        tree = subst (λ ls. IsPassTree ls) (sym (map_kept base_pass_id s.views id v v' at work.id)) home.tree;
-        tally = λ t k h. sum_same (places_at t k) s.views id v v' at (work.places t k) ∙ home.tally t k h;
-        shifts = λ c k h. sum_same (places_at (base_place (length o.timers) c) k) s.views id v v' at (work.places (base_place (length o.timers) c) k)
-            ∙ home.shifts c k h;
-        claims = λ t g c h. sum_same (base_claims_at t g c) s.views id v v' at (work.claims t g c) ∙ home.claims t g c h;
-        carriers = λ t h. sum_same (carries_at t) s.views id v v' at (work.carries t) ∙ home.carriers t h;
+        each_view = fits_on log (set s.words (lock_at b) word) (begins_refl log)
+            (λ c h. each_lock (λ q x. slice_index s.words (lock_at q) ≤ x) rises (λ q n. omega arith) c)
+            (λ c h. each_lock (λ q x. HasAll (Hold q) ⊎ ((w.bases q ≡ w.bases q) × (x ≡ slice_index s.words (lock_at q)))) (inl all) (λ q n. inr (refl, refl)) c)
+            (λ t. inr refl) (inr (λ c. refl)) fits;
+        tree = kept_tree;
+        tokens = counted log (set s.words (lock_at b) word) (begins_refl log) change;
       }
 
-    -- One entry more, of a timer whose base the seat holds, and that it carries where it is on the move; and the seat is other than before.
-    module _ (id : ℕ) (v v' : BaseView BaseContent) (e : TimerEntry) (at : get_elem? s.views id ≡ some v)
-        (ok : IsSystemStep o.bases (length o.timers) (system_after o.timers log) e)
-        (holder : holds_at ((system_after o.timers log).timers e.timer).base v ≡ 1)
-        (carrier : ((system_after o.timers log).timers e.timer).moving ≡ true → carries_at e.timer v ≡ 1)
-        (fits : PassHolds o (log ++ entries.Timer e ∷ []) (set s.words (word_at o.bases e.timer)
-        (number_of ((system_after o.timers (log ++ entries.Timer e ∷ [])).timers e.timer))) v')
-        (locks : SameLocks v v') (same_id : base_pass_id v' ≡ base_pass_id v)
-        (places : (t k : ℕ) → t < length o.timers → places_at t k v' + one_if
-        (within k ((system_after o.timers log).timers t).stamp) ≡ places_at t k v + one_if
-        (within k ((system_after o.timers (log ++ entries.Timer e ∷ [])).timers t).stamp))
-        (places_else : (b k : ℕ) → places_at (base_place (length o.timers) b) k v' ≡ places_at (base_place (length o.timers) b) k v)
-        (claims : (t g b : ℕ) → t < length o.timers → base_claims_at t g b v' + one_if
-        (runs g b ((system_after o.timers log).timers t)) ≡ base_claims_at t g b v + one_if (runs g b ((system_after o.timers (log ++ entries.Timer e ∷ [])).timers t)))
-        (carries : (t : ℕ) → t < length o.timers → carries_at t v' + one_if
-        ((system_after o.timers log).timers t).moving ≡ carries_at t v + one_if ((system_after o.timers (log ++ entries.Timer e ∷ [])).timers t).moving) where
-      abbrev w : System
-      w = system_after o.timers log
+  -- One seat is other than before, and one came.
+  module _ (id : ℕ) (v v' u : BaseView BaseContent) (at : get_elem? s.views id ≡ some v) (fits : PassHolds o log s.words v')
+      (fits_new : PassHolds o log s.words u)
+      (tree : IsPassTree (set (map base_pass_id s.views) id (base_pass_id v') ++ base_pass_id u ∷ []))
+      (same : (x : Token) → has o x v' + has o x u ≡ has o x v) where
+    pub grown : RowHolds o log record { words = s.words; homes = s.homes; views = slice_set s.views id v' ++ u ∷ [] }
+    grown =
+        reviewed (slice_set s.views id v' ++ u ∷ [])
+        (λ x. omega (arith, same x, total_set (has o x) s.views id v v' at, total-append (has o x) (set s.views id v') (u ∷ [])))
+        (λ j x q. ⊎_elim
+        (λ t. views_on (λ y. PassHolds o log s.words y) s.views id v' fits (λ i y n e. home.each_view i y e) j x t)
+        (λ t. subst (λ y. PassHolds o log s.words y) t fits_new)
+        (at_snoc (set s.views id v') u x j q))
+        (subst (λ ls. IsPassTree ls) (sym (map-append base_pass_id (set s.views id v') (u ∷ [])
+        ∙ ap (λ ls. ls ++ base_pass_id u ∷ []) (map-set base_pass_id s.views id v'))) tree)
 
-      abbrev w' : System
-      w' = system_after o.timers (log ++ entries.Timer e ∷ [])
-
-      abbrev b : ℕ
-      b = (w.timers e.timer).base
-
-      abbrev i : ℕ
-      i = word_at o.bases e.timer
-
-      abbrev new_words : List ℕ
-      new_words = set s.words i (number_of (w'.timers e.timer))
-
-      stepped : w' ≡ after_entry w e
-      stepped = after_entries-append (first_system o.timers) log (entries.Timer e ∷ [])
-
-      standings : (c : ℕ) → (w'.bases c).standing ≡ (w.bases c).standing
-      standings c = ap (λ (x : System). (x.bases c).standing) stepped ∙ standing_same w e c
-
-      no_shift : (c : ℕ) → shifts_of c (log ++ entries.Timer e ∷ []) ≡ shifts_of c log
-      no_shift c = shifts_of-append c log (entries.Timer e ∷ []) ∙ append-nil (shifts_of c log)
-
-      bases_else : (c : ℕ) → c ≢ b → w'.bases c ≡ w.bases c
-      bases_else c n = ap (λ (x : System). x.bases c) stepped ∙ base_else w e c n
-
-      timers_else : (t : ℕ) → t ≢ e.timer → w'.timers t ≡ w.timers t
-      timers_else t n = ap (λ (x : System). x.timers t) stepped ∙ timer_else w e t n
-
-      word_same : (k : ℕ) → k ≢ i → slice_index new_words k ≡ slice_index s.words k
-      word_same k n = get_or-set_other s.words i k (number_of (w'.timers e.timer)) 0 n
-
-      other_base : (j : ℕ) (u : BaseView BaseContent) (h : HeldContent BaseContent) → j ≢ id → get_elem? s.views j ≡ some u → u.held ≡ Some h
-          → h.base < o.bases → h.base ≢ b
-      other_base j u h n at_u held inside here =
-          omega (
-            arith,
-            total_two (holds_at b) s.views id j v u (λ q. n (sym q)) at at_u,
-            holder,
-            ap
-                (λ q. holds_at q u) here,
-            holds_one u h held,
-            (home.each_base b (omega arith)).once,
-          )
-
-      other_timer : (j : ℕ) (u : BaseView BaseContent) (t : ℕ) → j ≢ id → get_elem? s.views j ≡ some u → u.carry ≡ Some t → t ≢ e.timer
-      other_timer j u t n at_u carry here =
-          let one : carries_at e.timer u ≡ 1 = ap (λ q. carries_at q u) (sym here) ∙ carries_one u t carry in
-          ⊎_elim
-          (λ moves. omega (
-            arith,
-            total_two (carries_at e.timer) s.views id j v u
-                (λ q. n (sym q)) at at_u,
-            one,
-            carrier moves,
-            home.carriers e.timer ok.within,
-            ap one_if moves,
-          ))
-          (λ still. omega (arith, total_at (carries_at e.timer) s.views j u at_u, one, home.carriers e.timer ok.within, ap one_if still))
-          (cases_Bool (w.timers e.timer).moving)
-
-      pub entered : RowHolds o (log ++ entries.Timer e ∷ []) record {
-        words = slice_set s.words i
-            (number_of (w'.timers e.timer));
-        homes = s.homes;
-        views = slice_set s.views id v';
-      }
-      entered = record {
-        allowed = steps_push o.bases (length o.timers) (first_system o.timers) log (entries.Timer e) home.allowed ok;
-        words_len = length-set s.words i (number_of (w'.timers e.timer)) ∙ home.words_len;
-        homes_len = home.homes_len;
-        each_base = λ c h. rw (word_same (lock_at c) (λ q. omega arith))
-            (cell_on _ _ _ _ _ _ _ _ (home.each_base c h) (sum_same (holds_at c) s.views id v v' at (locks.holds c))
-            (λ k. sum_same (takes_at c k) s.views id v v' at (locks.takes c k))
-            (λ z. bases_else c (λ here. omega (arith, total_at (holds_at c) s.views id v at, ap (λ q. holds_at q v) here, holder))));
-        each_timer = λ t h. ⊎_elim
-            (λ (same : t ≡ e.timer). subst (λ q. slice_index new_words (word_at o.bases q) ≡ number_of (w'.timers q)) (sym same)
-            (get_or-set_same s.words i (number_of (w'.timers e.timer)) 0 (omega (arith, home.words_len, ok.within))))
-            (λ n. word_same (word_at o.bases t) (λ q. n (omega arith)) ∙ (home.each_timer t h ∙ ap number_of (sym (timers_else t n))))
-            (cases_eq t e.timer);
-        each_standing = λ c h. word_same (word_at o.bases (base_place (length o.timers) c)) (λ q. omega (arith, ok.within))
-            ∙ (home.each_standing c h ∙ ap standing_number (sym (standings c)));
-        each_view = views_on (λ u. PassHolds o (log ++ entries.Timer e ∷ []) new_words u) s.views id v' fits
-            (λ j u n at_u. let old = home.each_view j u at_u in
-            fits_on log (log ++ entries.Timer e ∷ []) s.words new_words u old (begins_more log (entries.Timer e ∷ [])) (λ c h. omega (arith, word_same (lock_at c) (λ q. omega arith)))
-            (λ h held. let inside = (old.held h held).within in (
-              bases_else h.base (other_base j u h n at_u held inside),
-              word_same
-                  (lock_at h.base) (λ q. omega arith),
-            ))
-            (λ t carry. timers_else t (other_timer j u t n at_u carry)) (λ live name b. no_shift b));
-        tree = subst (λ ls. IsPassTree ls) (sym (map_kept base_pass_id s.views id v v' at same_id)) home.tree;
-        tally = λ t k h. omega (arith, total_set (places_at t k) s.views id v v' at, places t k h, home.tally t k h);
-        shifts = λ c k h. sum_same (places_at (base_place (length o.timers) c) k) s.views id v v' at (places_else c k)
-            ∙ (home.shifts c k h ∙ ap (λ (x : Standing). one_if (within k x.stamp)) (sym (standings c)));
-        claims = λ t g c h. omega (arith, total_set (base_claims_at t g c) s.views id v v' at, claims t g c h, home.claims t g c h);
-        carriers = λ t h. omega (arith, total_set (carries_at t) s.views id v v' at, carries t h, home.carriers t h);
-      }
-
-    -- One seat is other than before, and one came.
-    module _ (id : ℕ) (v v' u : BaseView BaseContent) (at : get_elem? s.views id ≡ some v) (fits : PassHolds o log s.words v')
-        (fits_new : PassHolds o log s.words u)
-        (tree : IsPassTree (set (map base_pass_id s.views) id (base_pass_id v') ++ base_pass_id u ∷ []))
-        (same : SameTotals (v ∷ []) (v' ∷ u ∷ [])) where
-      pub grown : RowHolds o log record { words = s.words; homes = s.homes; views = slice_set s.views id v' ++ u ∷ [] }
-      grown =
-          reviewed (slice_set s.views id v' ++ u ∷ [])
-          (totalled (v ∷ []) (v' ∷ u ∷ []) s.views (slice_set s.views id v' ++ u ∷ []) same
-          (λ f q. omega (arith, q, total_set f s.views id v v' at, total-append f (set s.views id v') (u ∷ []))))
-          (λ j x q. ⊎_elim
-          (λ t. views_on (λ y. PassHolds o log s.words y) s.views id v' fits (λ i y n e. home.each_view i y e) j x t)
-          (λ t. subst (λ y. PassHolds o log s.words y) t fits_new)
-          (at_snoc (set s.views id v') u x j q))
-          (subst (λ ls. IsPassTree ls) (sym (map-append base_pass_id (set s.views id v') (u ∷ [])
-          ∙ ap (λ ls. ls ++ base_pass_id u ∷ []) (map-set base_pass_id s.views id v'))) tree)
-
-    -- One seat has taken in another.
-    module _ (id other : ℕ) (v v' u u' : BaseView BaseContent) (at : get_elem? s.views id ≡ some v) (at_other : get_elem? (set s.views id v') other ≡ some u)
-        (fits : PassHolds o log s.words v') (fits_left : PassHolds o log s.words u')
-        (tree : IsPassTree (set (set (map base_pass_id s.views) id (base_pass_id v')) other (base_pass_id u')))
-        (same : SameTotals (v ∷ u ∷ []) (v' ∷ u' ∷ [])) where
-      pub merged : RowHolds o log record { words = s.words; homes = s.homes; views = slice_set (slice_set s.views id v') other u' }
-      merged =
-          reviewed (slice_set (slice_set s.views id v') other u')
-          (totalled (v ∷ u ∷ []) (v' ∷ u' ∷ []) s.views (slice_set (slice_set s.views id v') other u') same
-          (λ f q. omega (arith, q, total_set f s.views id v v' at, total_set f (set s.views id v') other u u' at_other)))
-          (views_on (λ y. PassHolds o log s.words y) (set s.views id v') other u' fits_left
-          (λ j x n q. views_on (λ y. PassHolds o log s.words y) s.views id v' fits (λ i y m e. home.each_view i y e) j x q))
-          (subst (λ ls. IsPassTree ls) (sym (map-set base_pass_id (set s.views id v') other u'
-          ∙ ap (λ ls. set ls other (base_pass_id u')) (map-set base_pass_id s.views id v'))) tree)
+  -- One seat has taken in another.
+  module _ (id other : ℕ) (v v' u u' : BaseView BaseContent) (at : get_elem? s.views id ≡ some v) (at_other : get_elem? (set s.views id v') other ≡ some u)
+      (fits : PassHolds o log s.words v') (fits_left : PassHolds o log s.words u')
+      (tree : IsPassTree (set (set (map base_pass_id s.views) id (base_pass_id v')) other (base_pass_id u')))
+      (same : (x : Token) → has o x v' + has o x u' ≡ has o x v + has o x u) where
+    pub merged : RowHolds o log record { words = s.words; homes = s.homes; views = slice_set (slice_set s.views id v') other u' }
+    merged =
+        reviewed (slice_set (slice_set s.views id v') other u')
+        (λ x. omega (arith, same x, total_set (has o x) s.views id v v' at, total_set (has o x) (set s.views id v') other u u' at_other))
+        (views_on (λ y. PassHolds o log s.words y) (set s.views id v') other u' fits_left
+        (λ j x n q. views_on (λ y. PassHolds o log s.words y) s.views id v' fits (λ i y m e. home.each_view i y e) j x q))
+        (subst (λ ls. IsPassTree ls) (sym (map-set base_pass_id (set s.views id v') other u'
+        ∙ ap (λ ls. set ls other (base_pass_id u')) (map-set base_pass_id s.views id v'))) tree)

@@ -1,11 +1,12 @@
 -- What a pass knows of the base that it holds, for the next entry.
-use Rattle.std.proofs.Common.{◌≡◌, ℕ, ◌<◌, ◌+◌, [], ◌∷◌, length, ap, sym, ◌∙◌, subst, arith}
+use Rattle.std.proofs.Common.{◌≡◌, ℕ, ◌<◌, ◌+◌, [], ◌∷◌, length, ap, sym, ◌∙◌, subst, arith, List, Option}
 use Rattle.std.specs.Prelude.{slice_index, Some}
 use Rattle.std.proofs.lemmas.List.{get_or-set_same, length-set}
 use Rattle.pass_names.specs.Passes.{Begins}
 use Rattle.atomic_table.specs.Table.{rest}
 use Rattle.seq_timer.specs.Events.{Event}
 use Rattle.seq_timer.specs.declared.standing.BaseEvent.{BaseEvent}
+use Rattle.seq_timer.specs.declared.system.SystemEntry.{SystemEntry}
 use Rattle.base_row.specs.declared.view.Opening.{Opening}
 use Rattle.seq_timer.specs.Steps.{Timer, Needs, after, reply_to}
 use Rattle.seq_timer.specs.Tables.{no_timer, timer_at}
@@ -14,12 +15,13 @@ use Rattle.seq_timer.specs.Contents.{IsContentOf}
 use Rattle.base_row.specs.declared.view.HeldContent.{HeldContent}
 use Rattle.base_row.specs.declared.view.BaseView.{BaseView}
 use Rattle.seq_timer.specs.Systems.{BaseContent, System, IsFresh, IsOn, changed, entries_of, shifted, system_after}
-use Rattle.base_row.specs.Plays.{SeatState, KnowsBases, KnowsOwn, IsResting, EnteredShift, EntersAs, carried_slots, FreedBase, Steady, having_freed}
+use Rattle.base_row.specs.Plays.{SeatState, KnowsBases, KnowsOwn, IsResting, EnteredShift, EntersAs, carried_slots, FreedBase, Steady, having_freed, having_added}
 use Rattle.base_row.specs.Calls.{Appended, AreFresh, LetsGo, MayAppend, Shifted, stepped}
 use Rattle.seq_timer.proofs.Systems.{shows}
 use Rattle.seq_timer.proofs.Agreement.{agrees}
 use Rattle.seq_timer.proofs.Contents.{IsQueuedAs-from}
 use Rattle.base_row.specs.Rules.{timer_seen}
+use Rattle.base_row.specs.declared.view.Claimed.{Claimed}
 
 -- what a pass of a row knows, in the words of the row
 pub knows_about : (o : Opening) (v : BaseView BaseContent) → v.opening ≡ o → KnowsOwn v → KnowsBases o v
@@ -86,42 +88,50 @@ ready_there o v h t event about knows fresh may on = ready o v h t event (timer_
     (kept_state o v h (knows_about o v about knows) may.may.held t may.may.allowed.within on)
 
 -- a held base after an entry has a state of each timer, and of the entry's what the entry left
-pub room_stepped : (o : Opening) (v : BaseView BaseContent) (h g : HeldContent BaseContent) (t : ℕ) (event : Event) → g ≡ stepped o v h t event
-    → t < length h.content.states → t < length g.content.states
+pub stepped_states : (o : Opening) (v : BaseView BaseContent) (h g : HeldContent BaseContent) (t : ℕ) (event : Event) → g ≡ stepped o v h t event
+    → t < length h.content.states → (t < length g.content.states) × (timer_at g.content.states t ≡ after (timer_seen o v t) event)
 unfolding changed
-room_stepped o v h g t event is within = subst (λ (x : HeldContent BaseContent). t < length x.content.states) (sym is)
-    (omega (arith, length-set h.content.states t (after (timer_seen o v t) event), within))
+stepped_states o v h g t event is within =
+    let left = after (timer_seen o v t) event in
+    subst (λ (x : HeldContent BaseContent). (t < length x.content.states) × (timer_at x.content.states t ≡ left)) (sym is)
+    (omega (arith, length-set h.content.states t left, within), get_or-set_same h.content.states t left no_timer within)
 
-pub state_stepped : (o : Opening) (v : BaseView BaseContent) (h g : HeldContent BaseContent) (t : ℕ) (event : Event) → g ≡ stepped o v h t event
-    → t < length h.content.states → timer_at g.content.states t ≡ after (timer_seen o v t) event
-unfolding changed
-state_stepped o v h g t event is within = ap (λ (x : HeldContent BaseContent). timer_at x.content.states t) is
-    ∙ get_or-set_same h.content.states t (after (timer_seen o v t) event) no_timer within
-
--- what a seat is like after an entry
-pub record Rested (o : Opening) (h : HeldContent BaseContent) (t : ℕ) (event : Event) (me new : SeatState) : Type 0 where
+-- what a seat is like that holds its base after an entry
+pub record Rested (o : Opening) (h : HeldContent BaseContent) (content : BaseContent) (Adds : Type 0) (new : SeatState) : Type 0 where
   pub resting : IsResting new
-  pub adds : Appended o h t event me.0 new.0
+  pub adds : Adds
   pub about : new.0.opening ≡ o
-  pub held : new.0.held ≡ Some (record { base = h.base; word = h.word; content = changed t (timer_seen o me.0 t) event h.content })
+  pub held : new.0.held ≡ Some (record { base = h.base; word = h.word; content = content })
 
-pub rested : (o : Opening) (h : HeldContent BaseContent) (t : ℕ) (event : Event) (me new : SeatState)
-    → me.0.opening ≡ o → IsResting me → me.0.held ≡ Some h → EntersAs o h t event me new → Rested o h t event me new
-rested o h t event me new about resting held told =
-    let opening : new.0.opening ≡ o = ap (λ (m : SeatState). m.0.opening) told.rest ∙ about in
-    let now_held = ap (λ (m : SeatState). m.0.held) told.rest in
+rests : (o : Opening) (h : HeldContent BaseContent) (content : BaseContent) (Adds : Type 0) (before : List SystemEntry) (x : SystemEntry) (place : ℕ × ℕ)
+    (claims : List Claimed) (carry : Option ℕ) (me new : SeatState) → me.0.opening ≡ o → IsResting me → me.0.held ≡ Some h
+    → new ≡ (having_added before x place content claims carry h me.0, me.1) → KnowsBases o new.0 → Adds → Rested o h content Adds new
+rests o h content Adds before x place claims carry me new about resting held is knows adds =
+    let opening : new.0.opening ≡ o = ap (λ (m : SeatState). m.0.opening) is ∙ about in
+    let now_held = ap (λ (m : SeatState). m.0.held) is in
     record {
       resting = record {
-        live = ap (λ (m : SeatState). m.0.id.live) told.rest ∙ resting.live;
-        heard = ap (λ (m : SeatState). m.0.heard) told.rest;
-        carried = ap (λ (m : SeatState). m.1) told.rest
-            ∙ (resting.carried ∙ (ap carried_slots held ∙ sym (ap carried_slots now_held)));
-        knows = subst (λ (q : Opening). KnowsBases q new.0) (sym opening) told.knows;
+        live = ap (λ (m : SeatState). m.0.id.live) is ∙ resting.live;
+        heard = ap (λ (m : SeatState). m.0.heard) is;
+        carried = ap (λ (m : SeatState). m.1) is ∙ (resting.carried ∙ (ap carried_slots held ∙ sym (ap carried_slots now_held)));
+        knows = subst (λ (q : Opening). KnowsBases q new.0) (sym opening) knows;
       };
-      adds = record { before = told.before; seen = told.seen; own = told.own; shifts = told.shifts; rest = ap (λ (m : SeatState). m.0) told.rest };
+      adds = adds;
       about = opening;
       held = now_held;
     }
+
+pub rested : (o : Opening) (h : HeldContent BaseContent) (t : ℕ) (event : Event) (me new : SeatState)
+    → me.0.opening ≡ o → IsResting me → me.0.held ≡ Some h → EntersAs o h t event me new
+    → Rested o h (changed t (timer_seen o me.0 t) event h.content) (Appended o h t event me.0 new.0) new
+rested o h t event me new about resting held told = rests o h _ _ told.before _ _ _ _ me new about resting held told.rest told.knows
+    (record { before = told.before; seen = told.seen; own = told.own; shifts = told.shifts; rest = ap (λ (m : SeatState). m.0) told.rest })
+
+pub rested_shift : (o : Opening) (h : HeldContent BaseContent) (event : BaseEvent) (me new : SeatState)
+    → me.0.opening ≡ o → IsResting me → me.0.held ≡ Some h → EnteredShift o h event me new
+    → Rested o h (shifted event h.content) (Shifted o h event me.0 new.0) new
+rested_shift o h event me new about resting held told = rests o h _ _ told.before _ _ _ _ me new about resting held told.rest told.knows
+    (record { before = told.before; seen = told.seen; shifts = told.shifts; rest = ap (λ (m : SeatState). m.0) told.rest })
 
 -- a seat that has let its base go
 pub record LetGo (o : Opening) (h : HeldContent BaseContent) (me new : SeatState) : Type 0 where
@@ -154,29 +164,4 @@ let_go o h me mid new about resting held inside is told =
         steady = subst (λ (m : SeatState). Steady m.0 new.0) is told.steady;
       };
       about = opening;
-    }
-
--- what a seat is like after an entry of a base
-pub record RestedShift (o : Opening) (h : HeldContent BaseContent) (event : BaseEvent) (me new : SeatState) : Type 0 where
-  pub resting : IsResting new
-  pub shifts : Shifted o h event me.0 new.0
-  pub about : new.0.opening ≡ o
-  pub held : new.0.held ≡ Some (record { base = h.base; word = h.word; content = shifted event h.content })
-
-pub rested_shift : (o : Opening) (h : HeldContent BaseContent) (event : BaseEvent) (me new : SeatState)
-    → me.0.opening ≡ o → IsResting me → me.0.held ≡ Some h → EnteredShift o h event me new → RestedShift o h event me new
-rested_shift o h event me new about resting held told =
-    let opening : new.0.opening ≡ o = ap (λ (m : SeatState). m.0.opening) told.rest ∙ about in
-    let now_held = ap (λ (m : SeatState). m.0.held) told.rest in
-    record {
-      resting = record {
-        live = ap (λ (m : SeatState). m.0.id.live) told.rest ∙ resting.live;
-        heard = ap (λ (m : SeatState). m.0.heard) told.rest;
-        carried = ap (λ (m : SeatState). m.1) told.rest
-            ∙ (resting.carried ∙ (ap carried_slots held ∙ sym (ap carried_slots now_held)));
-        knows = subst (λ (q : Opening). KnowsBases q new.0) (sym opening) told.knows;
-      };
-      shifts = record { before = told.before; seen = told.seen; shifts = told.shifts; rest = ap (λ (m : SeatState). m.0) told.rest };
-      about = opening;
-      held = now_held;
     }

@@ -1,13 +1,15 @@
 pub mod Begun
 pub mod Frames
+pub mod Adding
 pub mod Knowing
 pub mod Looking
+pub mod Taking
+pub mod Freeing
 pub mod Entering
 pub mod Shifting
 pub mod Splitting
 pub mod Events
 pub mod Holding
-pub mod Telling
 pub mod Catching
 pub mod Beginning
 pub mod Stable

@@ -217,10 +217,6 @@ pub off_line_seen : (o : Opening) (v : BaseView BaseContent) → AreFresh o.time
 off_line_seen o v fresh knows =
     clear_after o.bases (length o.timers) (first_system o.timers) v.seen knows.allowed (agrees_first o.timers fresh.each) (clear_first o.timers)
 
--- no timer keeps other terms than it began with
-terms_seen : (o : Opening) (v : BaseView BaseContent) (t : ℕ) → (timer_seen o v t).terms ≡ (timer_at o.timers t).terms
-terms_seen o v t = terms_now o.timers v.seen t
-
 -- what a held base's standing says of all timers
 pub record TellsOff (o : Opening) (v : BaseView BaseContent) (h : HeldContent BaseContent) (heir : Option ℕ) : Type 0 where
   pub unused : IfSome heir (λ to. IsUnused (timer_seen o v) h.base)
@@ -234,5 +230,5 @@ tells_off o v fresh knows h held (Some to) is =
     let is_off = sym (is ∙ ap (λ (b : BaseContent). b.standing.heir) (knows.held h held).1.0) in record {
       unused = unused (after_entries (first_system o.timers) v.seen) (agrees o.bases o.timers v.seen fresh.each knows.allowed) h.base
           (off.each h.base to is_off);
-      reach = λ t inside. subst (λ (k : Terms). 0 < k.reach) (terms_seen o v t) (off.reach h.base to is_off t inside);
+      reach = λ t inside. subst (λ (k : Terms). 0 < k.reach) (terms_now o.timers v.seen t) (off.reach h.base to is_off t inside);
     }

@@ -1,5 +1,5 @@
 -- Passes are split off and taken in, and told of each other, and the rule stays.
-use Rattle.std.proofs.Common.{◌≡◌, ℕ, ◌+◌, zero, suc, true, length-append, List, [], ◌∷◌, ◌++◌, length, map, set, refl, ap, sym, ◌∙◌, subst, ⊎_elim, arith}
+use Rattle.std.proofs.Common.{◌≡◌, ℕ, ◌+◌, zero, suc, true, length-append, List, [], ◌∷◌, ◌++◌, length, map, set, refl, ap, sym, ◌∙◌, subst, ⊎_elim, arith, ◌≤◌, ◌<◌}
 use Rattle.std.specs.Prelude.{slice_index, max, Some, None}
 use Rattle.std.proofs.lemmas.Bool.{cases_lt, true≢false}
 use Rattle.std.proofs.lemmas.List.{map-set}
@@ -9,23 +9,20 @@ use Rattle.atomic_table.specs.Table.{Splits, Joins}
 use Rattle.atomic_table.proofs.Lists.{at_map, set_again, set_else}
 use Rattle.pass_names.specs.declared.PassId.{PassId}
 use Rattle.pass_names.specs.Counts.{one_if}
-use Rattle.pass_names.specs.Names.{IsPassTree, gone_pass_id, AnswersFor}
-use Rattle.pass_names.specs.Passes.{is_place}
+use Rattle.pass_names.specs.Names.{IsPassTree, gone_pass_id, AnswersFor, after_split, child_of}
+use Rattle.pass_names.specs.Passes.{is_place, Begins}
 use Rattle.pass_names.proofs.Counts.{total-append}
 use Rattle.pass_names.proofs.Names.{splits_tree, gone_tree, joins_tree}
 use Rattle.pass_names.proofs.Passes.{begins_nil}
 use Rattle.base_row.specs.declared.view.Claimed.{Claimed}
 use Rattle.seq_timer.specs.declared.system.SystemEntry.{SystemEntry}
-use Rattle.base_row.specs.declared.view.HeldContent.{HeldContent}
 use Rattle.base_row.specs.declared.view.Opening.{Opening}
 use Rattle.base_row.specs.declared.view.BaseView.{BaseView}
 use Rattle.seq_timer.specs.Systems.{BaseContent}
-use Rattle.base_row.specs.Rules.{base_pass_id, held_in, carried_in, is_base_claim, holds_at, takes_at, PassHolds, HasOneHistory}
-use Rattle.base_row.specs.Plays.{no_opening, greater, split_base_view, new_base_view, base_note_of, gone_base_view, joined_base_view, told_base_view}
-use Rattle.base_row.proofs.Frames.{grown, merged}
-
-no_lock : (h : HeldContent BaseContent) → None ≡ Some h → ⊥
-no_lock h e = cc
+use Rattle.base_row.specs.Rules.{base_pass_id, held_in, carried_in, is_base_claim, takes_at, PassHolds, HasOneHistory, base_place, Token, has, Place, Shift, Claim, Carry, Hold, Take}
+use Rattle.base_row.specs.Plays.{no_opening, greater, split_base_view, new_base_view, base_note_of, gone_base_view, joined_base_view, told_base_view, bare_view}
+use Rattle.base_row.proofs.Frames.{grown, merged, has_kept, no_lock}
+use Rattle.base_row.specs.Places.{lock_at}
 
 no_timer : (t : ℕ) → None ≡ Some t → ⊥
 no_timer t e = cc
@@ -43,33 +40,30 @@ greater_len (x ∷ xs) [] = omega arith
 greater_len (x ∷ xs) (y ∷ ys) = omega (arith, greater_len xs ys)
 
 module _ (o : Opening) where
-  -- a view that has nothing of its own fits, with what was seen and met
-  fits_reader : (log : List SystemEntry) (words : List ℕ) (pass : PassId) (opening : Opening) (v : BaseView BaseContent)
-      → PassHolds o log words v → (pass.live ≡ true → length v.met ≡ o.bases)
-      → (pass.live ≡ true → pass.name ≡ [] → ⊥) → PassHolds o log words record {
-        id = pass;
-        opening = opening;
-        seen = v.seen;
-        heard = [];
-        mine = [];
-        claims = [];
-        held = None;
-        carry = None;
-        takes = [];
-        met = v.met;
-      }
-  fits_reader log words pass opening v fits full named = record {
-    seen = fits.seen;
+  has_none : (x : Token) (id : PassId) (opening : Opening) (seen : List SystemEntry) (met : List ℕ) → has o x (bare_view id opening seen met) ≡ 0
+  has_none (Place t k) id opening seen met = refl
+  has_none x id opening seen met = refl
+
+  -- a view that has nothing of its own fits
+  fits_bare : (log : List SystemEntry) (words : List ℕ) (id : PassId) (opening : Opening) (seen : List SystemEntry) (met : List ℕ)
+      → Begins seen log → length met ≤ o.bases → ((b : ℕ) → b < o.bases → slice_index met b ≤ slice_index words (lock_at b))
+      → (id.live ≡ true → length met ≡ o.bases) → (id.live ≡ true → id.name ≡ [] → ⊥) → PassHolds o log words (bare_view id opening seen met)
+  fits_bare log words id opening seen met begins wide below full named = record {
+    seen = begins;
     heard = begins_nil log;
     held = λ h e. absurd (no_lock h e);
     carry = λ t e. absurd (no_timer t e);
-    wide = fits.wide;
+    wide = wide;
     full = full;
-    met = fits.met;
+    met = below;
     takes = λ b k some_one. absurd (omega arith);
     first = λ live name b. absurd (named live name);
-    gone = λ off. (refl, (refl, (refl, refl)));
+    gone = λ off x. has_none x id opening seen met;
   }
+
+  fits_gone : (log : List SystemEntry) (words : List ℕ) → PassHolds o log words gone_base_view
+  fits_gone log words = fits_bare log words gone_pass_id no_opening [] [] (begins_nil log) (omega arith) (λ b h. omega arith)
+      (λ live. absurd (true≢false (sym live))) (λ live name. absurd (true≢false (sym live)))
 
   fits_split : (log : List SystemEntry) (words : List ℕ) (v : BaseView BaseContent) → PassHolds o log words v
       → PassHolds o log words (split_base_view v)
@@ -83,7 +77,7 @@ module _ (o : Opening) where
     met = fits.met;
     takes = fits.takes;
     first = fits.first;
-    gone = fits.gone;
+    gone = λ off x. has_kept o x v (after_split v.id) v.seen v.heard v.met ∙ fits.gone off x;
   }
 
   child_named : (l : List ℕ) (k : ℕ) → l ++ k ∷ [] ≡ [] → ⊥
@@ -94,10 +88,10 @@ module _ (o : Opening) where
       let fits = home.each_view id v at in (
         log,
         grown o log s home id v (split_base_view v) (new_base_view v) at (fits_split log s.words v fits)
-            (fits_reader log s.words (base_pass_id (new_base_view v)) v.opening v fits (λ t. fits.full live)
+            (fits_bare log s.words (child_of v.id) v.opening v.seen v.met fits.seen fits.wide fits.met (λ t. fits.full live)
             (λ t name. child_named v.id.name (v.id.made + 1) name))
             (splits_tree (map base_pass_id s.views) home.tree id (base_pass_id v) (at_map base_pass_id s.views id v at) live)
-            (record { places = λ t k. refl; claims = λ t g b. refl; holds = λ b. refl; takes = λ b k. refl; carries = λ t. refl }),
+            (λ x. omega (arith, has_kept o x v (after_split v.id) v.seen v.heard v.met, has_none x (child_of v.id) v.opening v.seen v.met)),
       )
 
   pub notes : (id : ℕ) (v : BaseView BaseContent) → Splits (HasOneHistory o) id v v (base_note_of v)
@@ -105,26 +99,13 @@ module _ (o : Opening) where
       let fits = home.each_view id v at in (
         log,
         grown o log s home id v v (base_note_of v) at fits
-            (fits_reader log s.words gone_pass_id no_opening v fits (λ t. absurd (true≢false (sym t))) (λ t name. absurd (true≢false (sym t))))
+            (fits_bare log s.words gone_pass_id no_opening v.seen v.met fits.seen fits.wide fits.met
+            (λ t. absurd (true≢false (sym t))) (λ t name. absurd (true≢false (sym t))))
             (subst (λ ls. IsPassTree (ls ++ gone_pass_id ∷ []))
             (sym (set_again (map base_pass_id s.views) id (base_pass_id v) (at_map base_pass_id s.views id v at)))
             (gone_tree (map base_pass_id s.views) home.tree))
-            (record { places = λ t k. refl; claims = λ t g b. refl; holds = λ b. refl; takes = λ b k. refl; carries = λ t. refl }),
+            (λ x. omega (arith, has_none x gone_pass_id no_opening v.seen v.met)),
       )
-
-  fits_gone : (log : List SystemEntry) (words : List ℕ) → PassHolds o log words gone_base_view
-  fits_gone log words = record {
-    seen = begins_nil log;
-    heard = begins_nil log;
-    held = λ h e. absurd (no_lock h e);
-    carry = λ t e. absurd (no_timer t e);
-    wide = omega arith;
-    full = λ live. absurd (true≢false (sym live));
-    met = λ b h. omega arith;
-    takes = λ b k some_one. absurd (omega arith);
-    first = λ live name b. absurd (true≢false (sym live));
-    gone = λ off. (refl, (refl, (refl, refl)));
-  }
 
   fits_joined : (log : List SystemEntry) (words : List ℕ) (v u : BaseView BaseContent) → v.id.live ≡ true → v.held ≡ None → u.held ≡ None
       → PassHolds o log words v → PassHolds o log words u
@@ -138,8 +119,8 @@ module _ (o : Opening) where
     full = λ alive. omega (arith, greater_len v.met u.met, fits.full live, fits_u.wide);
     met = λ b h. omega (arith, greater_at v.met u.met b, fits.met b h, fits_u.met b h);
     takes = λ b k some_one.
-        let none : holds_at b v ≡ 0 = ap (held_in b) idle in
-        let none_u : holds_at b u ≡ 0 = ap (held_in b) idle_u in
+        let none : held_in b v.held ≡ 0 = ap (held_in b) idle in
+        let none_u : held_in b u.held ≡ 0 = ap (held_in b) idle_u in
         ⊎_elim
         (λ t. omega (arith, fits.takes b k t, greater_at v.met u.met b))
         (λ z. omega (
@@ -156,6 +137,15 @@ module _ (o : Opening) where
     gone = λ off. absurd (true≢false (sym live ∙ off));
   }
 
+  has_joined : (v u : BaseView BaseContent) → u.held ≡ None → u.carry ≡ None → (x : Token)
+      → has o x (joined_base_view v u) + has o x gone_base_view ≡ has o x v + has o x u
+  has_joined v u idle empty (Place t k) = omega (arith, total-append (λ (p : ℕ × ℕ). one_if (is_place t k p)) v.mine u.mine)
+  has_joined v u idle empty (Shift b k) = omega (arith, total-append (λ (p : ℕ × ℕ). one_if (is_place (base_place (length o.timers) b) k p)) v.mine u.mine)
+  has_joined v u idle empty (Claim t g b) = omega (arith, total-append (λ (p : Claimed). one_if (is_base_claim t g b p)) v.claims u.claims)
+  has_joined v u idle empty (Carry t) = omega (arith, ap (carried_in t) empty)
+  has_joined v u idle empty (Hold b) = omega (arith, ap (held_in b) idle)
+  has_joined v u idle empty (Take b k) = omega (arith, total-append (λ (p : ℕ × ℕ). one_if (is_place b k p)) v.takes u.takes)
+
   pub joins : (id other : ℕ) (v u : BaseView BaseContent) → v.id.live ≡ true → u.id.live ≡ true → v.held ≡ None → u.held ≡ None
       → u.carry ≡ None → AnswersFor v.id u.id
       → Joins (HasOneHistory o) id v other u (joined_base_view v u) gone_base_view
@@ -170,13 +160,7 @@ module _ (o : Opening) where
             (fits_gone log s.words)
             (joins_tree (map base_pass_id s.views) home.tree id other (base_pass_id v) (base_pass_id u)
             (at_map base_pass_id s.views id v at) live apart lines_at live_u answers)
-            (record {
-              places = λ t k. omega (arith, total-append (λ (p : ℕ × ℕ). one_if (is_place t k p)) v.mine u.mine);
-              claims = λ t g b. omega (arith, total-append (λ (p : Claimed). one_if (is_base_claim t g b p)) v.claims u.claims);
-              holds = λ b. omega (arith, ap (held_in b) idle_u);
-              takes = λ b k. omega (arith, total-append (λ (p : ℕ × ℕ). one_if (is_place b k p)) v.takes u.takes);
-              carries = λ t. omega (arith, ap (carried_in t) empty);
-            }),
+            (has_joined v u idle_u empty),
       )
 
   -- a note is taken in
@@ -211,9 +195,14 @@ module _ (o : Opening) where
               met = λ b h. omega (arith, greater_at v.met u.met b, fits.met b h, fits_u.met b h);
               takes = λ b k some_one. omega (arith, fits.takes b k some_one, greater_at v.met u.met b);
               first = fits.first;
-              gone = fits.gone;
+              gone = λ off y. has_kept o y v v.id v.seen u.seen (greater v.met u.met) ∙ fits.gone off y;
             })
             (fits_gone log s.words)
             (subst (λ ls. IsPassTree ls) (sym lines) home.tree)
-            (record { places = λ t k. refl; claims = λ t g b. refl; holds = λ b. refl; takes = λ b k. refl; carries = λ t. refl }),
+            (λ y. omega (
+              arith,
+              has_kept o y v v.id v.seen u.seen (greater v.met u.met),
+              has_none y gone_pass_id no_opening [] [],
+              has_none y gone_pass_id no_opening x.seen x.met,
+            )),
       )

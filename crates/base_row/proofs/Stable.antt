@@ -13,39 +13,29 @@ use Rattle.seq_timer.proofs.Systems.{shows, same_on}
 use Rattle.base_row.proofs.Begun.{steps_begins, same_own}
 use Rattle.base_row.specs.declared.view.Opening.{Opening}
 
-module _ (o : Opening) (log : List SystemEntry) (s : State (Option BaseContent) (BaseView BaseContent))
-    (home : RowHolds o log s)
-    (v : BaseView BaseContent) (fits : PassHolds o log s.words v) (h : HeldContent BaseContent) (held : v.held ≡ Some h) (t : ℕ)
-    (within : t < length o.timers)
-    (ours : IsOn h.base (timer_seen o v t) ⊎ (v.carry ≡ Some t)) where
-  pub stable : (system_after o.timers log).timers t ≡ timer_seen o v t
-  stable =
-      ⊎_elim
-      (λ on.
-      let holds = fits.held h held in
-      same_on (length o.timers) (system_after o.timers v.seen) (system_after o.timers log) h.base t
-      (shows o.bases o.timers v.seen (steps_begins o.bases (length o.timers) (first_system o.timers) v.seen log fits.seen home.allowed))
-      (shows o.bases o.timers log home.allowed)
-      (sym holds.seen ∙ holds.whole) within on)
-      (λ carry. sym (fits.carry t carry))
-      ours
+module _ (o : Opening) (log : List SystemEntry) (s : State (Option BaseContent) (BaseView BaseContent)) (home : RowHolds o log s)
+    (v : BaseView BaseContent) (fits : PassHolds o log s.words v) where
+  module _ (h : HeldContent BaseContent) (held : v.held ≡ Some h) (t : ℕ) (within : t < length o.timers)
+      (ours : IsOn h.base (timer_seen o v t) ⊎ (v.carry ≡ Some t)) where
+    pub stable : (system_after o.timers log).timers t ≡ timer_seen o v t
+    stable =
+        ⊎_elim
+        (λ on.
+        let holds = fits.held h held in
+        same_on (length o.timers) (system_after o.timers v.seen) (system_after o.timers log) h.base t
+        (shows o.bases o.timers v.seen (steps_begins o.bases (length o.timers) (first_system o.timers) v.seen log fits.seen home.allowed))
+        (shows o.bases o.timers log home.allowed)
+        (sym holds.seen ∙ holds.whole) within on)
+        (λ carry. sym (fits.carry t carry))
+        ours
 
-  pub stable_own : entries_of t log ≡ entries_of t v.seen
-  stable_own = same_own (first_system o.timers) t v.seen log fits.seen stable
+    pub stable_own : entries_of t log ≡ entries_of t v.seen
+    stable_own = same_own (first_system o.timers) t v.seen log fits.seen stable
 
-module _ (o : Opening) (log : List SystemEntry) (s : State (Option BaseContent) (BaseView BaseContent))
-    (home : RowHolds o log s)
-    (v : BaseView BaseContent) (fits : PassHolds o log s.words v) (t : ℕ) (carry : v.carry ≡ Some t) where
-  pub carry_own : entries_of t log ≡ entries_of t v.seen
-  carry_own = same_own (first_system o.timers) t v.seen log fits.seen (sym (fits.carry t carry))
-
--- where a pass has seen the whole history, it is steady
-module _ (o : Opening) (log : List SystemEntry) (s : State (Option BaseContent) (BaseView BaseContent))
-    (home : RowHolds o log s)
-    (v : BaseView BaseContent) (fits : PassHolds o log s.words v) (live : v.id.live ≡ true) where
-  pub steady_own : {w : BaseView BaseContent} → w.seen ≡ log → Steady v w
-  steady_own {w} whole = record {
-    carried = λ t e. ap (entries_of t) whole ∙ carry_own o log s home v fits t e;
+  -- where a pass has seen the whole history, it is steady
+  pub steady_own : {w : BaseView BaseContent} → v.id.live ≡ true → w.seen ≡ log → Steady v w
+  steady_own {w} live whole = record {
+    carried = λ t e. ap (entries_of t) whole ∙ same_own (first_system o.timers) t v.seen log fits.seen (sym (fits.carry t e));
     shifts = λ name b. ap (shifts_of b) whole ∙ sym (fits.first live name b);
   }
 

@@ -23,7 +23,8 @@ use Rattle.base_row.specs.declared.view.HeldContent.{HeldContent}
 use Rattle.base_row.specs.declared.view.Opening.{Opening}
 use Rattle.base_row.specs.declared.view.BaseView.{BaseView}
 use Rattle.seq_timer.specs.Systems.{BaseContent, first_system, IsSystemStep, AreSystemSteps, IsClear, changed, entries_of, shifted, shifts_of, IsOn, system_after}
-use Rattle.base_row.specs.Rules.{base_place, is_base_claim, carried_in, number_of, standing_number, runs, places_at, base_claims_at, carries_at, takes_at, base_seen, timer_seen}
+use Rattle.base_row.specs.Rules.{base_place, is_base_claim, carried_in, number_of, standing_number, runs, takes_at, base_seen, timer_seen, has, Place, Shift, Claim}
+use Rattle.pass_names.specs.declared.PassId.{PassId}
 
 -- what a pass's seat has: what the pass knows, and the slots that it carries
 abbrev pub SeatState : Type 0
@@ -62,26 +63,28 @@ having_taken seen b content number word v = record v {
 abbrev pub having_freed : List SystemEntry → ℕ → ℕ → BaseView BaseContent → BaseView BaseContent
 having_freed seen b word v = record v { seen = seen; heard = []; held = None; met = set v.met b word }
 
--- a pass that has added an entry of a timer, which was so
-abbrev pub having_entered : List SystemEntry → TimerEntry → Timer → HeldContent BaseContent → List Claimed → Option ℕ
+-- a pass that has added an entry, whose place is this, and holds its base with this content
+abbrev pub having_added : List SystemEntry → SystemEntry → ℕ × ℕ → BaseContent → List Claimed → Option ℕ → HeldContent BaseContent
     → BaseView BaseContent → BaseView BaseContent
-having_entered before e t h claims carry v = record v {
-  seen = before ++ entries.Timer e ∷ [];
+having_added before x place content claims carry h v = record v {
+  seen = before ++ x ∷ [];
   heard = [];
-  mine = v.mine ++ (e.timer, t.stamp + 1) ∷ [];
+  mine = v.mine ++ place ∷ [];
   claims = claims;
-  held = Some (record { base = h.base; word = h.word; content = changed e.timer t e.event h.content });
+  held = Some (record { base = h.base; word = h.word; content = content });
   carry = carry;
 }
 
--- a pass that has added an entry of a base that it holds; there are so many timers
+-- an entry of a timer, which was so
+abbrev pub having_entered : List SystemEntry → TimerEntry → Timer → HeldContent BaseContent → List Claimed → Option ℕ
+    → BaseView BaseContent → BaseView BaseContent
+having_entered before e t h claims carry v =
+    having_added before (entries.Timer e) (e.timer, t.stamp + 1) (changed e.timer t e.event h.content) claims carry h v
+
+-- an entry of the base; there are so many timers
 abbrev pub having_shifted : List SystemEntry → ℕ → BaseEvent → HeldContent BaseContent → BaseView BaseContent → BaseView BaseContent
-having_shifted before timers event h v = record v {
-  seen = before ++ entries.Base (record { base = h.base; event = event }) ∷ [];
-  heard = [];
-  mine = v.mine ++ (base_place timers h.base, h.content.standing.stamp + 1) ∷ [];
-  held = Some (record { base = h.base; word = h.word; content = shifted event h.content });
-}
+having_shifted before timers event h v = having_added before (entries.Base (record { base = h.base; event = event }))
+    (base_place timers h.base, h.content.standing.stamp + 1) (shifted event h.content) v.claims v.carry h v
 
 -- the greater of each two
 abbrev pub greater : List ℕ → List ℕ → List ℕ
@@ -92,20 +95,24 @@ greater (x ∷ xs) (y ∷ ys) = max x y ∷ greater xs ys
 abbrev pub no_opening : Opening
 no_opening = record { bases = 0; timers = [] }
 
--- the first pass
-abbrev pub first_base_view : Opening → BaseView BaseContent
-first_base_view o = record {
-  id = first_pass_id;
-  opening = o;
-  seen = [];
+-- a pass that has nothing of its own, by what it has seen and met
+abbrev pub bare_view : PassId → Opening → List SystemEntry → List ℕ → BaseView BaseContent
+bare_view id opening seen met = record {
+  id = id;
+  opening = opening;
+  seen = seen;
   heard = [];
   mine = [];
   claims = [];
   held = None;
   carry = None;
   takes = [];
-  met = replicate o.bases 0;
+  met = met;
 }
+
+-- the first pass
+abbrev pub first_base_view : Opening → BaseView BaseContent
+first_base_view o = bare_view first_pass_id o [] (replicate o.bases 0)
 
 -- after a pass was split off
 abbrev pub split_base_view : BaseView BaseContent → BaseView BaseContent
@@ -113,48 +120,15 @@ split_base_view v = record v { id = after_split v.id }
 
 -- the pass that was split off
 abbrev pub new_base_view : BaseView BaseContent → BaseView BaseContent
-new_base_view v = record {
-  id = child_of v.id;
-  opening = v.opening;
-  seen = v.seen;
-  heard = [];
-  mine = [];
-  claims = [];
-  held = None;
-  carry = None;
-  takes = [];
-  met = v.met;
-}
+new_base_view v = bare_view (child_of v.id) v.opening v.seen v.met
 
 -- a note of what a pass has seen and met, which is no pass
 abbrev pub base_note_of : BaseView BaseContent → BaseView BaseContent
-base_note_of v = record {
-  id = gone_pass_id;
-  opening = no_opening;
-  seen = v.seen;
-  heard = [];
-  mine = [];
-  claims = [];
-  held = None;
-  carry = None;
-  takes = [];
-  met = v.met;
-}
+base_note_of v = bare_view gone_pass_id no_opening v.seen v.met
 
 -- what is left of a pass that was taken in
 abbrev pub gone_base_view : BaseView BaseContent
-gone_base_view = record {
-  id = gone_pass_id;
-  opening = no_opening;
-  seen = [];
-  heard = [];
-  mine = [];
-  claims = [];
-  held = None;
-  carry = None;
-  takes = [];
-  met = [];
-}
+gone_base_view = bare_view gone_pass_id no_opening [] []
 
 -- a pass that was told what another has seen and met
 abbrev pub told_base_view : (v other : BaseView BaseContent) → BaseView BaseContent
@@ -193,11 +167,11 @@ module _ (o : Opening) where
     pub held : (h : HeldContent BaseContent) → v.held ≡ Some h → (h.base < o.bases) × ((h.content ≡ base_seen o v h.base)
         × (h.word ≡ slice_index v.met h.base))
     pub carry : (t : ℕ) → t < length o.timers → v.carry ≡ Some t → (timer_seen o v t).moving ≡ true
-    pub claims : (t g b : ℕ) → t < length o.timers → 0 < base_claims_at t g b v → runs g b (timer_seen o v t) ≡ true
+    pub claims : (t g b : ℕ) → t < length o.timers → 0 < has o (Claim t g b) v → runs g b (timer_seen o v t) ≡ true
     -- the last pass has made each entry, each once, and each take; no timer is on the move but one that it carries
-    pub all_entries : IsLast v.id → (t k : ℕ) → t < length o.timers → places_at t k v ≡ one_if (within k (timer_seen o v t).stamp)
+    pub all_entries : IsLast v.id → (t k : ℕ) → t < length o.timers → has o (Place t k) v ≡ one_if (within k (timer_seen o v t).stamp)
     pub all_shifts : IsLast v.id → (b k : ℕ) → b < o.bases
-        → places_at (base_place (length o.timers) b) k v ≡ one_if (within k (base_seen o v b).standing.stamp)
+        → has o (Shift b k) v ≡ one_if (within k (base_seen o v b).standing.stamp)
     pub all_carried : IsLast v.id → (t : ℕ) → t < length o.timers → (timer_seen o v t).moving ≡ true → v.carry ≡ Some t
     pub all_takes : IsLast v.id → (b k : ℕ) → b < o.bases → 0 < k → k + k ≤ slice_index v.met b + 1 → takes_at b k v ≡ 1
 
@@ -280,8 +254,8 @@ CarriesAlone v id t = v.carry ≡ (if t.moving then Some id else None)
 abbrev pub OwnNeedsBy : Bool → Option ℕ → BaseView BaseContent → ℕ → Timer → Type 0
 OwnNeedsBy false None v id t = Unit {0}
 OwnNeedsBy false (Some base) v id t = CarriesAlone v id t
-OwnNeedsBy true None v id t = 0 < base_claims_at id (unwrap_or t.running 0) t.base v
-OwnNeedsBy true (Some base) v id t = (0 < base_claims_at id (unwrap_or t.running 0) t.base v) × CarriesAlone v id t
+OwnNeedsBy true None v id t = 0 < count (is_base_claim id (unwrap_or t.running 0) t.base) v.claims
+OwnNeedsBy true (Some base) v id t = (0 < count (is_base_claim id (unwrap_or t.running 0) t.base) v.claims) × CarriesAlone v id t
 
 -- what an event needs of the pass that makes it; that a pass carries the timer which it starts on the move stands in `MayEnter`
 abbrev pub OwnNeeds : BaseView BaseContent → ℕ → Timer → Event → Type 0
@@ -289,10 +263,10 @@ OwnNeeds v id t event = OwnNeedsBy (effect t event).by_claimer (effect t event).
 
 -- a pass's claims and carry go along with an entry of a timer, which was so
 pub record GoAlong (t : Timer) (e : TimerEntry) (v : BaseView BaseContent) (claims : List Claimed) (carry : Option ℕ) : Type 0 where
-  pub own : (g b : ℕ) → count (is_base_claim e.timer g b) claims + one_if (runs g b t) ≡ base_claims_at e.timer g b v + one_if (runs g b (after t e.event))
-  pub apart : (k g b : ℕ) → k ≢ e.timer → count (is_base_claim k g b) claims ≡ base_claims_at k g b v
-  pub carry_here : carried_in e.timer carry + one_if t.moving ≡ carries_at e.timer v + one_if (after t e.event).moving
-  pub carry_else : (k : ℕ) → k ≢ e.timer → carried_in k carry ≡ carries_at k v
+  pub own : (g b : ℕ) → count (is_base_claim e.timer g b) claims + one_if (runs g b t) ≡ count (is_base_claim e.timer g b) v.claims + one_if (runs g b (after t e.event))
+  pub apart : (k g b : ℕ) → k ≢ e.timer → count (is_base_claim k g b) claims ≡ count (is_base_claim k g b) v.claims
+  pub carry_here : carried_in e.timer carry + one_if t.moving ≡ carried_in e.timer v.carry + one_if (after t e.event).moving
+  pub carry_else : (k : ℕ) → k ≢ e.timer → carried_in k carry ≡ carried_in k v.carry
 
 -- the first pass may add an entry of a base that it holds
 pub record MayEnterShift (v : BaseView BaseContent) (h : HeldContent BaseContent) (event : BaseEvent) : Type 0 where

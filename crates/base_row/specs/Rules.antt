@@ -1,6 +1,6 @@
 -- The rule of the table: one history of all timers, of which each pass has seen a beginning; words and slots are what it says.
 use Rattle.base_row.specs.Places.{lock_at, word_at}
-use Rattle.std.specs.Prelude.{◌≡◌, ℕ, ◌+◌, ◌*◌, ◌<◌, ◌≤◌, Bool, true, false, ◌==◌, ◌&&◌, List, [], length, map, slice_index, Option, Some, None}
+use Rattle.std.specs.Prelude.{zero, suc, ◌%◌, ◌/◌, ◌≡◌, ℕ, ◌+◌, ◌*◌, ◌<◌, ◌≤◌, Bool, true, false, ◌==◌, ◌&&◌, List, [], length, map, slice_index, Option, Some, None}
 use mathlib.Core.Option.{some, none}
 use lib.ListN.{get_elem?}
 use Rattle.atomic_table.specs.Table.{State}
@@ -33,19 +33,6 @@ abbrev pub carried_in : ℕ → Option ℕ → ℕ
 carried_in t None = 0
 carried_in t (Some c) = one_if (c == t)
 
--- how much of each kind a pass has
-abbrev pub places_at : ℕ → ℕ → BaseView BaseContent → ℕ
-places_at t k v = count (is_place t k) v.mine
-
-abbrev pub base_claims_at : ℕ → ℕ → ℕ → BaseView BaseContent → ℕ
-base_claims_at t g b v = count (is_base_claim t g b) v.claims
-
-abbrev pub holds_at : ℕ → BaseView BaseContent → ℕ
-holds_at b v = held_in b v.held
-
-abbrev pub carries_at : ℕ → BaseView BaseContent → ℕ
-carries_at t v = carried_in t v.carry
-
 abbrev pub takes_at : ℕ → ℕ → BaseView BaseContent → ℕ
 takes_at b k v = count (is_place b k) v.takes
 
@@ -62,17 +49,6 @@ is_generation g (Some r) = r == g
 abbrev pub runs : ℕ → ℕ → Timer → Bool
 runs g b t = is_generation g t.running && (t.base == b)
 
--- A base's lock word, slot, holders and takes. The word is twice the number of takes, less one while the base is held.
-pub record LockState (content : BaseContent) (home : mathlib.Core.Option.Option (mathlib.Core.Option.Option (Option BaseContent)))
-    (word held : ℕ) (takes : ℕ → ℕ) : Type 0 where
-  pub taken : ℕ
-  pub number : word + held ≡ taken + taken
-  pub once : held ≤ 1
-  -- the slot of a free base is at home with its content; that of a held one is out
-  pub free : held ≡ 0 → home ≡ some (some (Some content))
-  pub out : 0 < held → home ≡ some none
-  pub each : (k : ℕ) → takes k ≡ one_if (within k taken)
-
 -- the number in a base's word: bits 0 to 15 the stamp, and where it is off line bits 16 to 23 the heir, and bit 24
 unfoldable pub standing_number : Standing → ℕ
 standing_number s = s.stamp + heir_number s.heir
@@ -84,6 +60,48 @@ base_place timers b = timers + b
 -- the number in a timer's word
 unfoldable pub number_of : Timer → ℕ
 number_of t = packed (peek_of t)
+
+-- What passes have, each of them once: the places of the entries of timers and of bases, claims, timers on the move, bases, and takes of bases.
+pub data Token : Type 0 where
+  Place : ℕ → ℕ → Token
+  Shift : ℕ → ℕ → Token
+  Claim : ℕ → ℕ → ℕ → Token
+  Carry : ℕ → Token
+  Hold : ℕ → Token
+  Take : ℕ → ℕ → Token
+
+-- whether it is of a timer or a base that there is
+abbrev pub IsIn : Opening → Token → Type 0
+IsIn o (Place t k) = t < length o.timers
+IsIn o (Shift b k) = b < o.bases
+IsIn o (Claim t g b) = t < length o.timers
+IsIn o (Carry t) = t < length o.timers
+IsIn o (Hold b) = b < o.bases
+IsIn o (Take b k) = b < o.bases
+
+-- how often a pass has it
+abbrev pub has : Opening → Token → BaseView BaseContent → ℕ
+has o (Place t k) v = count (is_place t k) v.mine
+has o (Shift b k) v = count (is_place (base_place (length o.timers) b) k) v.mine
+has o (Claim t g b) v = count (is_base_claim t g b) v.claims
+has o (Carry t) v = carried_in t v.carry
+has o (Hold b) v = held_in b v.held
+has o (Take b k) v = takes_at b k v
+
+-- How often all passes have it, by the system after the history and the table's words. A base's lock word is twice the number of its takes, less one
+-- while the base is held.
+abbrev pub owed : System → List ℕ → Token → ℕ
+owed w words (Place t k) = one_if (within k (w.timers t).stamp)
+owed w words (Shift b k) = one_if (within k (w.bases b).standing.stamp)
+owed w words (Claim t g b) = one_if (runs g b (w.timers t))
+owed w words (Carry t) = one_if (w.timers t).moving
+owed w words (Hold b) = slice_index words (lock_at b) % 2
+owed w words (Take b k) = one_if (within k ((slice_index words (lock_at b) + 1) / 2))
+
+-- a base's slot, by how many passes hold it: it is at home with the content, or out
+abbrev pub slot_of : ℕ → BaseContent → mathlib.Core.Option.Option (Option BaseContent)
+slot_of zero content = some (Some content)
+slot_of (suc n) content = none
 
 abbrev pub timer_seen : Opening → BaseView BaseContent → ℕ → Timer
 timer_seen o v t = (system_after o.timers v.seen).timers t
@@ -116,19 +134,19 @@ module _ (o : Opening) where
     pub wide : length v.met ≤ o.bases
     pub full : v.id.live ≡ true → length v.met ≡ o.bases
     pub met : (b : ℕ) → b < o.bases → slice_index v.met b ≤ slice_index words (lock_at b)
-    pub takes : (b k : ℕ) → 0 < takes_at b k v → k + k ≤ slice_index v.met b + holds_at b v
+    pub takes : (b k : ℕ) → 0 < takes_at b k v → k + k ≤ slice_index v.met b + held_in b v.held
     -- the first pass has seen all that happened to bases
     pub first : v.id.live ≡ true → v.id.name ≡ [] → (b : ℕ) → shifts_of b v.seen ≡ shifts_of b log
     -- of a pass that is gone nothing is left
-    pub gone : v.id.live ≡ false → (v.mine ≡ []) × ((v.claims ≡ []) × ((v.takes ≡ []) × (v.carry ≡ None)))
+    pub gone : v.id.live ≡ false → (x : Token) → has o x v ≡ 0
 
   -- The rule: what the table holds and what each pass knows is what one history says.
   pub record RowHolds (log : List SystemEntry) (s : State (Option BaseContent) (BaseView BaseContent)) : Type 0 where
     pub allowed : AreSystemSteps o.bases (length o.timers) (first_system o.timers) log
     pub words_len : length s.words ≡ word_at o.bases (length o.timers + o.bases)
     pub homes_len : length s.homes ≡ o.bases
-    pub each_base : (b : ℕ) → b < o.bases → LockState ((system_after o.timers log).bases b) (get_elem? s.homes b) (slice_index s.words (lock_at b))
-        (total (holds_at b) s.views) (λ k. total (takes_at b k) s.views)
+    pub each_slot : (b : ℕ) → b < o.bases
+        → get_elem? s.homes b ≡ some (slot_of (slice_index s.words (lock_at b) % 2) ((system_after o.timers log).bases b))
     -- a timer's word is that of its state after the history
     pub each_timer : (t : ℕ) → t < length o.timers → slice_index s.words (word_at o.bases t) ≡ number_of ((system_after o.timers log).timers t)
     -- and a base's that of its standing
@@ -136,14 +154,8 @@ module _ (o : Opening) where
         → slice_index s.words (word_at o.bases (base_place (length o.timers) b)) ≡ standing_number ((system_after o.timers log).bases b).standing
     pub each_view : (j : ℕ) (v : BaseView BaseContent) → get_elem? s.views j ≡ some v → PassHolds log s.words v
     pub tree : IsPassTree (map base_pass_id s.views)
-    -- each entry is one pass's own, once
-    pub tally : (t k : ℕ) → t < length o.timers → total (places_at t k) s.views ≡ one_if (within k ((system_after o.timers log).timers t).stamp)
-    pub shifts : (b k : ℕ) → b < o.bases
-        → total (places_at (base_place (length o.timers) b) k) s.views ≡ one_if (within k ((system_after o.timers log).bases b).standing.stamp)
-    -- a function runs where one pass has the claim, once
-    pub claims : (t g b : ℕ) → t < length o.timers → total (base_claims_at t g b) s.views ≡ one_if (runs g b ((system_after o.timers log).timers t))
-    -- a timer is on the move where one pass carries it
-    pub carriers : (t : ℕ) → t < length o.timers → total (carries_at t) s.views ≡ one_if ((system_after o.timers log).timers t).moving
+    -- each token is one pass's, once
+    pub tokens : (x : Token) → IsIn o x → total (has o x) s.views ≡ owed (system_after o.timers log) s.words x
 
   -- there is one history of all timers that says it all
   abbrev pub HasOneHistory : State (Option BaseContent) (BaseView BaseContent) → Type 0

@@ -1,21 +1,27 @@
-use Rattle.std.proofs.Common.{◌≡◌, ℕ, ◌+◌, ◌/◌, Bool, true, false, nat_eq, subst, ◌∙◌, arith}
+use Rattle.base_row.specs.Places.{lock_at}
+use Rattle.std.proofs.Common.{◌≡◌, ℕ, eqb, ◌+◌, Bool, true, false, nat_eq, [], ap, subst, arith, ◌<◌}
 use Rattle.std.specs.Prelude.{MatchBool}
+use mathlib.Core.Option.{none}
+use prog.Atomic.{either}
+use Rattle.atomic_table.specs.Table.{step, Allows}
 use Rattle.base_row.specs.declared.view.Opening.{Opening}
-use Rattle.base_row.specs.Plays.{SeatState, TookBase, FoundTaken}
-use Rattle.base_row.proofs.Telling.{takes_by}
+use Rattle.base_row.specs.Rules.{HasOneHistory}
+use Rattle.base_row.specs.Plays.{SeatState, TookBase, FoundTaken, TakesOwn}
+use Rattle.base_row.proofs.Taking.{takes_lock}
 use Rattle.base_row.proofs.steps.take.Goals as goal
 
 pub compare_exchange-requires : goal.compare_exchange-requires
 compare_exchange-requires c =
     let seat = c.args.seat.now in
-    let key = c.args.cells.now.key in
-    let half : c.args.first ≡ c.args.first / 2 + c.args.first / 2 = omega (arith, c.requires.known.1) in (
-      c.requires.may.same,
-      c.requires.may.inside,
-      rw (c.requires.empty)
-          (takes_by (record { bases = key.0; timers = key.1.value.items }) seat.id seat.me.0 c.requires.may.about c.requires.may.live c.args.cells.now.table_id.slots c.args.base
-          c.args.word (c.args.first / 2) c.args.first (c.args.first + 1) c.requires.may.at c.requires.may.within c.requires.may.idle
-          (c.requires.known.0 ∙ half) half (omega arith)),
+    let slots = c.args.cells.now.table_id.slots in
+    let first = c.args.first in
+    let may = c.requires.may in
+    let inside : c.args.base < seat.me.0.opening.bases = omega (arith, may.within, ap (λ (o : Opening). o.bases) may.about) in (
+      may.same,
+      may.inside,
+      rw (c.requires.empty, may.at) (subst (λ (o : Opening). Allows (HasOneHistory o) slots seat.id (seat.me.0, []) (lock_at c.args.base)
+          (λ n. either (eqb n first) (first + 1) n) (TakesOwn (step slots (lock_at c.args.base) first (first + 1) none) (seat.me.0, []))) may.about
+          (takes_lock seat.me.0.opening slots seat.id seat.me.0 may.live may.idle c.args.base first inside c.requires.known.0 c.requires.known.1)),
     )
 
 loose : (o : Opening) (b first found : ℕ) (hit : Bool) (me new : SeatState)

@@ -1,7 +1,7 @@
 use Rattle.std.proofs.Common.{◌≡◌, arith, ap, sym, subst, ◌∙◌}
 use Rattle.std.specs.Prelude.{Some, unwrap_or}
 use Rattle.seq_timer.specs.Steps.{Timer, after}
-use Rattle.seq_timer.specs.Systems.{BaseContent, BeginsInTurn}
+use Rattle.seq_timer.specs.Systems.{BaseContent, BeginsInTurn, changed}
 use Rattle.seq_timer.proofs.Effects.{by_effect, placed_by}
 use Rattle.base_row.specs.declared.log.Noted.TheVariants as noteds
 use Rattle.base_row.specs.declared.view.Opening.{Opening}
@@ -18,7 +18,9 @@ abbrev about : (g : Over) (c : goal.After-note g) → Opening
 about g c = let key = c.self.inside.table.shared.key in record { bases = key.0; timers = key.1.value.items }
 
 -- what the entry has made of the seat
-made : (g : Over) (c : goal.After-note g) → Rested (about g c) c.requires.may.0 c.args.timer c.args.event.now c.pass.inside.seat.me c.enter.new.seat.me
+made : (g : Over) (c : goal.After-note g) → Rested (about g c) c.requires.may.0
+    (changed c.args.timer (timer_seen (about g c) c.pass.inside.seat.me.0 c.args.timer) c.args.event.now c.requires.may.0.content)
+    (Appended (about g c) c.requires.may.0 c.args.timer c.args.event.now c.pass.inside.seat.me.0 c.enter.new.seat.me.0) c.enter.new.seat.me
 made g c =
     let h = c.requires.may.0 in
     let held = ap (λ (p : BasePassOf). p.knows.held) c.pass.view_is ∙ c.requires.may.1.may.held in

@@ -2,14 +2,14 @@ use Rattle.std.proofs.Common.{◌+◌, ◌<◌, length, ap, sym, ◌∙◌, subs
 use Rattle.std.specs.Prelude.{Some}
 use Rattle.seq_timer.specs.declared.standing.Standing.{Standing}
 use Rattle.seq_timer.specs.Standings.{standing_after}
-use Rattle.seq_timer.specs.Systems.{BaseContent}
+use Rattle.seq_timer.specs.Systems.{BaseContent, shifted}
 use Rattle.base_row.specs.declared.view.HeldContent.{HeldContent}
 use Rattle.base_row.specs.declared.view.Opening.{Opening}
 use Rattle.base_row.specs.Places.{word_at}
 use Rattle.base_row.specs.Rules.{base_place, standing_number}
 use Rattle.base_row.specs.Plays.{MayEnterShift}
 use Rattle.base_row.specs.Calls.{BasePassOf, BaseRowOf, Shifted}
-use Rattle.base_row.proofs.Holding.{RestedShift, knows_about, rested_shift}
+use Rattle.base_row.proofs.Holding.{Rested, knows_about, rested_shift}
 use Rattle.base_row.proofs.Placed.{shift_room, standing_held}
 use Rattle.base_row.proofs.Shifting.{stamp_after}
 use Rattle.base_row.proofs.row.BaseRow.shift.Goals as goal
@@ -52,7 +52,8 @@ base_index-word-requires c =
 abbrev about : goal.After-enter_shift → Opening
 about c = let key = c.self.inside.table.shared.key in record { bases = key.0; timers = key.1.value.items }
 
-made : (c : goal.After-enter_shift) → RestedShift (about c) c.args.held.now c.args.event c.pass.inside.seat.me c.enter_shift.new.seat.me
+made : (c : goal.After-enter_shift) → Rested (about c) c.args.held.now (shifted c.args.event c.args.held.now.content)
+    (Shifted (about c) c.args.held.now c.args.event c.pass.inside.seat.me.0 c.enter_shift.new.seat.me.0) c.enter_shift.new.seat.me
 made c =
     let held = ap (λ (p : BasePassOf). p.knows.held) c.pass.view_is ∙ c.requires.may.held in
     rested_shift (about c) c.args.held.now c.args.event c.pass.inside.seat.me c.enter_shift.new.seat.me
@@ -92,4 +93,4 @@ returns-clause-held c = (made c).held ∙ ap Some (sym c.shift.ensures)
 pub returns-clause-shifts : goal.returns-clause-shifts
 returns-clause-shifts c =
     subst (λ (x : BaseRowOf). Shifted x.about c.args.held.now c.args.event c.args.pass.now.knows c.enter_shift.new.seat.me.0) c.self.view_is
-    (subst (λ (p : BasePassOf). Shifted (about c) c.args.held.now c.args.event p.knows c.enter_shift.new.seat.me.0) c.pass.view_is (made c).shifts)
+    (subst (λ (p : BasePassOf). Shifted (about c) c.args.held.now c.args.event p.knows c.enter_shift.new.seat.me.0) c.pass.view_is (made c).adds)

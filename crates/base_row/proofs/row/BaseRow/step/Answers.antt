@@ -1,5 +1,5 @@
 use Rattle.std.proofs.Common.{◌∙◌}
-use Rattle.base_row.proofs.Holding.{ready_there, room_stepped, state_stepped}
+use Rattle.base_row.proofs.Holding.{ready_there, stepped_states}
 use Rattle.base_row.proofs.row.BaseRow.step.Goals as goal
 
 pub apply-requires-clause-below : goal.apply-requires-clause-below
@@ -26,10 +26,10 @@ pub returns-clause-below : goal.returns-clause-below
 returns-clause-below c =
     let is = ready_there c.args.self.now.about c.args.pass.now.knows c.args.held.now c.args.timer c.args.event.now
     c.requires.row.about c.known.ensures c.fresh.ensures.fresh c.requires.may c.requires.on in
-    room_stepped c.args.self.now.about c.args.pass.now.knows c.args.held.now c.apply.new.self c.args.timer c.args.event.now (c.apply.ensures.held ∙ is.steps) is.below
+    (stepped_states c.args.self.now.about c.args.pass.now.knows c.args.held.now c.apply.new.self c.args.timer c.args.event.now (c.apply.ensures.held ∙ is.steps) is.below).0
 
 pub returns-clause-left : goal.returns-clause-left
 returns-clause-left c =
     let is = ready_there c.args.self.now.about c.args.pass.now.knows c.args.held.now c.args.timer c.args.event.now
     c.requires.row.about c.known.ensures c.fresh.ensures.fresh c.requires.may c.requires.on in
-    state_stepped c.args.self.now.about c.args.pass.now.knows c.args.held.now c.apply.new.self c.args.timer c.args.event.now (c.apply.ensures.held ∙ is.steps) is.below
+    (stepped_states c.args.self.now.about c.args.pass.now.knows c.args.held.now c.apply.new.self c.args.timer c.args.event.now (c.apply.ensures.held ∙ is.steps) is.below).1

@@ -1,5 +1,5 @@
 use Rattle.std.proofs.Common.{◌∙◌}
-use Rattle.base_row.proofs.Holding.{ready, room_stepped, state_stepped}
+use Rattle.base_row.proofs.Holding.{ready, stepped_states}
 use Rattle.base_row.proofs.row.BaseRow.step_in.Goals as goal
 
 pub arrive-requires-clause-below : goal.arrive-requires-clause-below
@@ -26,10 +26,10 @@ pub returns-clause-below : goal.returns-clause-below
 returns-clause-below c =
     let is = ready c.args.self.now.about c.args.pass.now.knows c.args.held.now c.args.timer c.args.event.now c.args.state.now
     c.requires.row.about c.known.ensures c.fresh.ensures.fresh c.requires.may c.requires.state in
-    room_stepped c.args.self.now.about c.args.pass.now.knows c.args.held.now c.arrive.new.self c.args.timer c.args.event.now (c.arrive.ensures.held ∙ is.steps) is.below
+    (stepped_states c.args.self.now.about c.args.pass.now.knows c.args.held.now c.arrive.new.self c.args.timer c.args.event.now (c.arrive.ensures.held ∙ is.steps) is.below).0
 
 pub returns-clause-left : goal.returns-clause-left
 returns-clause-left c =
     let is = ready c.args.self.now.about c.args.pass.now.knows c.args.held.now c.args.timer c.args.event.now c.args.state.now
     c.requires.row.about c.known.ensures c.fresh.ensures.fresh c.requires.may c.requires.state in
-    state_stepped c.args.self.now.about c.args.pass.now.knows c.args.held.now c.arrive.new.self c.args.timer c.args.event.now (c.arrive.ensures.held ∙ is.steps) is.below
+    (stepped_states c.args.self.now.about c.args.pass.now.knows c.args.held.now c.arrive.new.self c.args.timer c.args.event.now (c.arrive.ensures.held ∙ is.steps) is.below).1
