@@ -23,9 +23,9 @@ use Rattle.base_row.specs.declared.view.HeldContent.{HeldContent}
 use Rattle.base_row.specs.declared.view.Opening.{Opening}
 use Rattle.base_row.specs.declared.view.BaseView.{BaseView}
 use Rattle.base_row.specs.Rules.{takes_at, base_seen, timer_seen}
-use Rattle.base_row.specs.Plays.{SeatState, GotBase, KnowsOwn, Lost, carried_slots}
+use Rattle.base_row.specs.Plays.{SeatState, GotBase, KnowsOwn, Lost, carried_slots, entry_in}
 use Rattle.base_row.specs.Calls.{Absorbs, Appended, AreFresh, LearnsFrom, LetsGo, GetsBase, MayAppend}
-use Rattle.base_row.specs.Calls.{MissesBase, SeesFurther, Waits, entry_in, known_of, own_entry}
+use Rattle.base_row.specs.Calls.{MissesBase, SeesFurther, Waits, known_of, own_entry}
 use Rattle.base_row.proofs.Stable.{steady_trans}
 
 -- ---- takes

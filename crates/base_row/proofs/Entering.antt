@@ -22,7 +22,7 @@ use Rattle.seq_timer.specs.Systems.{BaseContent, System, first_system, after_ent
 use Rattle.seq_timer.specs.declared.system.SystemEntry.TheVariants as entries
 use Rattle.base_row.specs.Rules.{runs, HeldHolds, PassHolds, RowHolds, HasOneHistory, number_of, timer_seen, standing_number, carried_in, is_base_claim, has, Claim, Carry}
 use Rattle.base_row.specs.Plays.{SeatState, having_entered, GoAlong, MayEnter, EnteredTimer, OwnNeeds}
-use Rattle.base_row.specs.Plays.{EntersAs, EntersBy, entry_of_event, claims_with_event, carry_after}
+use Rattle.base_row.specs.Plays.{EntersAs, EntersBy, entry_in, claims_with_event, carry_after}
 use Rattle.seq_timer.proofs.Systems.{after_entries-append, base_else, base_here, shifts_of-append, standing_same, steps_push, timer_here, timer_else}
 use Rattle.pass_names.specs.Counts.{count, total}
 use Rattle.pass_names.proofs.Counts.{total_at}
@@ -129,10 +129,21 @@ module _ (o : Opening) (id : ℕ) (v : BaseView BaseContent) (h : HeldContent Ba
     -- the timer is the pass's own where it is on the move
     moves : (total (has o (Carry e.timer)) s.views ≡ has o (Carry e.timer) v)
     moves = ⊎_elim
-        (λ m. omega (arith, total_at (has o (Carry e.timer)) s.views id v at, home.tokens (Carry e.timer) may.allowed.within, carries_one v e.timer (may.carries m),
-        ap (λ (x : Timer). one_if x.moving) same_timer, ap one_if m))
-        (λ still. omega (arith, total_at (has o (Carry e.timer)) s.views id v at, home.tokens (Carry e.timer) may.allowed.within,
-        ap (λ (x : Timer). one_if x.moving) same_timer, ap one_if still))
+        (λ m. omega (
+          arith,
+          total_at (has o (Carry e.timer)) s.views id v at,
+          home.tokens (Carry e.timer) may.allowed.within,
+          carries_one v e.timer (may.carries m),
+          ap (λ (x : Timer). one_if x.moving) same_timer,
+          ap one_if m,
+        ))
+        (λ still. omega (
+          arith,
+          total_at (has o (Carry e.timer)) s.views id v at,
+          home.tokens (Carry e.timer) may.allowed.within,
+          ap (λ (x : Timer). one_if x.moving) same_timer,
+          ap one_if still,
+        ))
         (cases_Bool t.moving)
 
     pub enters_home : RowHolds o (log ++ entries.Timer e ∷ []) record {
@@ -177,14 +188,14 @@ module _ (o : Opening) (id : ℕ) (v : BaseView BaseContent) (h : HeldContent Ba
 -- the same as it is told to a seat whose event was picked
 pub enters_by : (o : Opening) (id : ℕ) (v : BaseView BaseContent) (h : HeldContent BaseContent) (timer : ℕ)
     (event asked : Event) → v.opening ≡ o → asked ≡ event → v.id.live ≡ true
-    → MayEnter o v h (entry_of_event o v timer event)
+    → MayEnter o v h (entry_in o v timer event)
     → OwnNeeds v timer (timer_seen o v timer) event
     → (slots : ℕ) (slot : List (ℕ × Option BaseContent)) (word stamp : ℕ) → word ≡ word_at o.bases timer
     → stamp ≡ number_of (after (timer_seen o v timer) event)
     → Allows (HasOneHistory o) slots id (v, slot) word (λ _. stamp) (λ _. EntersBy asked (step slots word stamp 0 none) (v, slot))
 enters_by o id v h timer event asked opening picked live may own slots slot word stamp word_is stamp_is s kept many at small =
     let t = timer_seen o v timer in
-    let e = entry_of_event o v timer event in
+    let e = entry_in o v timer event in
     let along = go_along v timer t event (reply_to t event) may.allowed.needs own may.carries in
     let r = enters o id v h e (claims_with_event timer t event v.claims)
     (carry_after timer t event v.carry) live may slots slot along s kept many at

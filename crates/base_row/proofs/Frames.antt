@@ -7,11 +7,11 @@ use Rattle.std.proofs.lemmas.List.{length-set, get_or-set_same, get_or-set_other
 use mathlib.Core.Option.{some}
 use lib.ListN.{get_elem?}
 use Rattle.atomic_table.specs.Table.{State}
-use Rattle.atomic_table.proofs.Lists.{at_set, at_snoc, set_here, set_else, at_map}
+use Rattle.atomic_table.proofs.Lists.{at_snoc, set_here, set_else, at_map}
 use Rattle.pass_names.specs.Counts.{one_if, total}
 use Rattle.pass_names.specs.Names.{IsPassTree}
 use Rattle.pass_names.specs.Passes.{Begins, within}
-use Rattle.pass_names.proofs.Counts.{total-append, total_set, total_two, map_kept}
+use Rattle.pass_names.proofs.Counts.{total_set, total_two, map_kept, all_set, total_grown, total_merged}
 use Rattle.pass_names.proofs.Passes.{begins_refl, begins_trans, begins_nil}
 use Rattle.seq_timer.specs.declared.system.SystemEntry.{SystemEntry}
 use Rattle.base_row.specs.declared.view.HeldContent.{HeldContent}
@@ -23,11 +23,6 @@ use Rattle.base_row.specs.Rules.{takes_at, PassHolds, RowHolds}
 use Rattle.base_row.specs.declared.view.Opening.{Opening}
 use Rattle.pass_names.proofs.Names.{one_name}
 use Rattle.pass_names.specs.declared.PassId.{PassId}
-
-pub views_on : (P : BaseView BaseContent → Type 0) (vs : List (BaseView BaseContent)) (id : ℕ) (v' : BaseView BaseContent) → P v'
-    → ((j : ℕ) (u : BaseView BaseContent) → j ≢ id → get_elem? vs j ≡ some u → P u)
-    → (j : ℕ) (u : BaseView BaseContent) → get_elem? (set vs id v') j ≡ some u → P u
-views_on P vs id v' here else j u e = ⊎_elim (λ t. subst P t.1 here) (λ t. else j u t.0 t.1) (at_set vs id j v' u e)
 
 -- What holds of each number that stands at a place of its own in a list, once one of them was written.
 each_set : (place : ℕ → ℕ) → ((c b : ℕ) → place c ≡ place b → c ≡ b) → (xs : List ℕ) (b x : ℕ) (P : ℕ → ℕ → Type 0) → place b < length xs → P b x
@@ -111,7 +106,7 @@ module _ (o : Opening) (log : List SystemEntry) (s : State (Option BaseContent) 
     pub turned : PassHolds o log s.words v' → ((x : Token) → has o x v' ≡ has o x v)
         → RowHolds o log record { words = s.words; homes = s.homes; views = slice_set s.views id v' }
     turned fits same = reviewed (slice_set s.views id v') (λ x. omega (arith, total_set (has o x) s.views id v v' at, same x))
-        (views_on (λ u. PassHolds o log s.words u) s.views id v' fits (λ j u n e. home.each_view j u e)) kept_tree
+        (all_set (λ u. PassHolds o log s.words u) s.views id v' fits (λ j u n e. home.each_view j u e)) kept_tree
 
     -- the pass has all that there is of this
     abbrev HasAll : Token → Type 0
@@ -134,7 +129,7 @@ module _ (o : Opening) (log : List SystemEntry) (s : State (Option BaseContent) 
           → ((t : ℕ) → HasAll (Carry t) ⊎ (w'.timers t ≡ w.timers t))
           → (((v.id.live ≡ true) × (v.id.name ≡ [])) ⊎ ((b : ℕ) → shifts_of b log' ≡ shifts_of b log))
           → PassHolds o log' words v' → (j : ℕ) (u : BaseView BaseContent) → get_elem? (set s.views id v') j ≡ some u → PassHolds o log' words u
-      fits_on rise bases timers shifts fits = views_on (λ u. PassHolds o log' words u) s.views id v' fits (λ j u n at_u.
+      fits_on rise bases timers shifts fits = all_set (λ u. PassHolds o log' words u) s.views id v' fits (λ j u n at_u.
           let old = home.each_view j u at_u in record {
             seen = begins_trans old.seen more;
             heard = begins_trans old.heard more;
@@ -195,9 +190,9 @@ module _ (o : Opening) (log : List SystemEntry) (s : State (Option BaseContent) 
     pub grown : RowHolds o log record { words = s.words; homes = s.homes; views = slice_set s.views id v' ++ u ∷ [] }
     grown =
         reviewed (slice_set s.views id v' ++ u ∷ [])
-        (λ x. omega (arith, same x, total_set (has o x) s.views id v v' at, total-append (has o x) (set s.views id v') (u ∷ [])))
+        (λ x. total_grown (has o x) s.views id v v' u at (same x))
         (λ j x q. ⊎_elim
-        (λ t. views_on (λ y. PassHolds o log s.words y) s.views id v' fits (λ i y n e. home.each_view i y e) j x t)
+        (λ t. all_set (λ y. PassHolds o log s.words y) s.views id v' fits (λ i y n e. home.each_view i y e) j x t)
         (λ t. subst (λ y. PassHolds o log s.words y) t fits_new)
         (at_snoc (set s.views id v') u x j q))
         (subst (λ ls. IsPassTree ls) (sym (map-append base_pass_id (set s.views id v') (u ∷ [])
@@ -211,8 +206,8 @@ module _ (o : Opening) (log : List SystemEntry) (s : State (Option BaseContent) 
     pub merged : RowHolds o log record { words = s.words; homes = s.homes; views = slice_set (slice_set s.views id v') other u' }
     merged =
         reviewed (slice_set (slice_set s.views id v') other u')
-        (λ x. omega (arith, same x, total_set (has o x) s.views id v v' at, total_set (has o x) (set s.views id v') other u u' at_other))
-        (views_on (λ y. PassHolds o log s.words y) (set s.views id v') other u' fits_left
-        (λ j x n q. views_on (λ y. PassHolds o log s.words y) s.views id v' fits (λ i y m e. home.each_view i y e) j x q))
+        (λ x. total_merged (has o x) s.views id other v v' u u' at at_other (same x))
+        (all_set (λ y. PassHolds o log s.words y) (set s.views id v') other u' fits_left
+        (λ j x n q. all_set (λ y. PassHolds o log s.words y) s.views id v' fits (λ i y m e. home.each_view i y e) j x q))
         (subst (λ ls. IsPassTree ls) (sym (map-set base_pass_id (set s.views id v') other u'
         ∙ ap (λ ls. set ls other (base_pass_id u')) (map-set base_pass_id s.views id v'))) tree)

@@ -14,13 +14,12 @@ use Rattle.seq_timer.specs.declared.system.SystemEntry.{SystemEntry}
 use Rattle.base_row.specs.declared.view.HeldContent.{HeldContent}
 use Rattle.base_row.specs.declared.view.BaseView.{BaseView}
 use Rattle.seq_timer.specs.Systems.{BaseContent, system_after}
-use Rattle.base_row.specs.Rules.{held_in, takes_at, HeldHolds, PassHolds, RowHolds, HasOneHistory, Token, has, owed, slot_of, IsIn, Place, Shift, Claim, Carry, Hold, Take}
+use Rattle.base_row.specs.Rules.{held_in, takes_at, HeldHolds, PassHolds, RowHolds, HasOneHistory, Token, has, owed, slot_of, IsIn, Hold, Take}
 use Rattle.base_row.specs.Plays.{having_freed, FreedBase}
 use Rattle.base_row.proofs.Frames.{holds_one, locked, at_lock, at_met, fits_whole, no_lock, some_same}
 use Rattle.base_row.proofs.Stable.{stable_own, steady_own}
 use Rattle.base_row.proofs.Knowing.{knows_of}
 use Rattle.base_row.specs.declared.view.Opening.{Opening}
-
 use Rattle.base_row.proofs.Looking.{Newer, newer_lock}
 
 module _ (o : Opening) (slots id : ℕ) (v : BaseView BaseContent) (h : HeldContent BaseContent) (live : v.id.live ≡ true) (held : v.held ≡ Some h) where
@@ -65,10 +64,7 @@ module _ (o : Opening) (slots id : ℕ) (v : BaseView BaseContent) (h : HeldCont
     change (Take c k) i = at_lock s.words b freed_word (λ q x. takes_at q k v + one_if (within k ((slice_index s.words (lock_at q) + 1) / 2))
         ≡ takes_at q k v + one_if (within k ((x + 1) / 2))) (omega (arith, home.words_len, t.within))
         (ap (λ n. takes_at b k v + one_if (within k n)) (omega (arith, odd, t.word))) (λ q n. refl) c
-    change (Place k i) h = refl
-    change (Shift c k) h = refl
-    change (Claim k g c) h = refl
-    change (Carry k) h = refl
+    change x i = refl
 
     fits' : PassHolds o log words v'
     fits' = fits_whole o words v' refl live (more.size ∙ fits.full live) (λ g e. absurd (no_lock g e)) more.below

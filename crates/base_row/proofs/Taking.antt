@@ -16,13 +16,12 @@ use Rattle.pass_names.proofs.Passes.{count_place, within_more}
 use Rattle.seq_timer.specs.declared.system.SystemEntry.{SystemEntry}
 use Rattle.base_row.specs.declared.view.BaseView.{BaseView}
 use Rattle.seq_timer.specs.Systems.{BaseContent, system_after}
-use Rattle.base_row.specs.Rules.{held_in, takes_at, HeldHolds, PassHolds, RowHolds, HasOneHistory, Token, has, owed, slot_of, IsIn, Place, Shift, Claim, Carry, Hold, Take}
+use Rattle.base_row.specs.Rules.{held_in, takes_at, HeldHolds, PassHolds, RowHolds, HasOneHistory, Token, has, owed, slot_of, IsIn, Hold, Take}
 use Rattle.base_row.specs.Plays.{having_taken, TookBase, FoundTaken, TakesAt}
 use Rattle.base_row.proofs.Frames.{locked, at_lock, at_met, fits_whole}
 use Rattle.base_row.proofs.Stable.{steady_own}
 use Rattle.base_row.proofs.Knowing.{knows_of}
 use Rattle.base_row.specs.declared.view.Opening.{Opening}
-
 use Rattle.base_row.proofs.Looking.{Newer, meets_at, newer_lock}
 
 module _ (o : Opening) (slots id : ℕ) (v : BaseView BaseContent) (live : v.id.live ≡ true) (idle : v.held ≡ None) (b first : ℕ) (inside : b < o.bases)
@@ -105,10 +104,7 @@ module _ (o : Opening) (slots id : ℕ) (v : BaseView BaseContent) (live : v.id.
       where
         taken : (x y : ℕ) → x ≡ y → one_if (within k x) ≡ one_if (within k y)
         taken x y e = ap (λ n. one_if (within k n)) e
-    change (Place t k) h = refl
-    change (Shift c k) h = refl
-    change (Claim t g c) h = refl
-    change (Carry t) h = refl
+    change x h = refl
 
     took : Told true s
     took =
@@ -121,15 +117,19 @@ module _ (o : Opening) (slots id : ℕ) (v : BaseView BaseContent) (live : v.id.
           takes b (Some content),
           home.each_slot b inside ∙ ap (λ n. some (slot_of n content)) even,
           (log, next),
-          (number, omega (arith, free), record {
-            content = content;
-            rest = refl;
-            is = get_or-set_same v.met b (first + 1) 0 in_own;
-            seen = fits.seen;
-            heard = fits.heard;
-            steady = steady_own o log s home v fits live refl;
-            knows = knows_of o _ id v' next (set_there s.views id v v' at) live;
-          }),
+          (
+            number,
+            omega (arith, free),
+            record {
+              content = content;
+              rest = refl;
+              is = get_or-set_same v.met b (first + 1) 0 in_own;
+              seen = fits.seen;
+              heard = fits.heard;
+              steady = steady_own o log s home v fits live refl;
+              knows = knows_of o _ id v' next (set_there s.views id v v' at) live;
+            },
+          ),
         )
 
   told : (log : List SystemEntry) (s : State (Option BaseContent) (BaseView BaseContent))

@@ -8,7 +8,6 @@ use Rattle.seq_timer.specs.declared.context.Declared.{Declared}
 use Rattle.seq_timer.specs.Events.{Event}
 use Rattle.seq_timer.specs.declared.event.EventBy.TheVariants as events
 use Rattle.seq_timer.specs.declared.system.SystemEntry.{SystemEntry}
-use Rattle.seq_timer.specs.declared.system.TimerEntry.{TimerEntry}
 use Rattle.seq_timer.specs.declared.standing.BaseEvent.{BaseEvent}
 use Rattle.seq_timer.specs.Steps.{Timer, HasRoom, reply_to}
 use Rattle.seq_timer.specs.Tables.{timer_at}
@@ -21,9 +20,9 @@ use Rattle.base_row.specs.declared.view.HeldContent.{HeldContent}
 use Rattle.base_row.specs.declared.view.Opening.{Opening}
 use Rattle.base_row.specs.declared.view.BaseView.{BaseView}
 pub use Rattle.base_row.specs.Rules.{timer_seen, base_seen}
+pub use Rattle.base_row.specs.Plays.{entry_in}
 use Rattle.base_row.specs.Plays.{MayEnter, Missed, NoOlder, OwnNeeds, SameElsewhere, Steady, carry_after, claims_with_event}
-use Rattle.base_row.specs.Plays.{entry_of_event, greater, having_entered, having_freed, having_met, having_shifted, joined_base_view}
-use Rattle.base_row.specs.Rules.{base_seen, timer_seen}
+use Rattle.base_row.specs.Plays.{greater, having_entered, having_freed, having_met, having_shifted, joined_base_view}
 
 -- a row, and what it was made of
 pub record BaseRowOf : Type 0 where
@@ -47,9 +46,6 @@ opening_of bases declareds terms = record { bases = bases; timers = openings dec
 pub record AreFresh (timers : List Timer) : Type 0 where
   pub each : (t : ℕ) → IsFresh (timer_at timers t)
   pub room : (t : ℕ) → HasRoom (timer_at timers t).terms
-
-abbrev pub entry_in : Opening → BaseView BaseContent → ℕ → Event → TimerEntry
-entry_in o v t event = entry_of_event o v t event
 
 -- a pass may make this entry, by what it has seen
 pub record MayAppend (o : Opening) (v : BaseView BaseContent) (h : HeldContent BaseContent) (t : ℕ) (event : Event) : Type 0 where

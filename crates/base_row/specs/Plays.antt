@@ -295,13 +295,13 @@ module _ (o : Opening) where
     pub knows : KnowsBases o new.0
 
   -- the entry of an event, with the reply that it gets after what the pass has seen
-  abbrev pub entry_of_event : BaseView BaseContent → ℕ → Event → TimerEntry
-  entry_of_event v t event = record { timer = t; event = event; reply = reply_to (timer_seen o v t) event }
+  abbrev pub entry_in : BaseView BaseContent → ℕ → Event → TimerEntry
+  entry_in v t event = record { timer = t; event = event; reply = reply_to (timer_seen o v t) event }
 
   -- the store tells so of an entry with its own claims and carry
   abbrev pub EntersAs : HeldContent BaseContent → ℕ → Event → SeatState
       → SeatState → Type 0
-  EntersAs h t event me new = EnteredTimer h (entry_of_event me.0 t event) (claims_with_event t (timer_seen o me.0 t) event me.0.claims)
+  EntersAs h t event me new = EnteredTimer h (entry_in me.0 t event) (claims_with_event t (timer_seen o me.0 t) event me.0.claims)
       (carry_after t (timer_seen o me.0 t) event me.0.carry) me new
 
   -- what the store of a base's word tells

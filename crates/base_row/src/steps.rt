@@ -10,7 +10,7 @@ ghost use Rattle.seq_timer.specs.Standings.{standing_after};
 ghost use Rattle.seq_timer.specs.Systems.{BaseContent};
 ghost use Rattle.base_row.specs.declared.view.HeldContent.{HeldContent};
 ghost use Rattle.base_row.specs.Plays.{MayEnter, MayEnterShift, EnteredShift, OwnNeeds, EntersAs};
-ghost use Rattle.base_row.specs.Plays.{MayMeetLock, Met, TookBase, FoundTaken, LooksOwn, FreesOwn, KnowsBases, entry_of_event};
+ghost use Rattle.base_row.specs.Plays.{MayMeetLock, Met, TookBase, FoundTaken, LooksOwn, FreesOwn, KnowsBases, entry_in};
 ghost use Rattle.base_row.specs.Calls.{LearnsFrom, Absorbs};
 
 use crate::cell::BaseCell;
@@ -40,7 +40,7 @@ pub fn enter<K: EventPick>(
     requires live { seat.old.me.0.id.live ≡ true }
     requires asked { K.event ≡ event.now }
     requires may { (h : HeldContent BaseContent) × MayEnter (record { bases = cells.now.key.0; timers = cells.now.key.1.value.items }) seat.old.me.0 h
-        (entry_of_event (record { bases = cells.now.key.0; timers = cells.now.key.1.value.items }) seat.old.me.0 timer event.now) }
+        (entry_in (record { bases = cells.now.key.0; timers = cells.now.key.1.value.items }) seat.old.me.0 timer event.now) }
     requires own { OwnNeeds seat.old.me.0 timer (timer_seen (record { bases = cells.now.key.0; timers = cells.now.key.1.value.items }) seat.old.me.0 timer) event.now }
     requires stamp { stamp ≡ number_of (after (timer_seen (record { bases = cells.now.key.0; timers = cells.now.key.1.value.items }) seat.old.me.0 timer) event.now) }
     ensures same { seat.new.table_id ≡ seat.old.table_id }

@@ -15,7 +15,7 @@ use Rattle.seq_timer.proofs.Contents.{seen_own}
 use Rattle.base_row.specs.declared.view.HeldContent.{HeldContent}
 use Rattle.base_row.specs.declared.view.Opening.{Opening}
 use Rattle.base_row.specs.declared.view.BaseView.{BaseView}
-use Rattle.base_row.specs.Rules.{is_base_claim, number_of, runs}
+use Rattle.base_row.specs.Rules.{is_base_claim, runs}
 use Rattle.base_row.specs.Plays.{KnowsBases}
 use Rattle.base_row.specs.Calls.{MayAppend, base_seen, timer_seen}
 
@@ -23,7 +23,7 @@ needs_claim : (t : Timer) (base : ℕ) (reading : ClockReading) → is_due_on ba
 needs_claim t base reading due idle =
     (grind (arith, nat_tests), grind (arith, nat_tests), grind (arith, nat_tests), grind (arith, nat_tests), grind (arith, nat_tests))
 
-module _ (o : Opening) (v : BaseView BaseContent) (knows : KnowsBases o.bases o.timers number_of v) (h : HeldContent BaseContent) (x : Context)
+module _ (o : Opening) (v : BaseView BaseContent) (knows : KnowsBases o v) (h : HeldContent BaseContent) (x : Context)
     (timer : ℕ) (reading : ClockReading) (held : v.held ≡ Some h) (within : timer < length o.timers)
     (free : running_in x h.content.content ≡ None) (own : (timer_seen o v timer).declared.context ≡ x)
     (idle : (t : ℕ) → runs_on h.base (in_context x (timer_seen o v) t) ≡ false)

@@ -25,7 +25,7 @@ use Rattle.seq_timer.specs.Systems.{after_entries, first_system}
 use Rattle.seq_timer.specs.Tables.{IsUnused, is_armed_on, timer_at}
 use Rattle.seq_timer.proofs.Agreement.{agrees}
 use Rattle.seq_timer.proofs.OffLine.{unused}
-use Rattle.base_row.specs.Rules.{base_place, number_of}
+use Rattle.base_row.specs.Rules.{base_place}
 use Rattle.base_row.specs.Plays.{KnowsBases, KnowsOwn}
 use Rattle.seq_timer.specs.Systems.{IsOn}
 use Rattle.hr_timers.proofs.Standing.{knows_in}
@@ -81,7 +81,7 @@ may_send_on o v h t to inside held carry moves here idle down within few reach =
     sends_down s to moves down few reach = grind (arith, nat_tests)
 
 -- where a pass has seen a base off line, it has seen it unused
-pub unused_seen : (o : Opening) (v : BaseView BaseContent) → rows.AreFresh o.timers → KnowsBases o.bases o.timers number_of v → (b heir : ℕ)
+pub unused_seen : (o : Opening) (v : BaseView BaseContent) → rows.AreFresh o.timers → KnowsBases o v → (b heir : ℕ)
     → (rows.base_seen o v b).standing.heir ≡ Some heir → IsUnused (rows.timer_seen o v) b
 unused_seen o v fresh knows b heir off = unused (after_entries (first_system o.timers) v.seen)
     (agrees o.bases o.timers v.seen fresh.each knows.allowed) b ((off_line_seen o v fresh knows).each b heir off)

@@ -12,14 +12,13 @@ use Rattle.base_row.specs.declared.view.HeldContent.{HeldContent}
 use Rattle.base_row.specs.declared.view.Opening.{Opening}
 use Rattle.base_row.specs.declared.view.BaseView.{BaseView}
 use Rattle.seq_timer.specs.Systems.{BaseContent, next_on}
-use Rattle.base_row.specs.Rules.{number_of}
 use Rattle.base_row.specs.Plays.{KnowsBases}
 use Rattle.base_row.specs.Calls.{AreFresh, LetsGo, timer_seen}
 use Rattle.base_row.proofs.Placed.{none_runs}
 use Rattle.seq_timer.proofs.Agreement.{agrees}
 use Rattle.seq_timer.proofs.Firsts.{next_on-none}
 
-module _ (o : Opening) (h : HeldContent BaseContent) (v w : BaseView BaseContent) (fresh : AreFresh o.timers) (knows : KnowsBases o.bases o.timers number_of w)
+module _ (o : Opening) (h : HeldContent BaseContent) (v w : BaseView BaseContent) (fresh : AreFresh o.timers) (knows : KnowsBases o w)
     (free : LetsGo o h v w) where
   content : IsContentOf (timer_seen o w) h.base h.content.content
   content = subst (λ (b : BaseContent). IsContentOf (timer_seen o w) h.base b.content) free.content

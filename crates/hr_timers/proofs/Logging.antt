@@ -20,7 +20,7 @@ use Rattle.base_row.specs.declared.view.Opening.{Opening}
 use Rattle.base_row.specs.declared.view.BaseView.{BaseView}
 use Rattle.base_row.specs.Calls as rows
 use Rattle.base_row.specs.Plays as plays
-use Rattle.base_row.specs.Rules.{is_base_claim, number_of}
+use Rattle.base_row.specs.Rules.{is_base_claim}
 use Rattle.hr_timers.specs.declared.answer.StartAnswer.{StartAnswer}
 use Rattle.hr_timers.specs.declared.answer.StartAnswer.TheVariants as starts
 use Rattle.hr_timers.specs.declared.answer.ClaimAnswer.TheVariants as claimings
@@ -39,7 +39,7 @@ use Rattle.hr_timers.proofs.Standing.{claim_runs}
 -- ---- the room for a start
 
 pub room_to_start : (o : Opening) (u v : BaseView BaseContent) (t room base low : ℕ) → rows.AreFresh o.timers
-    → plays.KnowsBases o.bases o.timers number_of v → t < length o.timers → Looks u v → low ≤ base → HasRoomToStart o (rows.known_of u) t base room
+    → plays.KnowsBases o v → t < length o.timers → Looks u v → low ≤ base → HasRoomToStart o (rows.known_of u) t base room
     → (if is_some (rows.timer_seen o v t).running then 1 else most_to_start (rows.timer_seen o v t).terms low) ≤ room
 room_to_start o u v t room base low fresh knows within looks below (inl most) =
     at (is_some (rows.timer_seen o v t).running)

@@ -11,7 +11,7 @@ use Rattle.base_row.specs.declared.view.Claimed.{Claimed}
 use Rattle.base_row.specs.declared.view.Opening.{Opening}
 use Rattle.base_row.specs.declared.view.BaseView.{BaseView}
 use Rattle.seq_timer.specs.Systems.{BaseContent, IsOn}
-use Rattle.base_row.specs.Rules.{number_of, is_base_claim, is_generation}
+use Rattle.base_row.specs.Rules.{is_base_claim, is_generation}
 use Rattle.base_row.specs.Calls as rows
 use Rattle.base_row.specs.Plays as plays
 use Rattle.seq_timer.proofs.Agreement.{agrees}
@@ -20,14 +20,14 @@ use Rattle.hr_timers.specs.Known.{Looks, OwnsClaim}
 use Rattle.hr_timers.specs.declared.numbers.ClaimNumbers.{ClaimNumbers}
 
 -- what a pass of a table knows, of that table's opening
-pub knows_in : (o : Opening) (v : BaseView BaseContent) → v.opening ≡ o → plays.KnowsOwn v → plays.KnowsBases o.bases o.timers number_of v
-knows_in o v is knows = subst (λ (q : Opening). plays.KnowsBases q.bases q.timers number_of v) is knows
+pub knows_in : (o : Opening) (v : BaseView BaseContent) → v.opening ≡ o → plays.KnowsOwn v → plays.KnowsBases o v
+knows_in o v is knows = subst (λ (q : Opening). plays.KnowsBases q v) is knows
 
 generation_is : (g : ℕ) (r : Option ℕ) → is_generation g r ≡ true → r ≡ Some g
 generation_is g None e = absurd (true≢false (sym e))
 generation_is g (Some x) e = ap (λ y. Some y) (eqb-true x g e)
 
-module _ (o : Opening) (v : BaseView BaseContent) (fresh : rows.AreFresh o.timers) (knows : plays.KnowsBases o.bases o.timers number_of v) (t g b : ℕ)
+module _ (o : Opening) (v : BaseView BaseContent) (fresh : rows.AreFresh o.timers) (knows : plays.KnowsBases o v) (t g b : ℕ)
     (within : t < length o.timers) (stands : 0 < count (is_base_claim t g b) v.claims) where
   pub claim_runs : (rows.timer_seen o v t).running ≡ Some g
   claim_runs = generation_is g (rows.timer_seen o v t).running

@@ -32,7 +32,6 @@ use Rattle.seq_timer.specs.declared.context.Context.TheVariants as contexts
 use Rattle.seq_timer.proofs.Contents.{seen_own}
 use Rattle.base_row.specs.declared.view.HeldContent.{HeldContent}
 use Rattle.base_row.specs.Plays.{KnowsBases}
-use Rattle.base_row.specs.Rules.{number_of}
 use Rattle.base_row.proofs.Placed.{tells_running}
 use Rattle.hr_timers.proofs.Keeping.{keeps_trans, terms_kept}
 use Rattle.hr_timers.proofs.Making.{looks_on, looks_seen, looks_trans, made_then}
@@ -75,7 +74,7 @@ left_first o w c base t g idle busy (inr soft) = (
 )
 
 -- a base that a pass holds has what is held
-pub front_held : (o : Opening) (v : BaseView BaseContent) (h : HeldContent BaseContent) (base : ℕ) → KnowsBases o.bases o.timers number_of v
+pub front_held : (o : Opening) (v : BaseView BaseContent) (h : HeldContent BaseContent) (base : ℕ) → KnowsBases o v
     → v.held ≡ Some h → h.base ≡ base → rows.base_seen o v base ≡ h.content
 front_held o v h base knows held at = subst (λ b. rows.base_seen o v b ≡ h.content) at (sym (knows.held h held).1.0)
 
@@ -109,7 +108,7 @@ may_move base heir t armed idle down few reach room = (
 
 -- on a held base where no function of either context runs, none runs
 pub held_idle : (o : Opening) (v : BaseView BaseContent) (h : HeldContent BaseContent) → rows.AreFresh o.timers
-    → KnowsBases o.bases o.timers number_of v → v.held ≡ Some h → ((x : Context) → running_in x h.content.content ≡ None) → (t : ℕ)
+    → KnowsBases o v → v.held ≡ Some h → ((x : Context) → running_in x h.content.content ≡ None) → (t : ℕ)
     → runs_on h.base (rows.timer_seen o v t) ≡ false
 held_idle o v h fresh knows held none t =
     let own = rows.timer_seen o v t in

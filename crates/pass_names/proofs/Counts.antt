@@ -1,8 +1,9 @@
 -- Sums over a list when one element changes, and counts when one element is taken out.
-use Rattle.std.proofs.Common.{◌≡◌, ℕ, zero, suc, ◌+◌, ◌<◌, ◌≤◌, ◌≢◌, Bool, true, false, List, [], ◌∷◌, ◌++◌, map, set, refl, ap, sym, ◌∙◌, ◌⊎◌, inl, inr, arith}
+use Rattle.std.proofs.Common.{◌≡◌, ℕ, zero, suc, ◌+◌, ◌<◌, ◌≤◌, ◌≢◌, Bool, true, false, List, [], ◌∷◌, ◌++◌, map, set, refl, ap, sym, ◌∙◌, ◌⊎◌, ⊎_elim, inl, inr, subst, arith}
 use Rattle.std.proofs.lemmas.Bool.{cases_lt}
 use mathlib.Core.Option.{some, some-injective, some-ne-none}
 use lib.ListN.{get_elem?}
+use Rattle.atomic_table.proofs.Lists.{at_set}
 use Rattle.pass_names.specs.Counts.{one_if, total, count, drop_if, without_first}
 
 -- a test that counts is met
@@ -25,6 +26,20 @@ module _ {A : Type 0} where
   total_set f [] i x y e = absurd (some-ne-none x (sym e))
   total_set f (z ∷ zs) zero x y e = let h = ap f (some-injective z x e) in omega arith
   total_set f (z ∷ zs) (suc i) x y e = omega (arith, total_set f zs i x y e)
+
+  -- what holds of all elements holds after one of them was written over, where it holds of that one
+  pub all_set : (P : A → Type 0) (xs : List A) (i : ℕ) (y : A) → P y → ((j : ℕ) (z : A) → j ≢ i → get_elem? xs j ≡ some z → P z)
+      → (j : ℕ) (z : A) → get_elem? (set xs i y) j ≡ some z → P z
+  all_set P xs i y here else j z e = ⊎_elim (λ t. subst P t.1 here) (λ t. else j z t.0 t.1) (at_set xs i j y z e)
+
+  -- a sum, where one element was written over and one came; and where two were written over
+  pub total_grown : (f : A → ℕ) (xs : List A) (i : ℕ) (x y z : A) → get_elem? xs i ≡ some x → f y + f z ≡ f x
+      → total f (set xs i y ++ z ∷ []) ≡ total f xs
+  total_grown f xs i x y z at same = omega (arith, same, total_set f xs i x y at, total-append f (set xs i y) (z ∷ []))
+
+  pub total_merged : (f : A → ℕ) (xs : List A) (i j : ℕ) (x y u z : A) → get_elem? xs i ≡ some x → get_elem? (set xs i y) j ≡ some u
+      → f y + f z ≡ f x + f u → total f (set (set xs i y) j z) ≡ total f xs
+  total_merged f xs i j x y u z at at_u same = omega (arith, same, total_set f xs i x y at, total_set f (set xs i y) j u z at_u)
 
   -- no part is more than the sum
   pub total_at : (f : A → ℕ) (xs : List A) (i : ℕ) (x : A) → get_elem? xs i ≡ some x → f x ≤ total f xs

@@ -1,6 +1,5 @@
 use Rattle.std.proofs.Common.{◌≡◌, subst, sym, false}
 use Rattle.base_row.specs.declared.view.Opening.{Opening}
-use Rattle.base_row.specs.Rules.{number_of}
 use Rattle.base_row.specs.Plays.{KnowsBases}
 use Rattle.base_row.specs.Calls.{base_seen, timer_seen}
 use Rattle.seq_timer.specs.Tables.{IsStopped, in_context, runs_on}
@@ -15,7 +14,7 @@ pub returns-clause-idle : goal.returns-clause-idle
 returns-clause-idle c = λ x is t.
     let o = c.args.row.now.about in
     let w = c.unlock_base.new.pass.knows in
-    let knows = subst (λ (q : Opening). KnowsBases q.bases q.timers number_of w) c.unlock_base.ensures.row.about c.known.ensures in
+    let knows = subst (λ (q : Opening). KnowsBases q w) c.unlock_base.ensures.row.about c.known.ensures in
     subst (λ b. runs_on b (in_context x (timer_seen o w) t) ≡ false) c.requires.base
     (left_idle o c.args.held c.args.pass.now.knows w c.fresh.ensures.fresh knows c.unlock_base.ensures.free x is t)
 
@@ -23,7 +22,7 @@ pub returns-clause-busy : goal.returns-clause-busy
 returns-clause-busy c = λ x t g is.
     let o = c.args.row.now.about in
     let w = c.unlock_base.new.pass.knows in
-    let knows = subst (λ (q : Opening). KnowsBases q.bases q.timers number_of w) c.unlock_base.ensures.row.about c.known.ensures in
+    let knows = subst (λ (q : Opening). KnowsBases q w) c.unlock_base.ensures.row.about c.known.ensures in
     subst (λ b. running_on b (in_context x (timer_seen o w) t) ≡ Some g) c.requires.base
     (left_busy o c.args.held c.args.pass.now.knows w c.fresh.ensures.fresh knows c.unlock_base.ensures.free x t g is)
 
@@ -31,7 +30,7 @@ pub returns-clause-none : goal.returns-clause-none
 returns-clause-none c = λ x reading is clock.
     let o = c.args.row.now.about in
     let w = c.unlock_base.new.pass.knows in
-    let knows = subst (λ (q : Opening). KnowsBases q.bases q.timers number_of w) c.unlock_base.ensures.row.about c.known.ensures in
+    let knows = subst (λ (q : Opening). KnowsBases q w) c.unlock_base.ensures.row.about c.known.ensures in
     subst (λ b. IsStopped (in_context x (timer_seen o w)) b reading clock) c.requires.base
     (left_none o c.args.held c.args.pass.now.knows w c.fresh.ensures.fresh knows c.unlock_base.ensures.free x reading is clock)
 
