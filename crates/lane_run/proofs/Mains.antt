@@ -6,10 +6,10 @@ use Rattle.pass_names.specs.Names.{AnswersFor, Covers, after_retire, after_split
 use Rattle.pass_names.proofs.Covering.{covers_answers, covers_last, covers_none, covers_retire, covers_split}
 use Rattle.hr_timers.specs.Known.{KnownOfTimers}
 use Rattle.script_text.specs.declared.script.Round.{Round}
-use Rattle.lane_run.specs.declared.lane.Lane.{Lane}
-use Rattle.lane_run.specs.declared.world.WorldPass.{WorldPass}
-use Rattle.lane_run.specs.Rounds.{CanRun, IsLaneOf, IsMain, RunsLane, TakesInPass}
-use Rattle.lane_run.specs.Worlds.{AnswerFor, AreFirst, AreLast, ArePassesOf, KeepPasses, SplitsPass, WorldOf}
+use Rattle.lane_world.specs.declared.Lane.{Lane}
+use Rattle.lane_world.specs.declared.WorldPass.{WorldPass}
+use Rattle.lane_world.specs.Rounds.{CanRun, IsLaneOf, IsMain, RunsLane, TakesInPass}
+use Rattle.lane_world.specs.Worlds.{AnswerFor, AreFirst, AreLast, ArePassesOf, KeepPasses, SplitsPass, WorldOf}
 
 -- ---- of one kind of pass; `id_of` is the lane's
 

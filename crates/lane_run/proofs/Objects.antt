@@ -5,9 +5,9 @@ use Rattle.base_row.specs.declared.log.Receipt.{Receipt}
 use Rattle.timer_objects.specs.declared.log.ObjectReceipt.{ObjectReceipt}
 use Rattle.timer_objects.specs.Calls.{Caller}
 use Rattle.record_text.specs.declared.record.Answer.{Answer}
-use Rattle.lane_run.specs.Called.{CallsObject, LaneOf, ReadsClock, lane_caller, with_done}
-use Rattle.lane_run.specs.Worlds.{WorldOf}
-use Rattle.lane_run.specs.declared.world.WorldPass.{WorldPass}
+use Rattle.lane_world.specs.Called.{CallsObject, LaneOf, ReadsClock, lane_caller, with_done}
+use Rattle.lane_world.specs.Worlds.{WorldOf}
+use Rattle.lane_world.specs.declared.WorldPass.{WorldPass}
 use Rattle.clock_cell.specs.Views.{seen_reading}
 use Rattle.pass_names.specs.Passes.{Looks}
 use Rattle.clock_cell.specs.Views.{writes}

@@ -19,9 +19,9 @@ use Rattle.script_text.specs.declared.script.LaneCall.{LaneCall}
 use Rattle.script_text.specs.declared.script.Round.{Round}
 use Rattle.script_text.specs.declared.script.Script.{Script}
 use Rattle.script_text.specs.Scripts.{IsCallInRange, IsInRange, HasTimerFor, all_calls}
-use Rattle.lane_run.specs.Worlds.{CanCall, IsWorldOf, WorldOf, decl_of}
+use Rattle.lane_world.specs.Worlds.{CanCall, IsWorldOf, WorldOf, decl_of}
 use Rattle.lane_run.proofs.Making.{whole_of}
-use Rattle.lane_run.proofs.Declared.{declared_over, over_of}
+use Rattle.lane_world.proofs.Declared.{declared_over, over_of}
 use Rattle.hr_timers.specs.Known.{IsEvacuable}
 use Rattle.hr_timers.proofs.Shifts.{evacuable_on}
 use Rattle.record_text.specs.declared.version.Version.{Version}

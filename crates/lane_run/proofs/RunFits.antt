@@ -6,35 +6,35 @@ use Rattle.run_history.specs.Fits.{Fits}
 use Rattle.run_history.proofs.Run.{run_fits, shows}
 use Rattle.script_text.specs.Scripts.{IsInRange}
 use Rattle.script_text.specs.declared.script.Script.{Script}
-use Rattle.lane_run.proofs.Left.{AreLastOf, ending_of}
-use Rattle.lane_run.specs.Runs.{MakesRun, ShowsAllSeen}
-use Rattle.lane_run.specs.Worlds.{AreFirst, AreLast, ArePassesOf, IsWorldOf, WorldOf}
-use Rattle.lane_run.specs.declared.world.WorldPass.{WorldPass}
-use Rattle.lane_run.proofs.ClockLines.{clock_writes}
-use Rattle.lane_run.proofs.Ended.{is_ending, is_run}
-use Rattle.lane_run.proofs.LeftByRounds.{left_by_rounds}
+use Rattle.lane_world.proofs.Left.{AreLastOf, ending_of}
+use Rattle.lane_world.specs.Runs.{MakesRun, ShowsAllSeen}
+use Rattle.lane_world.specs.Worlds.{AreFirst, AreLast, ArePassesOf, IsWorldOf, WorldOf}
+use Rattle.lane_world.specs.declared.WorldPass.{WorldPass}
+use Rattle.record_laws.proofs.ClockLines.{clock_writes}
+use Rattle.record_laws.proofs.Ended.{is_ending, is_run}
+use Rattle.round_laws.proofs.LeftByRounds.{left_by_rounds}
 use Rattle.lane_run.proofs.Making.{whole_of}
-use Rattle.lane_run.proofs.ObjectLines.{object_lines_show}
+use Rattle.record_laws.proofs.ObjectLines.{object_lines_show}
 use Rattle.record_text.specs.declared.record.Answer.{Answer}
 use Rattle.script_text.specs.declared.script.Call.TheVariants as calls
-use Rattle.lane_run.specs.Called.{Called, LaneOf, CallsObject, gettime_told}
-use Rattle.lane_run.proofs.Kept.{IsNextCall, KeepsCall}
-use Rattle.lane_run.proofs.Expired.{keeps_expire}
-use Rattle.lane_run.proofs.ObjectLooks.{keeps_overrun, keeps_readable, keeps_gettime-posix}
-use Rattle.lane_run.proofs.Sights.{keeps_peek}
-use Rattle.lane_run.proofs.RearmedCalls.{keeps_accept, keeps_read, keeps_gettime-fd}
-use Rattle.lane_run.proofs.Settimes.{keeps_settime}
-use Rattle.lane_run.proofs.TimerCalls.{keeps_cancel, keeps_start}
-use Rattle.lane_run.proofs.Writing.{keeps_write}
+use Rattle.lane_world.specs.Called.{Called, LaneOf, CallsObject, gettime_told}
+use Rattle.lane_world.proofs.Kept.{IsNextCall, KeepsCall}
+use Rattle.call_laws.proofs.Expired.{keeps_expire}
+use Rattle.call_laws.proofs.ObjectLooks.{keeps_overrun, keeps_readable, keeps_gettime-posix}
+use Rattle.call_laws.proofs.Sights.{keeps_peek}
+use Rattle.call_laws.proofs.RearmedCalls.{keeps_accept, keeps_read, keeps_gettime-fd}
+use Rattle.call_laws.proofs.Settimes.{keeps_settime}
+use Rattle.call_laws.proofs.TimerCalls.{keeps_cancel, keeps_start}
+use Rattle.call_laws.proofs.Writing.{keeps_write}
 use Rattle.timer_objects.specs.Calls.{Gettimes}
 use Rattle.timer_objects.specs.declared.object.Kind as object_kind
 use Rattle.script_text.specs.Declarations.{kind_of}
 use Rattle.script_text.specs.declared.script.Kind.{Kind}
 use Rattle.script_text.specs.declared.script.Kind.TheVariants as kinds
-use Rattle.lane_run.proofs.Declared.{declared_over, over_of}
-use Rattle.lane_run.proofs.LaneKept.{KeepsEach}
-use Rattle.lane_run.proofs.BaseLines.{shows_shifts}
-use Rattle.lane_run.proofs.OffLine.{keeps_offline, keeps_online}
+use Rattle.lane_world.proofs.Declared.{declared_over, over_of}
+use Rattle.round_laws.proofs.LaneKept.{KeepsEach}
+use Rattle.record_laws.proofs.BaseLines.{shows_shifts}
+use Rattle.call_laws.proofs.OffLine.{keeps_offline, keeps_online}
 
 -- ---- each call
 

@@ -1,5 +1,2 @@
-pub mod Worlds
-pub mod Expiries
-pub mod Called
-pub mod Rounds
-pub mod Runs
+pub use Rattle.lane_world.specs.Worlds
+pub use Rattle.lane_world.specs.Runs

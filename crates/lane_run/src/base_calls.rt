@@ -2,13 +2,13 @@
 ghost use Rattle.std.specs.Prelude.{◌≡◌, ◌≤◌, ◌<◌, [], IfOk, OnOk};
 ghost use Rattle.hr_timers.specs.Known.{IsEvacuable};
 ghost use Rattle.script_text.specs.Scripts.{most_budget};
-ghost use Rattle.lane_run.specs.Called.{CallsOffline, CallsOnline, LeavesLane, LeavesRest, lane_of, offline_told, online_told, with_shift};
-ghost use Rattle.lane_run.specs.Worlds.{ArePassesOf};
+ghost use Rattle.lane_world.specs.Called.{CallsOffline, CallsOnline, LeavesLane, LeavesRest, lane_of, offline_told, online_told, with_shift};
+ghost use Rattle.lane_world.specs.Worlds.{ArePassesOf};
 
-use crate::lane::Lane;
 use crate::world::World;
 use hr_timers::{Log, OfflineAnswer, OnlineAnswer};
 use lane_notes::{BaseNote, note_receipts};
+use lane_world::Lane;
 use record_text::Answer;
 use seq_timer::BaseEvent;
 use std::alloc::{AllocError, Global};

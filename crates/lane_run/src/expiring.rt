@@ -6,18 +6,18 @@ ghost use Rattle.expire_pass.specs.Handlers.{CanServe};
 ghost use Rattle.timer_objects.specs.Firings.{firing as firing_meaning, ready_of};
 ghost use Rattle.timer_objects.specs.Known.{IsObjectsPass};
 ghost use Rattle.script_text.specs.Scripts.{most_budget};
-ghost use Rattle.lane_run.specs.Called.{CallsExpire, LeavesLane, claimed_in, expire_told, is_claim_event, lane_of};
-ghost use Rattle.lane_run.specs.Expiries.{KeepsName, RunsGated, RunsWith};
-ghost use Rattle.lane_run.specs.Worlds.{ArePassesOf};
+ghost use Rattle.lane_world.specs.Called.{CallsExpire, LeavesLane, claimed_in, expire_told, is_claim_event, lane_of};
+ghost use Rattle.lane_world.specs.Expiries.{KeepsName, RunsGated, RunsWith};
+ghost use Rattle.lane_world.specs.Worlds.{ArePassesOf};
 
 use crate::gate::{Gate, Point};
-use crate::lane::Lane;
 use crate::world::World;
 use counted_row::RowPass;
 use expire_pass::{ExpireAnswer, Handler, Log, Restart};
 use hr_timers::{Claim, Pass, Timers};
 use ktime::Reading;
 use lane_notes::{Notes, note_object_receipts, note_receipts};
+use lane_world::Lane;
 use record_text::{Answer, ItemList, Label};
 use seq_timer::{Context, Event};
 use std::alloc::{AllocError, Global};
@@ -36,7 +36,7 @@ impl<G: Gate> Handler for Gated<'_, '_, '_, G> {
     ghost use Rattle.std.specs.Prelude.{length};
     ghost use Rattle.timer_objects.specs.Callbacks.{bases_of};
     ghost use Rattle.timer_objects.specs.Firings.{ready_of};
-    ghost use Rattle.lane_run.specs.Expiries.{FiresLent};
+    ghost use Rattle.lane_world.specs.Expiries.{FiresLent};
 
     ghost meaning = { record { did = λ o h h' v w c reading restart. FiresLent o h.firing.ghost_name h'.firing.ghost_name h.firing.now h'.firing.now v w c reading restart; ready = λ h. ready_of h.firing.now; timers = λ h. length h.firing.now.objects.now.decls; bases = λ h. bases_of h.firing.now.callbacks.now } };
 

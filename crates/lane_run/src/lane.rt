@@ -2,30 +2,21 @@
 ghost use Rattle.std.specs.Prelude.{◌≡◌, ◌≤◌, ◌<◌, ◌∷◌, [], false, IfOk, OnOk, length};
 ghost use Rattle.std.specs.List.{AllByRecursion};
 ghost use Rattle.script_text.specs.Scripts.{IsCallInRange};
-ghost use Rattle.lane_run.specs.Called.{Called, LeavesLane, lane_of};
-ghost use Rattle.lane_run.specs.Rounds.{AnswersCall, MakesCalls, lane_calls};
-ghost use Rattle.lane_run.specs.Worlds.{ArePassesOf, CanCall, KeepPasses, LeadsByName};
+ghost use Rattle.lane_world.specs.Called.{Called, LeavesLane, lane_of};
+ghost use Rattle.lane_world.specs.Rounds.{AnswersCall, MakesCalls, lane_calls};
+ghost use Rattle.lane_world.specs.Worlds.{ArePassesOf, CanCall, KeepPasses, LeadsByName};
 
 use crate::base_calls::{offline, online};
 use crate::expiring::expire;
 use crate::gate::{Gate, Point};
 use crate::object_calls::{accept, gettime, overrun, read, readable, settime};
 use crate::timer_calls::{cancel, peek, start, write};
-use crate::world::{World, WorldPass};
-use lane_notes::Notes;
-use record_text::{Answer, Label};
+use crate::world::World;
+use lane_world::Lane;
+use record_text::Answer;
 use script_text::{Call, Round};
 use std::alloc::{AllocError, Global};
 use std::sync::Wait;
-
-/// What a lane works with in a round: the label of its next call, its passes, its notes and answers. Once it wants memory it makes no call.
-pub struct Lane {
-    pub label: Label,
-    pub pass: WorldPass,
-    pub notes: Notes,
-    pub answers: Vec<Answer>,
-    pub wants_memory: bool,
-}
 
 /// Makes the lane's calls of a round.
 pub(crate) fn make_calls<R: Wait, G: Gate>(

@@ -3,8 +3,9 @@
 #![tactic(auto)]
 
 pub use gate::{Gate, OpenGate, Point};
+pub use lane_world::WorldPass;
 pub use running::run;
-pub use world::{World, WorldPass};
+pub use world::World;
 
 mod base_calls;
 mod expiring;

@@ -9,14 +9,14 @@ ghost use Rattle.timer_fd.specs.declared.answers.SettimeAnswer.{SettimeAnswer};
 ghost use Rattle.timer_objects.specs.declared.answers.Gettime.{Gettime};
 ghost use Rattle.timer_objects.specs.declared.answers.Readable.{Readable};
 ghost use Rattle.record_text.specs.declared.record.Answer.TheVariants as answers;
-ghost use Rattle.lane_run.specs.Called.{CallsObject, CallsOverrun, LeavesLane, LeavesRest, accept_told, gettime_told, lane_of, read_told, settime_told, with_done};
-ghost use Rattle.lane_run.specs.Worlds.{ArePassesOf, IsObject, IsOfKind};
+ghost use Rattle.lane_world.specs.Called.{CallsObject, CallsOverrun, LeavesLane, LeavesRest, accept_told, gettime_told, lane_of, read_told, settime_told, with_done};
+ghost use Rattle.lane_world.specs.Worlds.{ArePassesOf, IsObject, IsOfKind};
 
-use crate::lane::Lane;
 use crate::world::World;
 use expire_pass::Log;
 use ktime::TimeSpec;
 use lane_notes::{note_object_receipts, note_receipts};
+use lane_world::Lane;
 use posix_timer::AcceptAnswer;
 use record_text::Answer;
 use std::alloc::{AllocError, Global};

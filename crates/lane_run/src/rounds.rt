@@ -2,14 +2,15 @@
 ghost use Rattle.std.specs.Prelude.{◌≡◌, ◌≤◌, ◌<◌, ◌-◌, ℕ, [], ◌++◌, false, All, OnOk, get_or, length, map, vec_capacity, vec_len};
 ghost use Rattle.std.specs.List.{AllByRecursion};
 ghost use Rattle.lane_notes.specs.Notes.{no_notes};
-ghost use Rattle.lane_run.specs.declared.lane.Lane.{Lane};
-ghost use Rattle.lane_run.specs.Rounds.{BeginsRound, CanRun, HasSplit, IsLaneOf, IsMain, MakesRound, RunsLane, TakesInLanes, TakesInPass, as_index, calling_from, has_calls, with_lane, with_left};
-ghost use Rattle.lane_run.specs.Worlds.{AnswerFor, ArePassesOf, CanCall};
+ghost use Rattle.lane_world.specs.declared.Lane.{Lane};
+ghost use Rattle.lane_world.specs.Rounds.{BeginsRound, CanRun, HasSplit, IsLaneOf, IsMain, MakesRound, RunsLane, TakesInLanes, TakesInPass, as_index, calling_from, has_calls, with_lane, with_left};
+ghost use Rattle.lane_world.specs.Worlds.{AnswerFor, ArePassesOf, CanCall};
 
 use crate::gate::Gate;
-use crate::lane::{Lane, make_calls};
-use crate::world::{World, WorldPass};
+use crate::lane::make_calls;
+use crate::world::World;
 use lane_notes::Notes;
+use lane_world::{Lane, WorldPass};
 use record_text::{Answer, ItemList, Label};
 use script_text::Round;
 use std::alloc::{AllocError, Global};
@@ -26,7 +27,7 @@ pub struct Left {
 }
 
 impl Model for Left {
-    ghost use Rattle.lane_run.specs.Rounds.{LeftOf};
+    ghost use Rattle.lane_world.specs.Rounds.{LeftOf};
 
     ghost Value = { LeftOf };
 

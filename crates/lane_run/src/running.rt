@@ -1,15 +1,16 @@
 //! The run of a script: its rounds in turn, and the record of what all lanes left.
 ghost use Rattle.std.specs.Prelude.{◌≡◌, [], IfOk, replicate};
 ghost use Rattle.script_text.specs.Scripts.{IsInRange};
-ghost use Rattle.lane_run.specs.Rounds.{IsMain};
-ghost use Rattle.lane_run.specs.Runs.{MakesRun, ShowsAllSeen, ShowsLeft};
+ghost use Rattle.lane_world.specs.Rounds.{IsMain};
+ghost use Rattle.lane_world.specs.Runs.{MakesRun, ShowsAllSeen, ShowsLeft};
 ghost use Rattle.run_history.specs.Fits.{Fits};
-ghost use Rattle.lane_run.specs.Worlds.{AreFirst, AreLast, ArePassesOf, IsWorldOf};
+ghost use Rattle.lane_world.specs.Worlds.{AreFirst, AreLast, ArePassesOf, IsWorldOf};
 
 use crate::gate::Gate;
 use crate::rounds::{Left, make_round};
-use crate::world::{World, WorldPass};
+use crate::world::World;
 use lane_notes::{Notes, record_of};
+use lane_world::WorldPass;
 use record_text::{Answer, ItemList, RunRecord};
 use script_text::Script;
 use std::alloc::{AllocError, Global};

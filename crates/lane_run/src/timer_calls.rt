@@ -1,13 +1,13 @@
 //! The calls on timers by themselves, and the writes of the clock.
 ghost use Rattle.std.specs.Prelude.{◌≡◌, ◌≤◌, ◌<◌, [], IfOk, length};
-ghost use Rattle.lane_run.specs.Called.{CallsCancel, CallsPeek, CallsStart, CallsWrite, LeavesLane, cancel_told, lane_of, start_told};
-ghost use Rattle.lane_run.specs.Worlds.{ArePassesOf};
+ghost use Rattle.lane_world.specs.Called.{CallsCancel, CallsPeek, CallsStart, CallsWrite, LeavesLane, cancel_told, lane_of, start_told};
+ghost use Rattle.lane_world.specs.Worlds.{ArePassesOf};
 
-use crate::lane::Lane;
 use crate::world::World;
 use clock_model::{ClockFault, Write};
 use hr_timers::{Log, StartAnswer};
 use lane_notes::note_receipts;
+use lane_world::Lane;
 use record_text::{Answer, ClockLine};
 use script_text::StartRequest;
 use seq_timer::{Asked, CancelAnswer};

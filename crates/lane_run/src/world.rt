@@ -7,19 +7,19 @@ ghost use Rattle.hr_timers.specs.Known.{HasEachPlace, HasEachShift, IsPassOf};
 ghost use Rattle.clock_cell.specs.Views.{KnowsClock};
 ghost use Rattle.script_text.specs.Scripts.{IsInRange};
 ghost use Rattle.script_text.specs.Declarations.{declared_as, terms_of};
-ghost use Rattle.lane_run.specs.Rounds.{TakesInPass};
-ghost use Rattle.lane_run.specs.Worlds.{AnswerFor, AreFirst, AreLast, ArePassesOf, IsWorldOf, SplitsPass, callback_of, decl_of};
+ghost use Rattle.lane_world.specs.Rounds.{TakesInPass};
+ghost use Rattle.lane_world.specs.Worlds.{AnswerFor, AreFirst, AreLast, ArePassesOf, IsWorldOf, SplitsPass, callback_of, decl_of};
 
-use clock_cell::{ClockPass, SharedClock};
-use counted_row::RowPass;
+use clock_cell::SharedClock;
 use hr_timers::{Pass, Timers};
+use lane_world::WorldPass;
 use record_text::Version;
 use script_text::{Callback, Declaration, Kind, Script};
 use seq_timer::{Context, Declared};
 use std::alloc::{AllocError, Global};
 use std::marker::Model;
 use std::sync::Wait;
-use timer_objects::{Decl, ObjectCell, Objects};
+use timer_objects::{Decl, Objects};
 
 /// The timers, objects and clock of a script, with the callbacks of its timers. Lanes share it.
 #[derive(Drop)]
@@ -30,15 +30,8 @@ pub struct World {
     pub(crate) callbacks: Vec<timer_objects::Callback>,
 }
 
-/// A pass of each kind. It can't be dropped.
-pub struct WorldPass {
-    pub timers: Pass,
-    pub objects: RowPass<ObjectCell>,
-    pub clock: ClockPass,
-}
-
 impl Model for World {
-    ghost use Rattle.lane_run.specs.Worlds.{IsWhole, WorldOf};
+    ghost use Rattle.lane_world.specs.Worlds.{IsWhole, WorldOf};
 
     ghost Value = { WorldOf };
 

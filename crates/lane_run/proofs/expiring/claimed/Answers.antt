@@ -1,6 +1,6 @@
 use Rattle.std.proofs.Common.{◌∙◌, true, false, sym}
 use Rattle.std.proofs.lemmas.List.{append-nil}
-use Rattle.lane_run.proofs.Claimed.{claimed_next}
+use Rattle.call_laws.proofs.Claimed.{claimed_next}
 use Rattle.lane_run.proofs.expiring.claimed.Goals as goal
 use Rattle.lane_run.proofs.expiring.claimed.Goals.{then-is_claim_event+in_ok-push, else-is_claim_event}
 

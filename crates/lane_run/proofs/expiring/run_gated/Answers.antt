@@ -7,8 +7,8 @@ use Rattle.expire_pass.specs.Expiring.{Expires}
 use Rattle.base_row.specs.Logs.{LogOf}
 use Rattle.timer_objects.specs.Firings.{firing}
 use Rattle.timer_objects.specs.declared.log.ObjectReceipt.{ObjectReceipt}
-use Rattle.lane_run.specs.Expiries.{KeepsName, RunsGated}
-use Rattle.lane_run.specs.Worlds.{WorldOf}
+use Rattle.lane_world.specs.Expiries.{KeepsName, RunsGated}
+use Rattle.lane_world.specs.Worlds.{WorldOf}
 use Rattle.timer_objects.proofs.Lending.{pass_after}
 use Rattle.lane_run.proofs.expiring.run_gated.Goals as goal
 

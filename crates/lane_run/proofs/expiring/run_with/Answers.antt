@@ -3,7 +3,7 @@ use Rattle.timer_objects.specs.Firings.{Firing, firing}
 use Rattle.lane_run.specs.declared.expiring.Gated.{Gated}
 use Rattle.expire_pass.proofs.Leaving.{expires_of, run_leaves}
 use Rattle.timer_objects.proofs.Lending.{leaves_pass}
-use Rattle.lane_run.specs.Expiries.{RunsWith}
+use Rattle.lane_world.specs.Expiries.{RunsWith}
 use Rattle.lane_run.proofs.expiring.run_with.Goals as goal
 
 pub returns-clause-runs : goal.returns-clause-runs

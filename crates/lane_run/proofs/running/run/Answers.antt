@@ -2,7 +2,7 @@ use Rattle.std.proofs.Common.{subst}
 use Rattle.std.specs.Prelude.{IfOk, Result}
 use Rattle.std.specs.declared.alloc.AllocError.{AllocError}
 use Rattle.record_text.specs.declared.record.RunRecord.{RunRecord}
-use Rattle.lane_run.specs.Runs.{MakesRun}
+use Rattle.lane_world.specs.Runs.{MakesRun}
 use Rattle.lane_run.proofs.Mains.{main_first, main_last}
 use Rattle.lane_run.proofs.RunFits.{run_recorded}
 use Rattle.lane_run.proofs.running.run.Goals as goal

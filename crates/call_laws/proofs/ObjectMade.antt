@@ -1,0 +1,184 @@
+-- A call on an object that made an entry, as its lane keeps it: it found the object's timer, perhaps cancelled and perhaps started it, and then made the entry.
+use Rattle.std.proofs.Common.{◌≤◌, ◌≡◌, ℕ, ◌+◌, Option, Some, List, [], ◌++◌, length, arith, refl, sym, ap, ◌∙◌, subst, ◌≤◌, Bool, ◌∷◌}
+use Rattle.ktime.specs.Readings.{ClockReading}
+use Rattle.seq_timer.specs.Steps.{Timer}
+use Rattle.seq_timer.specs.declared.system.SystemEntry.{SystemEntry}
+use Rattle.base_row.specs.declared.log.Receipt.{Receipt}
+use Rattle.hr_timers.specs.Known.{KnownOfTimers, timer_then}
+use Rattle.timer_objects.specs.Calls.{phase_of, EntersCall}
+use Rattle.timer_objects.specs.Known.{seen_of}
+use Rattle.timer_objects.specs.Steps.{object_step}
+use Rattle.timer_objects.specs.declared.log.ObjectReceipt.{ObjectReceipt}
+use Rattle.record_text.specs.declared.record.Answer.{Answer}
+use Rattle.record_text.specs.declared.record.ObjectEntry.{ObjectEntry}
+use Rattle.run_history.specs.Told.{object_stamp_in, object_called}
+use Rattle.run_history.specs.Objects.{armed_in_phase}
+use Rattle.run_history.specs.Order.{NeverFall}
+use Rattle.script_text.specs.declared.script.Script.{Script}
+use Rattle.lane_notes.specs.Arms.{arm_noted}
+use Rattle.run_history.specs.Witnesses.{entries_in}
+use Rattle.run_history.specs.Runs.{witness_of, Ending, IsJoined, moves_spans}
+use Rattle.run_history.specs.Truths.{IsSpan, IsSpanBy, IsTrueStart}
+use Rattle.run_history.proofs.ObjectsMade.{settime_actions}
+use Rattle.run_history.proofs.OthersMade.{plain}
+use Rattle.run_history.proofs.PassState.{timer_seen}
+use Rattle.run_history.proofs.Promise.{seen_first}
+use Rattle.lane_world.specs.Called.{lane_caller, LaneOf, ReadsClock, with_done}
+use Rattle.lane_world.proofs.Kept.{Follows, IsNextCall, KeepsCall, seen_by, goes_before}
+use Rattle.lane_world.specs.Worlds.{WorldOf}
+use Rattle.pass_names.proofs.Passes.{begins_length}
+use Rattle.base_row.specs.declared.view.Opening.{Opening}
+use Rattle.timer_setting.specs.declared.arming.Arm.{Arm}
+use Rattle.timer_objects.specs.declared.object.ObjectReply.{ObjectReply}
+use Rattle.script_text.specs.declared.script.Call.{Call}
+use Rattle.run_history.specs.Fits.{FitsCall}
+use Rattle.run_history.proofs.Kept.{IsKept}
+use Rattle.ktime.specs.declared.mode.Mode.{Mode}
+use Rattle.run_history.specs.Witnesses as witnesses
+use Rattle.call_laws.proofs.Armed.{HasRead, IsArmedSo, IsLike, IsRearmSpan, start_true, TimerPart}
+use Rattle.call_laws.proofs.CallKept.{clock_read, reading_goes_on, unstamped}
+use Rattle.call_laws.proofs.PartKept.{keeps_part}
+use Rattle.call_laws.proofs.Parts.{IsNotedAs, IsPart, part_made, part_none, part_then}
+use Rattle.timer_objects.specs.Arming.{stamp_seen}
+use Rattle.timer_objects.specs.declared.cell.SpannedCall.{SpannedCall}
+use Rattle.timer_setting.specs.declared.arming.Arm.TheVariants as arms
+use Rattle.std.proofs.lemmas.List.{append-nil}
+use Rattle.timer_objects.specs.Steps.{object_answer}
+use Rattle.lane_world.specs.Runs.{ObjectMove}
+use Rattle.run_history.specs.Receipts.{PlacedEntry}
+use Rattle.run_history.specs.Promises as promises
+use Rattle.std.proofs.Common.{length-append}
+use Rattle.std.specs.List.{slice_get}
+use Rattle.counted_row.specs.Views.{StateAfter}
+use Rattle.counted_row.proofs.Histories.{after_push}
+use Rattle.timer_objects.specs.Cells.{cell_meaning, opened_cells}
+use Rattle.timer_objects.specs.declared.cell.ObjectCell.{ObjectCell}
+use Rattle.run_history.specs.Objects.{object_armed_after}
+use Rattle.script_text.specs.Declarations.{kind_of}
+use Rattle.script_text.specs.declared.script.Kind.TheVariants as kinds
+use Rattle.script_text.specs.declared.script.Kind.{Kind}
+use Rattle.run_history.proofs.Lists.{at_seam}
+use Rattle.lane_world.proofs.ObjectSeen.{span_made}
+use Rattle.record_text.specs.declared.record.RunRecord.{RunRecord}
+use Rattle.lane_world.proofs.ObjectSeen.{object_after, object_seen}
+use Rattle.timer_setting.specs.declared.phase.Phase.{Phase}
+
+-- how an object after its first so many entries has armed its timer
+armed_after : (s : Script) (r : RunRecord) (i n : ℕ) (k : Kind) → object_armed_after s r i n k ≡ armed_in_phase (phase_of (object_after s r i n k))
+armed_after s r i n (kinds.Raw context callback) = refl
+armed_after s r i n k = refl
+
+module _ {s : Script} {x : WorldOf} {l : LaneOf} (m : LaneOf) {call : Call} (next : IsNextCall s x l call) {timer : ℕ} {log : List Receipt}
+    {object_log : List ObjectReceipt} {made : SpannedCall} {reply : ObjectReply}
+    (enters : EntersCall x.objects (lane_caller l.pass [] []) (lane_caller m.pass log object_log) timer made reply) {mode : Mode} {ns base : ℕ}
+    {reading : ClockReading} {arm : Arm} {cancel : Option (ℕ × ℕ)} {begin : KnownOfTimers}
+    (k : TimerPart s x l timer begin m.pass.timers.known mode ns base reading arm cancel log) where
+  abbrev w : KnownOfTimers
+  w = m.pass.timers.known
+
+  -- the number of the object's entry
+  abbrev number : ℕ
+  number = length enters.commits.adds.before + 1
+
+  -- the entry, and the object's phase behind it
+  abbrev step : ObjectMove
+  step = record { call = made; reply = object_answer enters.commits.state.object made.call }
+
+  abbrev phase : Phase
+  phase = phase_of (object_step enters.commits.state.object made.call)
+
+  -- ---- in a run that goes on from there
+
+  module _ {e : Ending} (follows : Follows m.pass e) (joined : IsJoined s e) where
+    -- a timer as the lane knows it is the script's
+    timer_at : (ys : List SystemEntry) → promises.GoesOn ys e → witnesses.timer_along (witness_of s e) (length ys) timer ≡ timer_then x.timers.about ys timer
+    timer_at ys on =
+        timer_seen (witness_of s e) ys on.0 (seen_first ys joined on) timer ∙ sym (ap (λ (o : Opening). timer_then o ys timer) next.world.timers)
+
+    timer_now : witnesses.timer_along (witness_of s e) (length w.seen) timer ≡ timer_then x.timers.about w.seen timer
+    timer_now = timer_at w.seen follows.timers
+
+    -- law: so it is where the call found it
+    pub timer_found : witnesses.timer_along (witness_of s e) (length begin.seen) timer ≡ timer_then x.timers.about begin.seen timer
+    timer_found = timer_at begin.seen (goes_before k.part.1.timers.enters.seen follows.timers)
+
+    -- law: what became of its start
+    pub outcome_is : IsArmedSo arm (witnesses.timer_along (witness_of s e) (length w.seen) timer)
+    outcome_is = subst (IsArmedSo arm) (sym timer_now) k.armed
+
+    -- the object after the entry is the record's
+    phase_is : object_armed_after s e.run timer number (kind_of s timer) ≡ armed_in_phase phase
+    phase_is =
+        let made_cells = opened_cells x.objects.decls x.objects.limit in
+        let before = enters.commits.adds.before in
+        let cell : ObjectCell = record { object = object_step enters.commits.state.object made.call; last = made.to } in
+        let at = subst (λ cells. StateAfter cell_meaning cells timer before enters.commits.state) next.objects enters.commits.at in
+        let after = subst (λ ys. StateAfter cell_meaning made_cells timer ys cell) (sym enters.commits.adds.last)
+        (after_push cell_meaning made_cells timer before step enters.commits.state at enters.may refl) in
+        let count : length (seen_of m.pass.objects timer) ≡ number =
+        omega (arith, ap length enters.commits.adds.last, length-append before (step ∷ [])) in
+        armed_after s e.run timer number (kind_of s timer)
+        ∙ ap (λ n. armed_in_phase (phase_of (object_after s e.run timer n (kind_of s timer)))) (sym count)
+        ∙ ap (λ o. armed_in_phase (phase_of o)) (sym (object_seen s x next.world timer (seen_of m.pass.objects timer) cell after e (follows.objects timer)))
+
+    -- law: the object's entry tells the truth of it, where the object's phase bears it
+    pub start_is : (on_clock : Bool) → IsLike on_clock arm (armed_in_phase phase) (timer_then x.timers.about w.seen timer)
+        → IsTrueStart (witness_of s e) timer number on_clock (arm_noted arm) (length w.seen)
+    start_is on_clock like =
+        start_true (witness_of s e) timer number (length w.seen) on_clock arm outcome_is
+        (subst (λ o. IsLike on_clock arm o (witnesses.timer_along (witness_of s e) (length w.seen) timer)) (sym phase_is)
+        (subst (IsLike on_clock arm (armed_in_phase phase)) (sym timer_now) like))
+
+    -- the run has the entry's span
+    span_is : e.spans timer number ≡ (made.from, made.to)
+    span_is =
+        span_made m.pass.objects e timer (length enters.commits.adds.before) step (follows.objects timer)
+        (subst (λ ys. slice_get ys (length enters.commits.adds.before) ≡ Some step) (sym enters.commits.adds.last)
+        (at_seam enters.commits.adds.before [] step))
+
+    -- law: it is the whole part, where it goes from the timer as the call found it to the timer as it left it
+    pub whole_span : made.from ≡ stamp_seen x.timers.about begin timer → made.to ≡ stamp_seen x.timers.about w timer
+        → IsSpan (witness_of s e) (length begin.seen) timer number (length w.seen)
+    whole_span from to =
+        span_is ∙ ap (λ n. (n, made.to)) (from ∙ sym (ap (λ (u : Timer). u.stamp) timer_found))
+        ∙ ap (λ n. ((witnesses.timer_along (witness_of s e) (length begin.seen) timer).stamp, n)) (to ∙ sym (ap (λ (u : Timer). u.stamp) timer_now))
+
+    -- law: or as it is where the call starts the timer only if it has expired
+    pub rearm_span : (b : Arm) → IsRearmSpan (timer_then x.timers.about begin.seen timer) (timer_then x.timers.about w.seen timer) b made.from made.to
+        → IsSpanBy (witness_of s e) (length begin.seen) timer number (arm_noted b) (length w.seen)
+    rearm_span arms.NotAsked spans = record {
+      empty = ap (λ p. p.0) span_is ∙ spans.0 ∙ sym (ap (λ p. p.1) span_is);
+      seen = λ none. let le = spans.1 (sym (ap (λ (u : Timer). u.running) timer_now) ∙ none) in
+          omega (arith, le, ap (λ (u : Timer). u.stamp) timer_now, ap (λ p. p.0) span_is);
+    }
+    rearm_span b spans = whole_span spans.0 spans.1
+
+  -- ---- the call
+
+  module _ (on : object_called call ≡ Some timer) (reads : ReadsClock l.pass m.pass reading) (notes : m.notes ≡ with_done l.notes l.label log object_log)
+      {entry : ObjectEntry} (noted : IsNotedAs (HasRead reading) made.call reply entry) where
+    -- law: a lane keeps the call, where it fits
+    pub keeps_made : (a : Answer) → object_stamp_in a ≡ []
+        → ((e : Ending) → Follows m.pass e → IsJoined s e → IsKept (witness_of s e) (moves_spans e) l.label
+        (plain reading.stamp (length begin.seen) (length w.seen) (settime_actions timer cancel k.start number entry)) k.part.0 call a (seen_by l.pass)
+        (seen_by m.pass) → (moves_spans e).first l.label ≤ length begin.seen
+        → FitsCall (witness_of s e) l.label call a (seen_by l.pass) (seen_by m.pass))
+        → KeepsCall s l call a m
+    keeps_made a unstamps fits =
+        let p = l.pass in
+        let q = m.pass in
+        let ds = settime_actions timer cancel k.start number entry in
+        let trace = plain reading.stamp (length begin.seen) (length w.seen) ds in
+        let receipt_of : ObjectReply → ObjectReceipt = λ r. record { object = timer; number = number; call = made; reply = r } in
+        let log_is : object_log ≡ receipt_of step.reply ∷ [] = enters.object_log ∙ ap (λ r. receipt_of r ∷ []) enters.reply in
+        let as_told = subst (λ r. IsNotedAs (HasRead reading) made.call r entry) enters.reply noted in
+        let entered = part_made {v = w} {step = step} enters.commits.adds enters.commits.opening as_told in
+        let Whole : List PlacedEntry → List Receipt → List ObjectReceipt → Type 0 =
+        λ ns rs os. IsPart (HasRead reading) l.label p.timers.known p.objects w q.objects ds ns rs os in
+        let whole : Whole k.part.0 log object_log =
+        subst (λ ns. Whole ns log object_log) (append-nil k.part.0) (subst (λ rs. Whole (k.part.0 ++ []) rs object_log) (append-nil log)
+        (subst (Whole (k.part.0 ++ []) (log ++ [])) (sym log_is) (part_then (part_none k.seen k.mine) (part_then k.part.1 entered)))) in
+        keeps_part next m a trace whole (reading_goes_on p q reading reads) (clock_read reads.looks) notes refl reads.count
+        (λ i. subst (λ ns. NeverFall (length (seen_of p.objects i)) ns (length (seen_of q.objects i))) (sym (unstamped i call a timer ds on unstamps))
+        (whole.objects.steps i))
+        (λ e follows joined has kept low. let le = begins_length k.seen in fits e follows joined kept (omega (arith, le, low)))

@@ -1,0 +1,202 @@
+-- Calls on objects that may arm their timer again, as their lanes keep them: an acceptance, a read, and a gettime of either kind.
+use Rattle.std.proofs.Common.{◌≡◌, ◌≤◌, ℕ, Some, option_map, List, [], length, refl, sym, ap, subst}
+use Rattle.clock_cell.specs.Views.{writes}
+use Rattle.ktime.specs.Readings.{ClockReading}
+use Rattle.posix_timer.specs.declared.answers.AcceptAnswer.TheVariants as accept_answers
+use Rattle.posix_timer.specs.declared.answers.AcceptAnswer.{AcceptAnswer}
+use Rattle.posix_timer.specs.declared.calls.Reply.TheVariants as posix_replies
+use Rattle.timer_fd.specs.Steps.{count_length}
+use Rattle.timer_fd.specs.declared.answers.GettimeAnswer.TheVariants as lefts
+use Rattle.timer_fd.specs.declared.answers.ReadAnswer.TheVariants as read_answers
+use Rattle.timer_fd.specs.declared.answers.ReadAnswer.{ReadAnswer}
+use Rattle.timer_fd.specs.declared.calls.Reply.TheVariants as fd_replies
+use Rattle.timer_fd.specs.declared.calls.Call.TheVariants as fd_calls
+use Rattle.posix_timer.specs.declared.calls.Call.TheVariants as posix_calls
+use Rattle.timer_setting.specs.declared.arming.Arm.TheVariants as arms
+use Rattle.timer_setting.specs.declared.arming.Arm.{Arm}
+use Rattle.timer_objects.specs.Calls.{Accepts, Gettimes, RearmingMade, ReadsFd, rearming_call}
+use Rattle.timer_objects.specs.Known.{decl_at}
+use Rattle.timer_objects.specs.declared.answers.Gettime.TheVariants as gettimes
+use Rattle.timer_objects.specs.declared.answers.Gettime.{Gettime}
+use Rattle.timer_objects.specs.declared.object.Kind.TheVariants as over
+use Rattle.timer_objects.specs.declared.object.ObjectReply.TheVariants as replies
+use Rattle.timer_objects.specs.declared.wanting.Rearming.TheVariants as rearmings
+use Rattle.record_text.specs.Replies.{answer_of_accept, answer_of_read}
+use Rattle.record_text.specs.declared.record.AcceptReply.TheVariants as acceptances
+use Rattle.record_text.specs.declared.record.AcceptReply.{AcceptReply}
+use Rattle.record_text.specs.declared.record.Answer.TheVariants as answers
+use Rattle.record_text.specs.declared.record.Answer.{Answer}
+use Rattle.record_text.specs.declared.record.ObjectEntry.TheVariants as object_entries
+use Rattle.record_text.specs.declared.record.ReadReply.TheVariants as reads
+use Rattle.record_text.specs.declared.record.ReadReply.{ReadReply}
+use Rattle.run_history.specs.FdHistories.{fd_arm, read_answer_of}
+use Rattle.run_history.specs.Told.{object_stamp_in}
+use Rattle.run_history.specs.Histories.{reading_at}
+use Rattle.run_history.specs.ObjectCalls.{DoesGettime}
+use Rattle.script_text.specs.Declarations.{kind_of}
+use Rattle.run_history.specs.PosixHistories.{accept_answer_of, posix_arm}
+use Rattle.script_text.specs.declared.script.Call.TheVariants as calls
+use Rattle.script_text.specs.declared.script.Kind.TheVariants as kinds
+use Rattle.script_text.specs.declared.script.Script.{Script}
+use Rattle.lane_notes.specs.Arms.{arm_noted, arm_told}
+use Rattle.lane_notes.specs.FdNotes.{read_noted}
+use Rattle.lane_notes.specs.PosixNotes.{accept_noted}
+use Rattle.run_history.proofs.ObjectsMade.{accept_made, gettime_made, read_made}
+use Rattle.lane_world.specs.Called.{accept_told, Called, lane_caller, CallsObject, gettime_told, LaneOf, read_told}
+use Rattle.lane_world.proofs.Kept.{IsNextCall, KeepsCall, Follows, seen_by}
+use Rattle.lane_world.specs.Worlds.{WorldOf}
+use Rattle.call_laws.proofs.Sights.{keeps_full, keeps_same}
+use Rattle.std.proofs.Common.{◌+◌, false, [], arith}
+use Rattle.ktime.specs.declared.mode.Mode.TheVariants as modes
+use Rattle.timer_objects.specs.Calls.{wanted_by}
+use Rattle.record_text.specs.declared.record.Armed.{Armed}
+use Rattle.run_history.specs.Actions.{Action}
+use Rattle.run_history.specs.Told.{object_called}
+use Rattle.run_history.specs.Fits.{FitsCall}
+use Rattle.run_history.specs.Receipts.{PlacedEntry}
+use Rattle.run_history.specs.Runs.{witness_of, Ending, IsJoined, moves_spans}
+use Rattle.run_history.specs.Truths.{WasOffLine}
+use Rattle.run_history.proofs.Kept.{IsKept}
+use Rattle.run_history.proofs.ObjectsMade.{IsRearmed, rearming_actions}
+use Rattle.run_history.proofs.OthersMade.{plain}
+use Rattle.pass_names.proofs.Passes.{begins_length}
+use Rattle.timer_objects.specs.Calls.{Caller}
+use Rattle.run_history.proofs.ObjectsMade.{rearming_actions}
+use Rattle.call_laws.proofs.CallKept.{clock_read}
+use Rattle.call_laws.proofs.Parts.{noted_at}
+use Rattle.lane_world.proofs.Declared.{declared_base}
+use Rattle.call_laws.proofs.Armed.{places_inside}
+use Rattle.call_laws.proofs.ObjectMade.{keeps_made, rearm_span, start_is}
+use Rattle.call_laws.proofs.Rearmed.{like_restart, rearm_part, RearmPart, wanted_timely}
+use Rattle.script_text.specs.declared.script.Call.{Call}
+use Rattle.timer_objects.specs.declared.wanting.Rearming.{Rearming}
+use Rattle.run_history.specs.ObjectCalls.{Arms}
+use Rattle.record_text.specs.declared.record.ObjectEntry.{ObjectEntry}
+use Rattle.timer_objects.specs.declared.object.ObjectReply.{ObjectReply}
+use Rattle.lane_notes.specs.Objects.{object_entry_noted, skip_generation}
+use Rattle.lane_world.specs.Runs.{ShowsObjectCall}
+use Rattle.std.proofs.Common.{None}
+use Rattle.record_text.specs.declared.record.ClockLine.{ClockLine}
+
+-- ---- a call that made an entry
+
+-- as a line has the outcome of a start, so its history does
+arm_back : (arm : Arm) → (posix_arm (arm_noted arm) 0 ≡ arm_told arm) × (fd_arm (arm_noted arm) 0 ≡ arm_told arm)
+arm_back arms.NotAsked = (refl, refl)
+arm_back arm = (refl, refl)
+
+module _ {s : Script} {x : WorldOf} {l m : LaneOf} {call : Call} (next : IsNextCall s x l call) {timer : ℕ} (on : object_called call ≡ Some timer)
+    {a : Answer} {Does : Caller → Caller → ClockReading → Type 0} (c : CallsObject x l m a Does) {r : Rearming} {reply : ObjectReply}
+    (made : RearmingMade x.objects x.timers.about (lane_caller l.pass [] []) (lane_caller m.pass c.log c.object_log) timer r c.reading reply)
+    (entry : Armed → ObjectEntry) where
+  part : RearmPart s x l timer m.pass.timers.known (decl_at x.objects timer).base c.reading made.arm made.span c.log
+  part =
+      let object = made.enters.commits.state.object in
+      rearm_part next timer c.reading made.enters.commits.state.last (wanted_by r object c.reading) made.arm (wanted_timely r object c.reading) made.rearms
+
+  rearmed : {e : Ending} → Follows m.pass e → IsJoined s e
+      → IsRearmed (witness_of s e) l.label part.does.part.0 c.reading.stamp (length part.begin.seen) (length m.pass.timers.known.seen) timer
+      (arm_noted made.arm) part.does.start (length made.enters.commits.adds.before + 1)
+  rearmed {e = e} follows joined = record {
+    ns = part.ns;
+    timely = part.timely;
+    arms = subst (λ b. Arms (WasOffLine (witness_of s e) (length part.begin.seen) (length m.pass.timers.known.seen)) s.limit timer modes.Keep part.ns
+        c.reading.stamp b (arm_noted made.arm) part.does.start) (declared_base s x timer next.world) (part.does.arms e joined follows.timers);
+    ends = length m.pass.timers.known.seen;
+    between = begins_length part.does.part.1.timers.enters.seen;
+    high = omega arith;
+    part = places_inside part.does.part.1.timers.enters;
+    holds = start_is m next made.enters part.does follows joined false
+        (like_restart x.timers.about m.pass.timers.known timer made.arm _ made.bears);
+    span = rearm_span m next made.enters part.does follows joined made.arm part.spans;
+  }
+
+  -- law: a lane keeps a call on an object that may arm the object's timer again and made an entry, where such calls fit
+  pub keeps_rearming : object_entry_noted (rearming_call r c.reading made.arm) reply ≡ Some (entry (arm_noted made.arm))
+      → skip_generation (rearming_call r c.reading made.arm) reply ≡ None
+      → ((clock : List ClockLine)
+      → ShowsObjectCall clock (rearming_call r (reading_at clock c.reading.stamp) made.arm) reply (entry (arm_noted made.arm)))
+      → (b : Answer) → object_stamp_in b ≡ [] → ((e : Ending) (begin last : ℕ) (arm : Armed) (start : List Action) (number : ℕ)
+      (notes : List PlacedEntry) → IsKept (witness_of s e) (moves_spans e) l.label
+      (plain c.reading.stamp begin last (rearming_actions timer start number (entry arm))) notes call b (seen_by l.pass) (seen_by m.pass)
+      → (moves_spans e).first l.label ≤ begin → IsRearmed (witness_of s e) l.label notes c.reading.stamp begin last timer arm start number
+      → FitsCall (witness_of s e) l.label call b (seen_by l.pass) (seen_by m.pass))
+      → KeepsCall s l call b m
+  keeps_rearming noted no_skip shows b unstamps fits =
+      keeps_made m next made.enters part.does on c.reads c.notes
+      (noted_at c.reading (λ r'. rearming_call r r' made.arm) reply (entry (arm_noted made.arm)) noted no_skip shows) b unstamps
+      (λ e follows joined kept low. fits e _ _ (arm_noted made.arm) part.does.start _ part.does.part.0 kept low (rearmed follows joined))
+
+-- ---- the calls
+
+module _ {s : Script} {x : WorldOf} {l m : LaneOf} {a : Answer} {timer : ℕ} where
+  accept_kept : IsNextCall s x l (calls.Accept timer) → (reply : AcceptReply) → accept_noted (accept_answer_of reply) ≡ Some reply
+      → object_stamp_in (answer_of_accept reply) ≡ []
+      → CallsObject x l m a (λ old new reading. RearmingMade x.objects x.timers.about old new timer rearmings.Accepting reading
+      (replies.Posix (posix_replies.Accept (accept_answer_of reply))))
+      → KeepsCall s l (calls.Accept timer) (answer_of_accept reply) m
+  accept_kept next reply back unstamps c =
+      let answered = posix_replies.Accept (accept_answer_of reply) in
+      keeps_rearming next refl c c.does (λ arm. object_entries.Accept c.reading.stamp arm reply)
+      (ap (option_map (λ (r : AcceptReply). object_entries.Accept c.reading.stamp (arm_noted c.does.arm) r)) back) refl
+      (λ clock. ap (λ k. Some (record { call = posix_calls.Accept (reading_at clock c.reading.stamp) k; reply = answered })) (arm_back c.does.arm).0)
+      (answer_of_accept reply) unstamps (λ e begin last arm start number notes kept low rearmed. accept_made reply kept low rearmed)
+
+  -- law: a lane keeps an acceptance
+  pub keeps_accept : IsNextCall s x l (calls.Accept timer) → Called x l (calls.Accept timer) a m → KeepsCall s l (calls.Accept timer) a m
+  keeps_accept next called = subst (λ b. KeepsCall s l (calls.Accept timer) b m) (sym called.1) (by_answer called.0 called.2)
+    where
+      by_answer : (g : AcceptAnswer) → CallsObject x l m a (λ old new reading. Accepts x.objects x.timers.about old new timer reading g)
+          → KeepsCall s l (calls.Accept timer) (accept_told g) m
+      by_answer (accept_answers.Spent n) c =
+          keeps_full next (answers.Spent n) timer n c.does (clock_read c.reads.looks) c.notes
+          refl refl (λ e. refl) (λ e saw. saw)
+      by_answer (accept_answers.Accepted overrun) c = accept_kept next (acceptances.Accepted overrun) refl refl c
+      by_answer accept_answers.NoSignal c = accept_kept next acceptances.NoSignal refl refl c
+
+module _ {s : Script} {x : WorldOf} {l m : LaneOf} {a : Answer} {timer len : ℕ} where
+  read_kept : IsNextCall s x l (calls.Read timer len) → (reply : ReadReply) → read_noted (read_answer_of reply) ≡ Some reply
+      → object_stamp_in (answer_of_read reply) ≡ []
+      → CallsObject x l m a (λ old new reading. (count_length ≤ len)
+      × RearmingMade x.objects x.timers.about old new timer rearmings.Reading reading (replies.Fd (fd_replies.Read (read_answer_of reply))))
+      → KeepsCall s l (calls.Read timer len) (answer_of_read reply) m
+  read_kept next reply back unstamps c =
+      let answered = fd_replies.Read (read_answer_of reply) in
+      keeps_rearming next refl c c.does.1 (λ arm. object_entries.Read c.reading.stamp arm reply)
+      (ap (option_map (λ (r : ReadReply). object_entries.Read c.reading.stamp (arm_noted c.does.1.arm) r)) back) refl
+      (λ clock. ap (λ k. Some (record { call = fd_calls.Read (reading_at clock c.reading.stamp) k; reply = answered })) (arm_back c.does.1.arm).1)
+      (answer_of_read reply) unstamps (λ e begin last arm start number notes kept low rearmed. read_made len reply kept low rearmed c.does.0)
+
+  -- law: a lane keeps a read
+  pub keeps_read : IsNextCall s x l (calls.Read timer len) → Called x l (calls.Read timer len) a m → KeepsCall s l (calls.Read timer len) a m
+  keeps_read next called = subst (λ b. KeepsCall s l (calls.Read timer len) b m) (sym called.1) (by_answer called.0 called.2)
+    where
+      by_answer : (g : ReadAnswer) → CallsObject x l m a (λ old new reading. ReadsFd x.objects x.timers.about old new timer len reading g)
+          → KeepsCall s l (calls.Read timer len) (read_told g) m
+      by_answer read_answers.ShortBuffer c =
+          keeps_same next answers.Invalid timer c.does.1 (clock_read c.reads.looks) c.notes
+          refl refl (λ e. (refl, c.does.0)) (λ e. tt)
+      by_answer (read_answers.Spent n) c =
+          keeps_full next (answers.Spent n) timer n c.does.1 (clock_read c.reads.looks) c.notes
+          refl refl (λ e. (refl, c.does.0)) (λ e saw. saw)
+      by_answer (read_answers.Count total) c = read_kept next (reads.Count total) refl refl c
+      by_answer read_answers.Canceled c = read_kept next reads.Canceled refl refl c
+      by_answer read_answers.Again c = read_kept next reads.Again refl refl c
+
+-- law: a lane keeps a gettime of a descriptor
+pub keeps_gettime-fd : {s : Script} {x : WorldOf} {l m : LaneOf} {a : Answer} {timer base : ℕ} → IsNextCall s x l (calls.Gettime timer)
+    → kind_of s timer ≡ kinds.Fd base → (g : Gettime)
+    → CallsObject x l m a (λ old new reading. Gettimes x.objects x.timers.about old new timer reading over.Fd g × (a ≡ gettime_told over.Fd reading.stamp g))
+    → KeepsCall s l (calls.Gettime timer) a m
+keeps_gettime-fd {s = s} {l = l} {m = m} {timer = timer} next kind (gettimes.Spent n) c =
+    subst (λ b. KeepsCall s l (calls.Gettime timer) b m) (sym c.does.1)
+    (keeps_full next (answers.Spent n) timer n c.does.0 (clock_read c.reads.looks) c.notes refl
+    refl (λ e. let last = length m.pass.timers.known.seen in
+    subst (λ k. DoesGettime (WasOffLine (witness_of s e) last last) s.limit k timer (length (writes m.pass.clock.knows)) (answers.Spent n) [])
+    (sym kind) refl) (λ e saw. saw))
+keeps_gettime-fd {s = s} {l = l} {m = m} {timer = timer} {base = base} next kind (gettimes.Left left interval stamp) c =
+    let answered = fd_replies.Gettime (lefts.Left left interval) in
+    subst (λ b. KeepsCall s l (calls.Gettime timer) b m) (sym c.does.1)
+    (keeps_rearming next refl c c.does.0.0 (λ arm. object_entries.Gettime c.reading.stamp arm left interval) refl refl
+    (λ clock. ap (λ k. Some (record { call = fd_calls.Gettime (reading_at clock c.reading.stamp) k; reply = answered })) (arm_back c.does.0.0.arm).1)
+    (answers.Left left interval) refl (λ e begin last arm start number notes kept low rearmed. gettime_made base left interval kept low rearmed kind))

@@ -1,0 +1,162 @@
+-- What the claim of an object's timer does: a trigger of the object, which made an entry of it or was refused.
+use Rattle.std.proofs.Common.{◌≡◌, ◌≤◌, ◌-◌, ℕ, ◌+◌, Bool, true, false, if◌then◌else◌, None, Some, [], ◌∷◌, length, arith, refl, sym, ap, ◌∙◌, inl, inr}
+use Rattle.std.proofs.Math.Logic.{⊎_elim}
+use Rattle.std.proofs.lemmas.List.{append-nil}
+use Rattle.ktime.specs.Readings.{ClockReading}
+use Rattle.timer_setting.specs.Phases.{is_expiry_of}
+use Rattle.timer_setting.specs.declared.trigger_answer.TriggerAnswer.TheVariants as triggers
+use Rattle.posix_timer.specs.declared.calls.Call.TheVariants as posix_calls
+use Rattle.posix_timer.specs.declared.calls.Reply.TheVariants as posix_replies
+use Rattle.timer_fd.specs.declared.calls.Call.TheVariants as fd_calls
+use Rattle.timer_fd.specs.declared.calls.Reply.TheVariants as fd_replies
+use Rattle.hr_timers.specs.Known.{KnownOfTimers}
+use Rattle.hr_timers.specs.declared.numbers.ClaimNumbers.{ClaimNumbers}
+use Rattle.expire_pass.specs.Handlers.{asks}
+use Rattle.expire_pass.specs.declared.handler.Restart.TheVariants as wishes
+use Rattle.expire_pass.specs.declared.handler.Restart.{Restart}
+use Rattle.timer_objects.specs.Cells.{spanned}
+use Rattle.timer_objects.specs.Known.{ObjectsOf, ObjectsPass, seen_of}
+use Rattle.timer_objects.specs.Steps.{object_answer, ObjectAllows}
+use Rattle.timer_objects.specs.Triggers.{EntersTrigger, trigger_refused, SkipsTrigger, span_of, Triggers}
+use Rattle.timer_objects.specs.declared.log.ObjectReceipt.{ObjectReceipt}
+use Rattle.timer_objects.specs.declared.object.Object.TheVariants as objects
+use Rattle.timer_objects.specs.declared.object.Object.{Object}
+use Rattle.timer_objects.specs.declared.object.ObjectCall.TheVariants as of_kind
+use Rattle.timer_objects.specs.declared.object.ObjectCall.{ObjectCall}
+use Rattle.timer_objects.specs.declared.object.ObjectReply.TheVariants as replies
+use Rattle.timer_objects.specs.declared.object.ObjectReply.{ObjectReply}
+use Rattle.record_text.specs.declared.record.Label.{Label}
+use Rattle.record_text.specs.declared.record.ObjectEntry.TheVariants as object_entries
+use Rattle.run_history.specs.Actions.{Made, Skipped}
+use Rattle.run_history.specs.Histories.{reading_at}
+use Rattle.script_text.specs.Declarations.{kind_of}
+use Rattle.script_text.specs.declared.script.Script.{Script}
+use Rattle.lane_notes.specs.Objects.{object_entry_noted, object_notes, skip_generation, skip_notes}
+use Rattle.run_history.specs.Calls.{IsBody, IsTrigger}
+use Rattle.run_history.specs.Witnesses.{Fired}
+use Rattle.run_history.proofs.Lists.{at_seam}
+use Rattle.lane_world.specs.Runs.{ObjectMove}
+use Rattle.lane_world.proofs.Kept.{made_on, skips_on, begins_same}
+use Rattle.lane_world.proofs.ObjectSeen.{span_made}
+use Rattle.timer_objects.specs.Firings.{Firing}
+use Rattle.call_laws.proofs.Entering.{enters_none, EntersNotes}
+use Rattle.lane_world.proofs.PartLists.{one_falls, rises_none}
+use Rattle.call_laws.proofs.Parts.{BodyKept, fired_of, HasRead, IsClaimed, IsNotedAs, IsObjectsPart, noted_at, objects_grow, part_claimed, part_made, part_of_objects}
+
+-- ---- the note of a trigger
+
+-- a trigger that made an entry: the record's entry of it
+abbrev pub TriggerNoted : ObjectCall → ObjectReply → ℕ → ClockReading → Type 0
+TriggerNoted call reply generation reading =
+    (counted : Bool) × IsNotedAs (λ clock. reading_at clock reading.stamp ≡ reading) call reply (object_entries.Trigger generation reading.stamp counted)
+
+-- law: a trigger of a POSIX timer that made an entry is noted
+pub posix_noted : (x : Object) (generation : ℕ) (reading : ClockReading) → ObjectAllows x (of_kind.Posix (posix_calls.Trigger generation reading))
+    → TriggerNoted (of_kind.Posix (posix_calls.Trigger generation reading)) (object_answer x (of_kind.Posix (posix_calls.Trigger generation reading)))
+    generation reading
+posix_noted (objects.Posix t) generation reading allows =
+    let call : ClockReading → ObjectCall = λ r. of_kind.Posix (posix_calls.Trigger generation r) in
+    elim (is_expiry_of t.phase generation reading) as (λ b. TriggerNoted (call reading)
+    (replies.Posix (posix_replies.Trigger (if b then triggers.Counted else triggers.Stale))) generation reading) [
+      | true ↦ (true, noted_at reading call _ _ refl refl (λ clock. refl))
+      | false ↦ (false, noted_at reading call _ _ refl refl (λ clock. refl))
+    ]
+posix_noted x generation reading allows = absurd allows
+
+-- law: a trigger of a descriptor that made an entry is noted
+pub fd_noted : (x : Object) (generation : ℕ) (reading : ClockReading) → ObjectAllows x (of_kind.Fd (fd_calls.Trigger generation reading))
+    → TriggerNoted (of_kind.Fd (fd_calls.Trigger generation reading)) (object_answer x (of_kind.Fd (fd_calls.Trigger generation reading))) generation reading
+fd_noted (objects.Fd t) generation reading allows =
+    let call : ClockReading → ObjectCall = λ r. of_kind.Fd (fd_calls.Trigger generation r) in
+    elim (is_expiry_of t.phase generation reading) as (λ b. TriggerNoted (call reading)
+    (replies.Fd (fd_replies.Trigger (if b then triggers.Counted else triggers.Stale))) generation reading) [
+      | true ↦ (true, noted_at reading call _ _ refl refl (λ clock. refl))
+      | false ↦ (false, noted_at reading call _ _ refl refl (λ clock. refl))
+    ]
+fd_noted x generation reading allows = absurd allows
+
+-- ---- the trigger
+
+module _ (s : Script) (x : ObjectsOf) (limit : x.limit ≡ s.limit) (some : 1 ≤ s.limit) (label : Label) (c : ClaimNumbers)
+    (reading : ClockReading) {base : ℕ} {k v : KnownOfTimers} (claim : IsClaimed base c reading k v) (restart : Restart) (h h' : Firing)
+    (same_log : h'.log.receipts ≡ h.log.receipts) (stops : restart ≡ wishes.Stop)
+    (is_body : (Reached : ℕ → ℕ → Type 0) (f : Fired) → IsTrigger reading.stamp f → IsBody Reached s.limit (kind_of s c.timer) reading.stamp f) (call : ObjectCall)
+    (noted : (y : Object) → ObjectAllows y call → TriggerNoted call (object_answer y call) c.generation reading)
+    (no_entry : (n : ℕ) → object_entry_noted call (trigger_refused call n) ≡ None)
+    (skip : (n : ℕ) → skip_generation call (trigger_refused call n) ≡ Some c.generation) where
+  abbrev p : ObjectsPass
+  p = h.objects_pass.now
+
+  abbrev q : ObjectsPass
+  q = h'.objects_pass.now
+
+  -- the claim's function has left timers alone
+  still : EntersNotes (HasRead reading) v v []
+  still = enters_none (begins_same refl) refl
+
+  -- a trigger that made an entry
+  entered_trigger : EntersTrigger x p q h.object_log.receipts h'.object_log.receipts c.timer (spanned call (span_of c))
+      → BodyKept s label claim restart v h h'
+  entered_trigger t =
+      let adds = t.commits.adds in
+      let state = t.commits.state in
+      let n = noted state.object t.may.allowed in
+      let many = length adds.before in
+      let step : ObjectMove = record { call = spanned call (span_of c); reply = object_answer state.object call } in
+      let body = Made c.timer (many + 1) (object_entries.Trigger c.generation reading.stamp n.0) ∷ [] in
+      record {
+        body = body;
+        notes = [];
+        more = [];
+        object_more = record { object = c.timer; number = many + 1; call = step.call; reply = step.reply } ∷ [];
+        adds = same_log ∙ sym (append-nil h.log.receipts);
+        adds_objects = t.receipt;
+        enters = still;
+        part = part_claimed claim (part_made {step = step} adds t.commits.opening n.1);
+        kind = λ e joined goes finish rearmed. is_body _ (fired_of c body finish (asks restart) rearmed) (inl (many + 1, n.0, refl), ap asks stops);
+        holds = λ e joined goes before points. tt;
+        span = λ e follows finish rearmed. (
+          c.number - 1,
+          omega (arith, claim.some),
+          span_made q e c.timer many step (follows c.timer) (rw adds.last (at_seam adds.before [] step)),
+        );
+      }
+
+  -- a trigger that a full history refused
+  refused_trigger : SkipsTrigger x p q h.object_log.receipts h'.object_log.receipts c.timer (spanned call (span_of c))
+      → BodyKept s label claim restart v h h'
+  refused_trigger t =
+      let many = length (seen_of q c.timer) in
+      let r : ObjectReceipt = record { object = c.timer; number = many; call = spanned call (span_of c); reply = trigger_refused call many } in
+      let no_notes : object_notes label (r ∷ []) ≡ [] = rw (no_entry many) refl in
+      let are : skip_notes label (r ∷ []) ≡ record { label = label; object = c.timer; number = many; generation = c.generation } ∷ [] = rw (skip many) refl in
+      let body = Skipped c.timer many c.generation ∷ [] in
+      let grows = objects_grow p q t.reads.pass.seen in
+      let part : IsObjectsPart (HasRead reading) label p q body (r ∷ []) = record {
+        makes = λ i. ap (made_on i) no_notes;
+        rise = λ i. let le = grows i in rises_none (omega (arith, le));
+        seen = rw no_notes tt;
+        skips = λ i. ap (skips_on i) are;
+        skips_seen = rw are ((omega (arith, t.full, limit, some), omega arith), tt);
+        steps = one_falls c.timer many (λ i. length (seen_of p i)) (λ i. length (seen_of q i)) (grows c.timer) (omega arith) grows;
+        goes_on = t.reads.pass.seen;
+        opening = t.reads.opening;
+        mine = rw (no_notes, append-nil p.knows.pass.mine) t.reads.pass.mine;
+      } in
+      record {
+        body = body;
+        notes = [];
+        more = [];
+        object_more = r ∷ [];
+        adds = same_log ∙ sym (append-nil h.log.receipts);
+        adds_objects = t.receipt;
+        enters = still;
+        part = part_claimed claim (part_of_objects refl refl (λ t. refl) part);
+        kind = λ e joined goes finish rearmed. is_body _ (fired_of c body finish (asks restart) rearmed) (inr (many, refl), ap asks stops);
+        holds = λ e joined goes before points. (points c.timer (λ j. refl), omega (arith, t.full, limit));
+        span = λ e follows finish rearmed. tt;
+      }
+
+  -- law: what the claim of an object's timer does
+  pub trigger_kept : Triggers x p q h.object_log.receipts h'.object_log.receipts c call → BodyKept s label claim restart v h h'
+  trigger_kept triggers = ⊎_elim entered_trigger refused_trigger triggers

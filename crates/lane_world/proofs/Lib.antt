@@ -1,0 +1,5 @@
+pub mod PartLists
+pub mod Declared
+pub mod ObjectSeen
+pub mod Kept
+pub mod Left

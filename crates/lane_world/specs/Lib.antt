@@ -1,0 +1,5 @@
+pub mod Worlds
+pub mod Expiries
+pub mod Called
+pub mod Rounds
+pub mod Runs

@@ -1,0 +1,69 @@
+-- A whole run: the rounds of a script from its first passes on, and the record of what all lanes have left, which shows all that the last passes have seen.
+use Rattle.std.specs.Prelude.{ℕ, ◌≡◌, length, map, ◌+◌, Some, List, [], ◌∷◌}
+use Rattle.clock_cell.specs.Views.{writes}
+use Rattle.record_text.specs.declared.record.RunRecord.{RunRecord}
+use Rattle.script_text.specs.declared.script.Script.{Script}
+use Rattle.lane_notes.specs.Notes.{NotesOf}
+use Rattle.lane_notes.specs.Records.{record_from}
+use Rattle.lane_notes.specs.Sorted.{IsSortedFrom}
+use Rattle.run_history.specs.Histories.{history_of, lines_of_base}
+use Rattle.run_history.specs.Objects.{lines_of_object}
+use Rattle.seq_timer.specs.Systems.{entries_of, shifts_of}
+use Rattle.timer_objects.specs.Known.{seen_of}
+use Rattle.lane_world.specs.Rounds.{LeftOf, MakesRounds, none_left}
+use Rattle.lane_world.specs.Worlds.{WorldOf}
+use Rattle.lane_world.specs.declared.WorldPass.{WorldPass}
+use Rattle.counted_row.specs.declared.view.Entry.{Entry}
+use Rattle.lane_notes.specs.FdNotes.{fd_as_told}
+use Rattle.lane_notes.specs.PosixNotes.{posix_as_told}
+use Rattle.record_text.specs.declared.record.ClockLine.{ClockLine}
+use Rattle.record_text.specs.declared.record.ObjectEntry.{ObjectEntry}
+use Rattle.record_text.specs.declared.record.ObjectLine.{ObjectLine}
+use Rattle.run_history.specs.FdHistories.{fd_entry}
+use Rattle.run_history.specs.PosixHistories.{posix_entry}
+use Rattle.timer_objects.specs.declared.cell.SpannedCall.{SpannedCall}
+use Rattle.timer_objects.specs.declared.object.ObjectCall.TheVariants as of_kind
+use Rattle.timer_objects.specs.declared.object.ObjectCall.{ObjectCall}
+use Rattle.timer_objects.specs.declared.object.ObjectReply.TheVariants as replies
+use Rattle.timer_objects.specs.declared.object.ObjectReply.{ObjectReply}
+
+-- the record shows the notes and answers that were left, the notes in order
+pub record ShowsLeft (s : Script) (left : LeftOf) (r : RunRecord) : Type 0 where
+  pub sorted : NotesOf
+  pub in_order : IsSortedFrom left.notes sorted
+  pub shows : r ≡ record_from s.version sorted s.bases (length s.timers) left.answers
+
+-- the rounds were made in turn, and the record shows the notes and answers that they left, the notes in order
+pub record MakesRun (x : WorldOf) (s : Script) (p : WorldPass) (r : RunRecord) (q : WorldPass) : Type 0 where
+  pub left : LeftOf
+  pub rounds : MakesRounds x s.rounds p (none_left s.lanes) q left
+  pub shows : ShowsLeft s left r
+
+-- ---- what it shows
+
+-- an entry of an object, with its span
+abbrev pub ObjectMove : Type 0
+ObjectMove = Entry SpannedCall ObjectReply
+
+-- an entry of an object as the record's line has it, by the readings that the line's stamps name; of a start that was refused the line may have no stamp
+abbrev pub ShowsObjectCall : List ClockLine → ObjectCall → ObjectReply → ObjectEntry → Type 0
+ShowsObjectCall clock (of_kind.Posix call) (replies.Posix reply) e = posix_entry clock e ≡ Some (record { call = posix_as_told call; reply = reply })
+ShowsObjectCall clock (of_kind.Fd call) (replies.Fd reply) e = fd_entry clock e ≡ Some (record { call = fd_as_told call; reply = reply })
+ShowsObjectCall clock call reply e = ⊥
+
+-- an object's lines, from a number of entry on, show these entries, and the run has their spans
+abbrev pub AreObjectLines : List ClockLine → (ℕ → ℕ × ℕ) → ℕ → List ObjectMove → List ObjectLine → Type 0
+AreObjectLines clock spans number [] [] = Unit
+AreObjectLines clock spans number (h ∷ hs) (line ∷ lines) =
+    ShowsObjectCall clock h.call.call h.reply line.entry × (spans number ≡ (h.call.from, h.call.to)) × AreObjectLines clock spans (number + 1) hs lines
+AreObjectLines clock spans number [] (line ∷ lines) = ⊥
+AreObjectLines clock spans number (h ∷ hs) [] = ⊥
+
+-- The record's histories are the whole of what these passes have seen: the clock's writes, each timer's and each base's entries, and each object's with
+-- their spans.
+pub record ShowsAllSeen (r : RunRecord) (q : WorldPass) : Type 0 where
+  pub clock : map (λ line. line.write) r.clock ≡ writes q.clock.knows
+  pub timers : (t : ℕ) → history_of r t ≡ entries_of t q.timers.known.seen
+  pub bases : (b : ℕ) → map (λ line. line.event) (lines_of_base r b) ≡ shifts_of b q.timers.known.seen
+  pub spans : ℕ → ℕ → ℕ × ℕ
+  pub objects : (i : ℕ) → AreObjectLines r.clock (spans i) 1 (seen_of q.objects i) (lines_of_object r i)

@@ -1,0 +1,146 @@
+-- A script's world, and what passes of it know.
+use Rattle.std.specs.Prelude.{ℕ, ◌≡◌, ◌≤◌, ◌<◌, ◌≢◌, List, [], length, map}
+use Rattle.ktime.specs.declared.clock_id.ClockId.{ClockId}
+use Rattle.atomic_table.specs.Seated.{TableId}
+use Rattle.pass_names.specs.Names.{AnswersFor, IsLast}
+use Rattle.pass_names.specs.SharedHistory.{child_known, first_known, splitter_known}
+use Rattle.counted_row.specs.Views.{first_view, new_view, split_view}
+use Rattle.clock_cell.specs.Views.{IsPassOfClock, KnowsClock, first_clock_view, new_clock_view, split_clock_view}
+use Rattle.base_row.specs.Calls as rows
+use Rattle.hr_timers.specs.Known.{IsEvacuable, IsPassOf}
+use Rattle.timer_objects.specs.declared.callback.Callback.{Callback}
+use Rattle.timer_objects.specs.declared.callback.Callback.TheVariants as runs
+use Rattle.timer_objects.specs.declared.object.Decl.{Decl}
+use Rattle.timer_objects.specs.declared.object.Kind as object_kind
+use Rattle.timer_objects.specs.declared.object.Kind.TheVariants as over
+use Rattle.timer_objects.specs.Callbacks.{bases_of}
+use Rattle.timer_objects.specs.Cells.{opened_cells}
+use Rattle.timer_objects.specs.Known.{IsObjectsPass, ObjectsOf, Suits, decl_at}
+use Rattle.script_text.specs.Declarations.{declareds_of, terms_of}
+use Rattle.script_text.specs.Scripts.{most_budget}
+use Rattle.script_text.specs.declared.script.Call.{Call}
+use Rattle.script_text.specs.declared.script.Call.TheVariants as calls
+use Rattle.script_text.specs.declared.script.Callback.TheVariants as callbacks
+use Rattle.script_text.specs.declared.script.Declaration.{Declaration}
+use Rattle.script_text.specs.declared.script.Kind.{Kind}
+use Rattle.script_text.specs.declared.script.Kind.TheVariants as kinds
+use Rattle.script_text.specs.declared.script.Script.{Script}
+use Rattle.lane_world.specs.declared.WorldPass.{WorldPass}
+
+-- the timers, objects and clock that lanes share, and the callbacks of the timers
+pub record WorldOf : Type 0 where
+  pub timers : rows.BaseRowOf
+  pub objects : ObjectsOf
+  pub clock : TableId
+  pub callbacks : List Callback
+
+-- ---- of a script
+
+-- the callback of a timer by itself; that of an object's timer isn't run
+abbrev pub callback_of : Kind → Callback
+callback_of (kinds.Raw context callbacks.Once) = runs.Once
+callback_of (kinds.Raw context (callbacks.Every interval)) = runs.Every interval
+callback_of (kinds.Raw context callbacks.Cancels) = runs.Cancels
+callback_of (kinds.Raw context (callbacks.Starts ns base)) = runs.Starts ns base
+callback_of (kinds.Posix base) = runs.Once
+callback_of (kinds.Fd base) = runs.Once
+
+-- what stands over a timer of this kind and clock
+abbrev pub decl_as : Kind → ClockId → Decl
+decl_as (kinds.Raw context callback) clock = record { kind = over.Raw; clock = clock; base = 0 }
+decl_as (kinds.Posix base) clock = record { kind = over.Posix; clock = clock; base = base }
+decl_as (kinds.Fd base) clock = record { kind = over.Fd; clock = clock; base = base }
+
+abbrev pub decl_of : Declaration → Decl
+decl_of d = decl_as d.kind d.clock
+
+-- the world is this script's: its timers on their clocks and bases, with its limit, and what stands over each
+pub record IsWorldOf (s : Script) (x : WorldOf) : Type 0 where
+  pub timers : x.timers.about ≡ rows.opening_of s.bases (declareds_of s) (terms_of s)
+  pub decls : x.objects.decls ≡ map decl_of s.timers
+  pub limit : x.objects.limit ≡ s.limit
+  pub callbacks : x.callbacks ≡ map (λ d. callback_of d.kind) s.timers
+
+-- the parts of a world fit together: an object for each timer, on its clock and one of the bases, and a callback for each
+pub record IsWhole (x : WorldOf) : Type 0 where
+  pub suits : Suits x.objects x.timers.about
+  pub callbacks : length x.callbacks ≡ length x.objects.decls
+  pub bases : bases_of x.callbacks ≤ x.timers.about.bases
+  pub few : x.timers.about.bases ≤ 64
+
+-- ---- passes
+
+-- they are passes of this world, what they know is true, and that of the clock has looked since it was told anything
+pub record ArePassesOf (x : WorldOf) (p : WorldPass) : Type 0 where
+  pub timers : IsPassOf x.timers p.timers
+  pub objects : IsObjectsPass x.objects p.objects
+  pub clock : IsPassOfClock x.clock p.clock
+  pub known : KnowsClock p.clock.knows
+  pub heard : p.clock.knows.heard ≡ []
+
+-- the passes that a world is made with
+pub record AreFirst (x : WorldOf) (p : WorldPass) : Type 0 where
+  pub timers : p.timers.known ≡ first_known
+  pub objects : p.objects.knows ≡ first_view (opened_cells x.objects.decls x.objects.limit)
+  pub clock : p.clock.knows ≡ first_clock_view
+
+-- each is the last of its kind, and has no claims
+pub record AreLast (p : WorldPass) : Type 0 where
+  pub timers : IsLast p.timers.known.id
+  pub objects : IsLast p.objects.knows.pass.id
+  pub clock : IsLast p.clock.knows.pass.id
+  pub unclaimed : p.timers.known.claims ≡ []
+
+-- each of the passes answers for that of its kind among the others
+pub record AnswerFor (p q : WorldPass) : Type 0 where
+  pub timers : AnswersFor p.timers.known.id q.timers.known.id
+  pub objects : AnswersFor p.objects.knows.pass.id q.objects.knows.pass.id
+  pub clock : AnswersFor p.clock.knows.pass.id q.clock.knows.pass.id
+
+-- the passes' names, and the claims on timers, are as they were
+pub record KeepPasses (p q : WorldPass) : Type 0 where
+  pub timers : q.timers.known.id ≡ p.timers.known.id
+  pub claims : q.timers.known.claims ≡ p.timers.known.claims
+  pub objects : q.objects.knows.pass.id ≡ p.objects.knows.pass.id
+  pub clock : q.clock.knows.pass.id ≡ p.clock.knows.pass.id
+
+-- a pass of each kind was split off
+pub record SplitsPass (p q new : WorldPass) : Type 0 where
+  pub timers : q.timers.known ≡ splitter_known p.timers.known
+  pub timers_new : new.timers.known ≡ child_known p.timers.known
+  pub objects : q.objects.knows ≡ split_view p.objects.knows
+  pub objects_new : new.objects.knows ≡ new_view p.objects.knows
+  pub clock : q.clock.knows ≡ split_clock_view p.clock.knows
+  pub clock_new : new.clock.knows ≡ new_clock_view p.clock.knows
+
+-- ---- calls
+
+-- there is an object of this number, and it is no timer by itself
+abbrev pub IsObject : WorldOf → ℕ → Type 0
+IsObject x id = (id < length x.objects.decls) × ((decl_at x.objects id).kind ≢ over.Raw)
+
+-- there is an object of this number and kind
+abbrev pub IsOfKind : WorldOf → object_kind.Kind → ℕ → Type 0
+IsOfKind x kind id = (id < length x.objects.decls) × ((decl_at x.objects id).kind ≡ kind)
+
+-- the first lane's pass of timers is the first one, which takes bases off line and on line again
+abbrev pub LeadsByName : ℕ → WorldPass → Type 0
+LeadsByName lane p = lane ≡ 0 → p.timers.known.id.name ≡ []
+
+-- the lane's call is of a timer, an object and a base that are there, and of the object's kind; only the first lane takes a base off line and on line
+-- again, where bases may go off line at all
+abbrev pub CanCall : WorldOf → ℕ → Call → Type 0
+CanCall x lane (calls.Start timer request) = (timer < length x.timers.about.timers) × (request.base < x.timers.about.bases)
+CanCall x lane (calls.Cancel timer) = timer < length x.timers.about.timers
+CanCall x lane (calls.Peek timer) = timer < length x.timers.about.timers
+CanCall x lane (calls.Expire context base budget) = (base < x.timers.about.bases) × (budget ≤ most_budget)
+CanCall x lane (calls.Clock write) = Unit
+CanCall x lane (calls.Settime timer flags value interval) = IsObject x timer
+CanCall x lane (calls.Gettime timer) = IsObject x timer
+CanCall x lane (calls.Accept timer) = IsOfKind x over.Posix timer
+CanCall x lane (calls.Overrun timer) = IsOfKind x over.Posix timer
+CanCall x lane (calls.Read timer len) = IsOfKind x over.Fd timer
+CanCall x lane (calls.Readable timer) = IsOfKind x over.Fd timer
+CanCall x lane (calls.Offline base heir budget) =
+    (lane ≡ 0) × (base < x.timers.about.bases) × (heir < base) × (budget ≤ most_budget) × IsEvacuable x.timers.about
+CanCall x lane (calls.Online base) = (lane ≡ 0) × (base < x.timers.about.bases) × IsEvacuable x.timers.about

@@ -1,0 +1,266 @@
+-- The sorted notes of entries, each with the place that its call's receipt has: they are what a record's lines of timers and bases are made of.
+use Rattle.run_history.specs.Receipts as receipts
+use mathlib.Core.Bool.{cond}
+use Rattle.std.proofs.Common.{◌≡◌, ℕ, ◌+◌, ◌<◌, ◌≤◌, true, false, nat_eq, Some, List, [], ◌∷◌, filter, length, map, take, arith, refl, sym, ap, ◌∙◌, subst}
+use Rattle.std.specs.List.{AllByRecursion, slice_get}
+use Rattle.std.proofs.lemmas.List.{length-map}
+use Rattle.seq_timer.specs.declared.system.SystemEntry.{SystemEntry}
+use Rattle.std.specs.List.Sorted.{IsPermutation}
+use Rattle.std.proofs.Common.{◌⊎◌, ◌++◌, Bool, inl, inr, ⊎_elim}
+use Rattle.std.proofs.lemmas.Bool.{eqb-true}
+use Rattle.std.proofs.lemmas.List.{append-nil}
+use Rattle.std.proofs.lemmas.List.Elements.{filter-append}
+use Rattle.std.proofs.lemmas.List.Sorted.{IsPermutation-append, IsPermutation-map}
+use Rattle.record_text.proofs.Lists.{All-append}
+use Rattle.lane_notes.specs.Notes.{NotesOf}
+use Rattle.lane_notes.specs.Records.{base_line, record_from, timer_line}
+use Rattle.lane_notes.specs.Sorted.{is_of_list, IsSortedFrom, place_of_base, place_of_entry, place_of_look}
+use Rattle.lane_notes.specs.declared.notes.BaseNote.{BaseNote}
+use Rattle.lane_notes.specs.declared.notes.EntryNote.{EntryNote}
+use Rattle.lane_notes.proofs.Lists.{noted_lines-shown}
+use Rattle.lane_notes.proofs.Rising.{RiseBehind, RiseBehind-sorted}
+use Rattle.lane_notes.proofs.Standing.{HasPlace, stands_permuted, stood_before}
+use Rattle.record_text.specs.declared.record.Answer.{Answer}
+use Rattle.record_text.specs.declared.record.Label.{Label}
+use Rattle.run_history.specs.Actions.{also}
+use Rattle.run_history.specs.Order.{IsLabel}
+use Rattle.script_text.specs.declared.script.Script.{Script}
+use Rattle.run_history.specs.Receipts.{AreFiled, Filed, files_on, IsAhead, IsMade, line_filed, PlacedEntry, RiseBy}
+use Rattle.run_history.specs.Witnesses.{BasesList, OfBase, OfTimer, Owner, ShownLine, TimersList, is_owner, line_of_base, line_of_timer, lines_at, owner_of}
+use Rattle.run_history.specs.Runs.{CallLog}
+use Rattle.run_history.proofs.Known.{behind_all, rises_lower}
+use Rattle.run_history.proofs.Laid.{same_place}
+use Rattle.run_history.proofs.Lists.{all_at, each, at_map, map_get}
+use Rattle.lane_world.proofs.Kept.{BaseNotes, EntryNotes, ToldNote, of_base, of_entry, told_notes}
+use Rattle.lane_world.proofs.PartLists.{each_weaker}
+use Rattle.lane_world.proofs.Left.{AreLastOf, AreLeft}
+use Rattle.lane_world.specs.Worlds.{WorldOf}
+use Rattle.lane_world.specs.declared.WorldPass.{WorldPass}
+use Rattle.record_laws.proofs.LastSeen.{base_lines_are, entries_once, has_receipt, HasReceipt, is_told, note_made, noted_at, shifts_once, timer_lines_are}
+use Rattle.record_laws.proofs.Numbered.{as_many, at_most_one, number_within}
+
+-- ---- notes with their receipts
+
+-- whether a note of an entry is of this list
+abbrev pub is_on : Owner → ToldNote → Bool
+is_on o n = is_owner (owner_of n.shown) o
+
+-- the line that it gives
+abbrev pub line_told : ToldNote → ShownLine
+line_told n = record { label = n.label; shown = n.shown }
+
+module _ (logs : Label → CallLog) where
+  abbrev pub WithReceipt : Type 0
+  WithReceipt = (n : ToldNote) × HasReceipt logs n
+
+  abbrev pub with_receipts : (ns : List ToldNote) → AllByRecursion (HasReceipt logs) ns → List WithReceipt
+  with_receipts [] has = []
+  with_receipts (n ∷ ns) has = (n, has.0) ∷ with_receipts ns has.1
+
+  are_notes : (ns : List ToldNote) (has : AllByRecursion (HasReceipt logs) ns) → map (λ p. p.0) (with_receipts ns has) ≡ ns
+  are_notes [] has = refl
+  are_notes (n ∷ ns) has = ap (λ ms. n ∷ ms) (are_notes ns has.1)
+
+  abbrev pub file : WithReceipt → Filed
+  file p = record { label = p.0.label; note = noted_at p.1.place p.0 }
+
+  files_lines : (o : Owner) (ps : List WithReceipt)
+      → map line_filed (files_on o (map file ps)) ≡ map line_told (filter (is_on o) (map (λ p. p.0) ps))
+  files_lines o [] = refl
+  files_lines o (p ∷ ps) =
+      let notes = filter (is_on o) (map (λ (r : WithReceipt). r.0) ps) in
+      elim (is_on o p.0) as (λ b. map line_filed (also b (file p) (files_on o (map file ps))) ≡ map line_told (cond b (p.0 ∷ notes) notes)) [
+        | true ↦ ap (λ zs. line_told p.0 ∷ zs) (files_lines o ps)
+        | false ↦ files_lines o ps
+      ]
+
+-- notes in the order of lists and numbers, behind a list's number
+abbrev RiseTold : Owner → ℕ → List ToldNote → Type 0
+RiseTold o k [] = Unit
+RiseTold o k (n ∷ ns) =
+    (IsAhead o (owner_of n.shown) ⊎ ((o ≡ owner_of n.shown) × (k < n.number))) × RiseTold (owner_of n.shown) n.number ns
+
+files_rise : (logs : Label → CallLog) (o : Owner) (k : ℕ) (ps : List (WithReceipt logs)) → RiseTold o k (map (λ p. p.0) ps)
+    → RiseBy o k (map (file logs) ps)
+files_rise logs o k [] rise = tt
+files_rise logs o k (p ∷ ps) rise = (rise.0, files_rise logs (owner_of p.0.shown) p.0.number ps rise.1)
+
+bases_rise : (b k : ℕ) (bs : List BaseNote) → RiseBehind place_of_base b k bs → RiseTold (BasesList b) k (map of_base bs)
+bases_rise b k [] rise = tt
+bases_rise b k (x ∷ bs) rise =
+    (⊎_elim (λ less. inl less) (λ same. inr (ap (λ n. BasesList n) same.0, same.1)) rise.0, bases_rise x.base x.number bs rise.1)
+
+told_rise : (t k : ℕ) (es : List EntryNote) (bs : List BaseNote) → RiseBehind place_of_entry t k es → RiseBehind place_of_base 0 0 bs
+    → RiseTold (TimersList t) k (map of_entry es ++ map of_base bs)
+told_rise t k [] [] rise behind = tt
+told_rise t k [] (x ∷ bs) rise behind = (inl tt, bases_rise x.base x.number bs behind.1)
+told_rise t k (e ∷ es) bs rise behind =
+    (⊎_elim (λ less. inl less) (λ same. inr (ap (λ n. TimersList n) same.0, same.1)) rise.0, told_rise e.timer e.number es bs rise.1 behind)
+
+-- ---- notes of one list
+
+-- of a timer's list the notes are those of the timer's entries, and of a base's those of the base's
+timers_on : (t : ℕ) (es : List EntryNote)
+    → map line_told (filter (is_on (TimersList t)) (map of_entry es))
+    ≡ map (λ n. record { label = n.label; shown = OfTimer t n.entry }) (filter (is_of_list place_of_entry t) es)
+timers_on t [] = refl
+timers_on t (e ∷ es) =
+    let notes = filter (is_on (TimersList t)) (map of_entry es) in
+    let own = filter (is_of_list place_of_entry t) es in
+    elim (nat_eq e.timer t) as (λ b. nat_eq e.timer t ≡ b → map line_told (cond b (of_entry e ∷ notes) notes)
+    ≡ map (λ (n : EntryNote). record { label = n.label; shown = OfTimer t n.entry }) (cond b (e ∷ own) own)) [
+      | true ↦ λ is. ap (λ u. record { label = e.label; shown = OfTimer u e.entry } ∷ map line_told notes) (eqb-true e.timer t is)
+          ∙ ap (λ zs. record { label = e.label; shown = OfTimer t e.entry } ∷ zs) (timers_on t es)
+      | false ↦ λ is. timers_on t es
+    ] refl
+
+no_timers_on : (b : ℕ) (es : List EntryNote) → filter (is_on (BasesList b)) (map of_entry es) ≡ []
+no_timers_on b [] = refl
+no_timers_on b (e ∷ es) = no_timers_on b es
+
+bases_on : (b : ℕ) (bs : List BaseNote)
+    → map line_told (filter (is_on (BasesList b)) (map of_base bs))
+    ≡ map (λ n. record { label = n.label; shown = OfBase b n.event }) (filter (is_of_list place_of_base b) bs)
+bases_on b [] = refl
+bases_on b (e ∷ bs) =
+    let notes = filter (is_on (BasesList b)) (map of_base bs) in
+    let own = filter (is_of_list place_of_base b) bs in
+    elim (nat_eq e.base b) as (λ x. nat_eq e.base b ≡ x → map line_told (cond x (of_base e ∷ notes) notes)
+    ≡ map (λ (n : BaseNote). record { label = n.label; shown = OfBase b n.event }) (cond x (e ∷ own) own)) [
+      | true ↦ λ is. ap (λ u. record { label = e.label; shown = OfBase u e.event } ∷ map line_told notes) (eqb-true e.base b is)
+          ∙ ap (λ zs. record { label = e.label; shown = OfBase b e.event } ∷ zs) (bases_on b bs)
+      | false ↦ λ is. bases_on b bs
+    ] refl
+
+no_bases_on : (t : ℕ) (bs : List BaseNote) → filter (is_on (TimersList t)) (map of_base bs) ≡ []
+no_bases_on t [] = refl
+no_bases_on t (b ∷ bs) = no_bases_on t bs
+
+of_timer_told : (t : ℕ) (ns : NotesOf) → map line_told (filter (is_on (TimersList t)) (told_notes ns))
+    ≡ map (λ n. record { label = n.label; shown = OfTimer t n.entry }) (filter (is_of_list place_of_entry t) ns.entries)
+of_timer_told t ns =
+    ap (map line_told) (filter-append (is_on (TimersList t)) (map of_entry ns.entries) (map of_base ns.bases)
+    ∙ ap (λ zs. filter (is_on (TimersList t)) (map of_entry ns.entries) ++ zs) (no_bases_on t ns.bases)
+    ∙ append-nil (filter (is_on (TimersList t)) (map of_entry ns.entries))) ∙ timers_on t ns.entries
+
+of_base_told : (b : ℕ) (ns : NotesOf) → map line_told (filter (is_on (BasesList b)) (told_notes ns))
+    ≡ map (λ n. record { label = n.label; shown = OfBase b n.event }) (filter (is_of_list place_of_base b) ns.bases)
+of_base_told b ns =
+    ap (map line_told) (filter-append (is_on (BasesList b)) (map of_entry ns.entries) (map of_base ns.bases)
+    ∙ ap (λ zs. zs ++ filter (is_on (BasesList b)) (map of_base ns.bases)) (no_timers_on b ns.entries)) ∙ bases_on b ns.bases
+
+-- ---- the record's lines
+
+module _ {s : Script} {x : WorldOf} {q : WorldPass} {notes sorted : NotesOf} {logs : Label → CallLog} (last : AreLastOf s x q) (left : AreLeft s q notes logs)
+    (is : IsSortedFrom notes sorted) (answers : List (List Answer)) where
+  abbrev seen : List SystemEntry
+  seen = q.timers.known.seen
+
+  same_told : IsPermutation (told_notes notes) (told_notes sorted)
+  same_told = IsPermutation-append _ _ _ _ (IsPermutation-map of_entry notes.entries sorted.entries is.entries.same)
+      (IsPermutation-map of_base notes.bases sorted.bases is.bases.same)
+
+  -- a note stands among the sorted ones where it stands among those that were left
+  stood : (n : ToldNote) → HasPlace (told_notes sorted) n → HasPlace (told_notes notes) n
+  stood n st = stood_before (told_notes notes) (told_notes sorted) st.0 n same_told st.1
+
+  pub each_has : AllByRecursion (HasReceipt logs) (told_notes sorted)
+  each_has = each (HasReceipt logs) (told_notes sorted) (λ p n at. has_receipt left n (stood n (p, at)))
+
+  abbrev pub pairs : List (WithReceipt logs)
+  pairs = with_receipts logs (told_notes sorted) each_has
+
+  abbrev pub filed_notes : List Filed
+  filed_notes = map (file logs) pairs
+
+  -- two receipts with one entry's number are one
+  file_is : (c : Label) (j : ℕ) (y : PlacedEntry) → slice_get (logs c).notes j ≡ Some y → (p : WithReceipt logs) → p.0.label ≡ c → y ≡ noted_at y.place p.0
+      → file logs p ≡ record { label = c; note = y }
+  file_is c j y at p label told =
+      let one = note_made left p.0 p.1 in
+      let two = all_at (IsMade seen) (logs c).notes j y (left.stand c).made at in
+      let o = owner_of y.shown in
+      let same : owner_of p.0.shown ≡ o = ap (λ (z : PlacedEntry). owner_of z.shown) (sym told) in
+      let its : receipts.count o (take p.1.place seen) + 1 ≡ p.0.number =
+      subst (λ u. receipts.count u (take p.1.place seen) + 1 ≡ p.0.number) same one.number in
+      let place : p.1.place ≡ y.place = same_place seen p.1.place y.place o one.step two.step one.there two.there (one.owner ∙ same) two.owner
+      (omega (arith, its, two.number, ap (λ (z : PlacedEntry). z.number) told)) in
+      ap (λ l. record { label = l; note = noted_at p.1.place p.0 }) label ∙ ap (λ k. record { label = c; note = noted_at k p.0 }) place
+      ∙ ap (λ z. record { label = c; note = z }) (sym told)
+
+  -- law: each call's receipts are filed
+  each_filed : (c : Label) → AllByRecursion (λ y. (i : ℕ) × (slice_get filed_notes i ≡ Some (record { label = c; note = y }))) (logs c).notes
+  each_filed c = each (λ y. (i : ℕ) × (slice_get filed_notes i ≡ Some (record { label = c; note = y }))) (logs c).notes (λ j y at.
+      let t = is_told left c j y at in
+      let st = stands_permuted (told_notes notes) (told_notes sorted) t.1.0 t.0 same_told t.1.1 in
+      let m = map_get (λ (p : WithReceipt logs). p.0) pairs st.0 t.0 (ap (λ ns. slice_get ns st.0) (are_notes logs (told_notes sorted) each_has) ∙ st.1) in (
+        st.0,
+        at_map (file logs) pairs st.0 m.0 m.1 ∙ ap Some (file_is c j y at m.0 (ap (λ (n : ToldNote). n.label) m.2 ∙ t.2)
+            (t.3 ∙ ap (noted_at y.place) (sym m.2))),
+      ))
+
+  shapes : (o : Owner) → map line_filed (files_on o filed_notes) ≡ map line_told (filter (is_on o) (told_notes sorted))
+  shapes o = files_lines logs o pairs ∙ ap (λ ns. map line_told (filter (is_on o) ns)) (are_notes logs (told_notes sorted) each_has)
+
+  -- the lines of a list are those of its receipts
+  lines_filed : (o : Owner) → lines_at (record_from s.version sorted s.bases (length s.timers) answers) o ≡ map line_filed (files_on o filed_notes)
+  lines_filed (TimersList t) =
+      ap (map (line_of_timer t)) (timer_lines_are last left is answers t)
+      ∙ noted_lines-shown place_of_look timer_line place_of_entry t sorted.entries sorted.looks (line_of_timer t)
+      (λ n. record { label = n.label; shown = OfTimer t n.entry }) (λ n us. refl) ∙ sym (shapes (TimersList t) ∙ of_timer_told t sorted)
+  lines_filed (BasesList b) =
+      ap (map (line_of_base b)) (base_lines_are last left is answers b) ∙ each_line (filter (is_of_list place_of_base b) sorted.bases)
+      ∙ sym (shapes (BasesList b) ∙ of_base_told b sorted)
+    where
+      each_line : (bs : List BaseNote) → map (line_of_base b) (map base_line bs) ≡ map (λ n. record { label = n.label; shown = OfBase b n.event }) bs
+      each_line [] = refl
+      each_line (n ∷ bs) = ap (λ zs. record { label = n.label; shown = OfBase b n.event } ∷ zs) (each_line bs)
+
+  -- and as many
+  many_filed : (o : Owner) → length (files_on o filed_notes) ≡ receipts.count o seen
+  many_filed (TimersList t) =
+      sym (length-map (files_on (TimersList t) filed_notes) line_filed) ∙ ap length (shapes (TimersList t) ∙ of_timer_told t sorted)
+      ∙ length-map (filter (is_of_list place_of_entry t) sorted.entries) _ ∙ as_many is.entries (entries_once last left t)
+  many_filed (BasesList b) =
+      sym (length-map (files_on (BasesList b) filed_notes) line_filed) ∙ ap length (shapes (BasesList b) ∙ of_base_told b sorted)
+      ∙ length-map (filter (is_of_list place_of_base b) sorted.bases) _ ∙ as_many is.bases (shifts_once last left b)
+
+  -- law: the record's lines of timers and bases are the receipts of all calls, sorted
+  pub are_filed : AreFiled (record_from s.version sorted s.bases (length s.timers) answers) seen (λ c. (logs c).notes) filed_notes
+  are_filed = record {
+    rise = λ c. rises_lower 0 (logs c).moves.0 (map (λ y. y.place) (logs c).notes) (omega arith) (left.stand c).rise;
+    made = λ c. (left.stand c).made;
+    filed = each_filed;
+    back = λ i f at. let m = map_get (file logs) pairs i f at in
+        (m.0.1.index, subst (λ (g : Filed). slice_get (logs g.label).notes m.0.1.index ≡ Some g.note) m.2 m.0.1.there);
+    sorts = files_rise logs (TimersList 0) 0 pairs (subst (RiseTold (TimersList 0) 0) (sym (are_notes logs (told_notes sorted) each_has))
+        (told_rise 0 0 sorted.entries sorted.bases
+        (RiseBehind-sorted place_of_entry notes.entries sorted.entries is.entries (λ l n. at_most_one is.entries (entries_once last left l) n)
+        (each _ notes.entries (λ p n at. (number_within is.entries (entries_once last left n.timer) n (p, at) refl).0)))
+        (RiseBehind-sorted place_of_base notes.bases sorted.bases is.bases (λ l n. at_most_one is.bases (shifts_once last left l) n)
+        (each _ notes.bases (λ p n at. (number_within is.bases (shifts_once last left n.base) n (p, at) refl).0)))));
+    as_many = many_filed;
+    lines = lines_filed;
+  }
+
+  -- a note's label is a call's
+  note_called : (n : ToldNote) → HasPlace (told_notes notes) n → IsLabel s n.label
+  note_called n st = all_at (λ (m : ToldNote). IsLabel s m.label) (told_notes notes) st.0 n (All-append (λ (m : ToldNote). IsLabel s m.label)
+      (map of_entry notes.entries) (map of_base notes.bases) (of_entries notes.entries (each_weaker notes.entries (λ e in_it. in_it.0) (left.seen EntryNotes)))
+      (of_bases notes.bases (each_weaker notes.bases (λ e in_it. in_it.0) (left.seen BaseNotes)))) st.1
+    where
+      of_entries : (es : List EntryNote) → AllByRecursion (λ e. IsLabel s e.label) es → AllByRecursion (λ m. IsLabel s m.label) (map of_entry es)
+      of_entries [] all = tt
+      of_entries (e ∷ es) all = (all.0, of_entries es all.1)
+
+      of_bases : (bs : List BaseNote) → AllByRecursion (λ b. IsLabel s b.label) bs → AllByRecursion (λ m. IsLabel s m.label) (map of_base bs)
+      of_bases [] all = tt
+      of_bases (b ∷ bs) all = (all.0, of_bases bs all.1)
+
+  -- law: receipts are of calls of the script, in their calls' spans
+  pub receipts_inside : (c : Label) → AllByRecursion (λ y. IsLabel s c × ((logs c).moves.0 ≤ y.place) × (y.place < (logs c).moves.1)) (logs c).notes
+  receipts_inside c = each (λ y. IsLabel s c × ((logs c).moves.0 ≤ y.place) × (y.place < (logs c).moves.1)) (logs c).notes (λ j y at.
+      let t = is_told left c j y at in
+      let label = subst (IsLabel s) t.2 (note_called t.0 t.1) in
+      let behind = behind_all (logs c).moves.0 (logs c).moves.0 (logs c).notes (omega arith) (left.stand c).rise in
+      (label, all_at _ (logs c).notes j y behind at, all_at _ (logs c).notes j y (left.stand c).below at))

@@ -1,0 +1,273 @@
+-- What the last passes know at the end of a run: of which timers, bases and objects entries are, and that each of them was noted once.
+use Rattle.run_history.specs.Receipts as receipts
+use Rattle.std.proofs.Common.{◌≡◌, ℕ, ◌<◌, ◌≤◌, zero, suc, Some, List, [], ◌∷◌, filter, length, map, arith, refl, sym, ap, ◌∙◌, subst}
+use Rattle.std.specs.List.{slice_get}
+use Rattle.std.proofs.Math.Logic.{⊎_elim}
+use Rattle.std.proofs.lemmas.Bool.{and_right, cases_lt, lt-leb, and_parts, eqb-true}
+use Rattle.std.proofs.lemmas.List.{get_or_past, length-map}
+use Rattle.std.proofs.lemmas.Option.{same_Some}
+use Rattle.clock_cell.specs.Views.{writes}
+use Rattle.pass_names.specs.Counts.{count, one_if}
+use Rattle.pass_names.specs.Passes.{within}
+use Rattle.seq_timer.specs.Systems.{after_one, AreSystemSteps, MayCome, shifts_of, System}
+use Rattle.seq_timer.specs.declared.system.SystemEntry.{SystemEntry}
+use Rattle.seq_timer.specs.declared.system.SystemEntry.TheVariants as entries
+use Rattle.std.specs.List.{AllByRecursion}
+use Rattle.std.specs.List.Sorted.{IsPermutation}
+use Rattle.std.specs.Prelude.{◌==◌, ◌&&◌, Bool, true, false, ◌+◌, ◌++◌}
+use mathlib.Core.Bool.{cond}
+use Rattle.std.proofs.lemmas.Bool.{ne_eqb}
+use Rattle.std.proofs.lemmas.Bool.Decides.{nat_tests}
+use Rattle.std.proofs.lemmas.List.Elements.{filter-append}
+use Rattle.pass_names.specs.Passes.{is_place}
+use Rattle.base_row.specs.declared.view.Opening.{Opening}
+use Rattle.timer_objects.specs.Known.{seen_of}
+use Rattle.lane_notes.specs.Notes.{NotesOf}
+use Rattle.lane_notes.specs.Sorted.{Place, place_of_base, place_of_entry, place_of_object, place_of_write, IsSortedFrom}
+use Rattle.lane_notes.specs.declared.notes.BaseNote.{BaseNote}
+use Rattle.lane_notes.specs.declared.notes.EntryNote.{EntryNote}
+use Rattle.lane_notes.proofs.Rising.{is_at}
+use Rattle.lane_notes.proofs.Standing.{HasPlace, map_stands_in, stands_in_filter, stands_in_map, stands_permuted, stood_before, filter_stands_in}
+use Rattle.record_text.specs.declared.record.Label.{Label}
+use Rattle.run_history.specs.Order.{is_label}
+use Rattle.script_text.specs.declared.script.Script.{Script}
+use Rattle.run_history.specs.Receipts.{IsMade, PlacedEntry, receipt}
+use Rattle.run_history.specs.Runs.{CallLog}
+use Rattle.run_history.proofs.Labels.{label_itself, same_label}
+use Rattle.run_history.proofs.Lists.{all_at, at_left, each}
+use Rattle.run_history.proofs.Owners.{count_is, entries_at}
+use Rattle.run_history.specs.Witnesses.{BasesList, Owner, Shown, TimersList, owner_of, owner_of_entry}
+use Rattle.lane_world.proofs.Kept.{ToldNote, base_note_place, note_place, of_base, of_entry, own_notes, told_in, told_notes}
+use Rattle.lane_world.proofs.Left.{AreLastOf, AreLeft}
+use Rattle.lane_world.specs.Worlds.{WorldOf}
+use Rattle.lane_world.specs.declared.WorldPass.{WorldPass}
+use Rattle.run_history.proofs.Shown.{entry_place}
+use Rattle.record_laws.proofs.Numbered.{AreEachOnce, count-map, nobody, as_many, lines_are, none_long, once_from}
+use Rattle.lane_notes.specs.Records.{base_line, noted_base_lines, noted_object_lines, noted_timer_lines, record_from, numbered_from}
+use Rattle.record_text.specs.declared.record.Answer.{Answer}
+use Rattle.run_history.specs.Histories.{lines_of_base, lines_of_timer}
+use Rattle.script_text.specs.Declarations.{declared_as, declareds_of}
+use Rattle.run_history.specs.Objects.{lines_of_object}
+
+-- ---- entries and receipts
+
+-- an entry is of a timer or a base that is there
+abbrev pub IsWithin : ℕ → ℕ → SystemEntry → Type 0
+IsWithin bases many (entries.Timer e) = e.timer < many
+IsWithin bases many (entries.Base c) = c.base < bases
+
+within_step : (bases many : ℕ) (w : System) (x : SystemEntry) → MayCome bases many w x → IsWithin bases many x
+within_step bases many w (entries.Timer e) step = step.within
+within_step bases many w (entries.Base c) step = step.within
+
+entry_within : (bases many : ℕ) (w : System) (es : List SystemEntry) (p : ℕ) (e : SystemEntry) → AreSystemSteps bases many w es
+    → slice_get es p ≡ Some e → IsWithin bases many e
+entry_within bases many w [] p e steps at = absurd (cc)
+entry_within bases many w (y ∷ es) zero e steps at = subst (IsWithin bases many) (same_Some y e at) (within_step bases many w y steps.0)
+entry_within bases many w (y ∷ es) (suc p) e steps at = entry_within bases many (after_one w y) es p e steps.1 at
+
+-- an entry's note as the receipt of it, with so many entries before it
+abbrev pub noted_at : ℕ → ToldNote → PlacedEntry
+noted_at place n = record { place = place; number = n.number; shown = n.shown }
+
+told_at : (y : PlacedEntry) (n : ToldNote) → receipt y ≡ told_in n → y ≡ noted_at y.place n
+told_at y n is = ap (λ (r : ℕ × Shown). record { place = y.place; number = r.0; shown = r.1 }) is
+
+-- the receipt that an entry's note is of, among those of its call
+pub record HasReceipt (logs : Label → CallLog) (n : ToldNote) : Type 0 where
+  pub place : ℕ
+  pub index : ℕ
+  pub there : slice_get (logs n.label).notes index ≡ Some (noted_at place n)
+
+-- an item behind a list
+at_behind : {X : Type 0} (xs ys : List X) (j : ℕ) (y : X) → slice_get ys j ≡ Some y → slice_get (xs ++ ys) (length xs + j) ≡ Some y
+at_behind [] ys j y at = subst (λ n. slice_get ys n ≡ Some y) (omega arith) at
+at_behind (x ∷ xs) ys j y at = subst (λ n. slice_get (x ∷ xs ++ ys) n ≡ Some y) (further (length xs) j) (at_behind xs ys j y at)
+  where
+    further : (n j : ℕ) → suc (n + j) ≡ suc n + j
+    further n j = omega arith
+
+-- what is picked of things that are made of others
+pub filter-map : {X Y : Type 0} (make : X → Y) (p : Y → Bool) (xs : List X) → filter p (map make xs) ≡ map make (filter (λ x. p (make x)) xs)
+filter-map make p [] = refl
+filter-map make p (x ∷ xs) =
+    elim (p (make x)) as (λ b. cond b (make x ∷ filter p (map make xs)) (filter p (map make xs))
+    ≡ map make (cond b (x ∷ filter (λ z. p (make z)) xs) (filter (λ z. p (make z)) xs))) [
+      | true ↦ ap (λ ys. make x ∷ ys) (filter-map make p xs)
+      | false ↦ filter-map make p xs
+    ]
+
+module _ {s : Script} {q : WorldPass} {notes : NotesOf} {logs : Label → CallLog} (left : AreLeft s q notes logs) where
+  abbrev own : Label → List ToldNote
+  own c = filter (λ n. is_label c n.label) (told_notes notes)
+
+  own_told : (c : Label) → told_notes (own_notes c notes) ≡ own c
+  own_told c =
+      let mine = λ (n : ToldNote). is_label c n.label in
+      sym (filter-append mine (map of_entry notes.entries) (map of_base notes.bases) ∙ ap (λ xs. xs ++ filter mine (map of_base notes.bases))
+      (filter-map of_entry mine notes.entries) ∙ ap (λ xs. map of_entry (filter (λ e. mine (of_entry e)) notes.entries) ++ xs)
+      (filter-map of_base mine notes.bases))
+
+  told_so : (c : Label) → IsPermutation (map receipt (logs c).notes) (map told_in (own c))
+  told_so c = subst (λ ts. IsPermutation (map receipt (logs c).notes) (map told_in ts)) (own_told c) (left.tell c).receipts
+
+  -- law: each note of an entry is one of its call's receipts
+  pub has_receipt : (n : ToldNote) → HasPlace (told_notes notes) n → HasReceipt logs n
+  has_receipt n st =
+      let o = stands_in_map told_in (own n.label) n (stands_in_filter (λ m. is_label n.label m.label) (told_notes notes) n (label_itself n.label) st) in
+      let b = stood_before (map receipt (logs n.label).notes) (map told_in (own n.label)) o.0 (told_in n) (told_so n.label) o.1 in
+      let m = map_stands_in receipt (logs n.label).notes (told_in n) b in
+      record { place = m.0.place; index = m.1.0; there = m.1.1 ∙ ap Some (told_at m.0 n m.2) }
+
+  -- law: and each receipt has a note
+  pub is_told : (c : Label) (i : ℕ) (y : PlacedEntry) → slice_get (logs c).notes i ≡ Some y
+      → (n : ToldNote) × HasPlace (told_notes notes) n × (n.label ≡ c) × (y ≡ noted_at y.place n)
+  is_told c i y at =
+      let o = stands_in_map receipt (logs c).notes y (i, at) in
+      let b = stands_permuted (map receipt (logs c).notes) (map told_in (own c)) o.0 (receipt y) (told_so c) o.1 in
+      let m = map_stands_in told_in (own c) (receipt y) b in
+      let f = filter_stands_in (λ n. is_label c n.label) (told_notes notes) m.0 m.1 in
+      (m.0, f.0, same_label c m.0.label f.1, told_at y m.0 (sym m.2))
+
+  -- law: the entry that a note tells was made
+  pub note_made : (n : ToldNote) (h : HasReceipt logs n) → IsMade q.timers.known.seen (noted_at h.place n)
+  note_made n h = all_at (IsMade q.timers.known.seen) (logs n.label).notes h.index (noted_at h.place n) (left.stand n.label).made h.there
+
+  -- a timer's note, and a base's, among all
+  pub entry_stands : (e : EntryNote) → HasPlace notes.entries e → HasPlace (told_notes notes) (of_entry e)
+  entry_stands e st = let o = stands_in_map of_entry notes.entries e st in (o.0, at_left (map of_entry notes.entries) (map of_base notes.bases) o.0 _ o.1)
+
+  pub base_stands : (e : BaseNote) → HasPlace notes.bases e → HasPlace (told_notes notes) (of_base e)
+  base_stands e st = let o = stands_in_map of_base notes.bases e st in
+      (length (map of_entry notes.entries) + o.0, at_behind (map of_entry notes.entries) (map of_base notes.bases) o.0 _ o.1)
+
+-- ---- what the last passes have seen
+
+no_number : (n : ℕ) → one_if (within n 0) ≡ 0
+no_number zero = refl
+no_number (suc n) = ap one_if (and_right _ _ (lt-leb (suc n) 0 (omega arith)))
+
+-- no base's note stands at a timer's place, and no timer's at a base's
+no_base_at : (many t n : ℕ) (bs : List BaseNote) → t < many → count (is_place t n) (map (base_note_place many) bs) ≡ 0
+no_base_at many t n [] less = refl
+no_base_at many t n (b ∷ bs) less =
+    ap (λ c. one_if (c && (b.number == n)) + count (is_place t n) (map (base_note_place many) bs)) (ne_eqb (many + b.base) t (λ is. omega (arith, is, less)))
+    ∙ omega (arith, no_base_at many t n bs less)
+
+no_entry_at : (many b n : ℕ) (es : List EntryNote) → AllByRecursion (λ e. e.timer < many) es → count (is_place (many + b) n) (map note_place es) ≡ 0
+no_entry_at many b n [] all = refl
+no_entry_at many b n (e ∷ es) all =
+    ap (λ c. one_if (c && (e.number == n)) + count (is_place (many + b) n) (map note_place es)) (ne_eqb e.timer (many + b) (λ is. omega (arith, is, all.0)))
+    ∙ omega (arith, no_entry_at many b n es all.1)
+
+same_test : (many b c : ℕ) → (many + c == many + b) ≡ (c == b)
+same_test many b c = grind (arith, nat_tests)
+
+base_at : (many b n : ℕ) (bs : List BaseNote)
+    → count (is_place (many + b) n) (map (base_note_place many) bs) ≡ count (is_place b n) (map (λ (e : BaseNote). (e.base, e.number)) bs)
+base_at many b n [] = refl
+base_at many b n (x ∷ bs) =
+    ap (λ c. one_if (c && (x.number == n)) + count (is_place (many + b) n) (map (base_note_place many) bs)) (same_test many b x.base)
+    ∙ ap (λ k. one_if ((x.base == b) && (x.number == n)) + k) (base_at many b n bs)
+
+module _ {s : Script} {x : WorldOf} {q : WorldPass} (last : AreLastOf s x q) where
+  -- whether a list is there
+  abbrev pub IsThere : Owner → Type 0
+  IsThere (TimersList t) = t < length s.timers
+  IsThere (BasesList b) = b < s.bases
+
+  many_timers : length x.timers.about.timers ≡ length s.timers
+  many_timers = ap (λ (o : Opening). length o.timers) last.world.timers ∙ length-map (declareds_of s) _ ∙ length-map s.timers declared_as
+
+  many_bases : x.timers.about.bases ≡ s.bases
+  many_bases = ap (λ (o : Opening). o.bases) last.world.timers
+
+  there_within : (p : ℕ) (e : SystemEntry) → slice_get q.timers.known.seen p ≡ Some e → IsWithin s.bases (length s.timers) e
+  there_within p e at = subst (λ n. IsWithin n (length s.timers) e) many_bases (subst (λ n. IsWithin x.timers.about.bases n e) many_timers
+      (entry_within _ _ _ q.timers.known.seen p e last.passes.timers.knows.history at))
+
+  -- so is the list of an entry that was seen
+  owner_within : (o : Owner) (e : SystemEntry) → owner_of_entry e ≡ o → IsWithin s.bases (length s.timers) e → IsThere o
+  owner_within o (entries.Timer e) is in_it = subst IsThere is in_it
+  owner_within o (entries.Base c) is in_it = subst IsThere is in_it
+
+  pub many_objects : length q.objects.knows.opening ≡ length s.timers
+  many_objects = ap length last.passes.objects.row.made ∙ length-map x.objects.decls _ ∙ ap length last.world.decls ∙ length-map s.timers _
+
+  -- law: no entries were seen of an object that isn't there
+  pub objects_past : (i : ℕ) → length s.timers ≤ i → seen_of q.objects i ≡ []
+  objects_past i past = get_or_past q.objects.knows.pass.seen i [] (subst (λ n. n ≤ i) (sym (last.passes.objects.knows.wide ∙ many_objects)) past)
+
+  -- law: nor of a timer or a base that isn't there
+  pub none_past : (o : Owner) → (IsThere o → ⊥) → receipts.count o q.timers.known.seen ≡ 0
+  none_past o past = count_is o q.timers.known.seen ∙ ap length (nobody (entries_at o q.timers.known.seen) (λ e st.
+      let at = entry_place o st.0 e q.timers.known.seen st.1 in
+      past (owner_within o e at.owner (there_within at.place e at.there))))
+
+  module _ {notes : NotesOf} {logs : Label → CallLog} (left : AreLeft s q notes logs) where
+    -- law: a note is of a timer or a base that is there
+    pub note_within : (n : ToldNote) → HasPlace (told_notes notes) n → IsThere (owner_of n.shown)
+    note_within n st = let made = note_made left n (has_receipt left n st) in
+        owner_within (owner_of n.shown) made.step made.owner (there_within _ made.step made.there)
+
+    -- where a list isn't there no number of it is noted
+    none_noted_past : {X : Type 0} (place : X → Place) (l : ℕ) (xs : List X) (o : Owner) → (IsThere o → ⊥)
+        → ((e : X) → HasPlace xs e → (place e).list ≡ l → IsThere o) → AreEachOnce place l (receipts.count o q.timers.known.seen) xs
+    none_noted_past place l xs o past there = record {
+      each = λ n. ap length (nobody (filter (is_at place l n) xs) (λ e st.
+          let f = filter_stands_in (is_at place l n) xs e st in
+          past (there e f.0 (eqb-true (place e).list l (and_parts _ _ f.1).0))))
+          ∙ sym (ap (λ k. one_if (within n k)) (none_past o past) ∙ no_number n);
+    }
+
+    -- law: each entry of each timer is noted once
+    pub entries_once : (t : ℕ) → AreEachOnce place_of_entry t (receipts.count (TimersList t) q.timers.known.seen) notes.entries
+    entries_once t = ⊎_elim
+        (λ (less : t < length s.timers). once_from q.timers.known.mine
+        (λ n. omega (arith, left.places.timers t n, no_base_at (length s.timers) t n notes.bases less))
+        (λ n. (last.passes.timers.knows.whole last.last.timers).once t n (subst (λ m. t < m) (sym many_timers) less)))
+        (λ (past : length s.timers ≤ t). none_noted_past place_of_entry t notes.entries (TimersList t) (λ less. omega (arith, less, past))
+        (λ e st is. subst (λ u. u < length s.timers) is (note_within (of_entry e) (entry_stands left e st))))
+        (cases_lt t (length s.timers))
+
+    -- law: each entry of each base is
+    pub shifts_once : (b : ℕ) → AreEachOnce place_of_base b (receipts.count (BasesList b) q.timers.known.seen) notes.bases
+    shifts_once b = ⊎_elim
+        (λ (less : b < s.bases). record {
+          each = λ n. sym (count-map (λ (e : BaseNote). (e.base, e.number)) (is_place b n) notes.bases) ∙ omega (
+            arith,
+            left.places.timers (length s.timers + b) n,
+            base_at (length s.timers) b n notes.bases,
+            no_entry_at (length s.timers) b n notes.entries
+                (each (λ (e : EntryNote). e.timer < length s.timers) notes.entries (λ p e at. note_within (of_entry e) (entry_stands left e (p, at)))),
+            subst (λ m. count (is_place (m + b) n) q.timers.known.mine ≡ one_if (within n (length (shifts_of b q.timers.known.seen)))) many_timers
+                ((last.passes.timers.knows.shifts last.last.timers) b n (subst (λ m. b < m) (sym many_bases) less)),
+          );
+        })
+        (λ (past : s.bases ≤ b). none_noted_past place_of_base b notes.bases (BasesList b) (λ less. omega (arith, less, past))
+        (λ e st is. subst (λ c. c < s.bases) is (note_within (of_base e) (base_stands left e st))))
+        (cases_lt b s.bases)
+
+    -- law: each entry of each object is
+    pub objects_once : (i : ℕ) → AreEachOnce place_of_object i (length (seen_of q.objects i)) notes.objects
+    objects_once i = once_from _ (left.places.objects i) ((last.passes.objects.knows.all_entries last.last.objects).once i)
+
+    -- law: each write of the clock is
+    pub writes_once : AreEachOnce place_of_write 0 (length (writes q.clock.knows)) notes.writes
+    writes_once = once_from _ left.places.clock ((last.passes.known.all_entries last.last.clock).once 0)
+
+    -- law: so the record's lines of a timer, of a base and of an object are made of its sorted notes
+    pub timer_lines_are : {sorted : NotesOf} → IsSortedFrom notes sorted → (answers : List (List Answer)) (t : ℕ)
+        → lines_of_timer (record_from s.version sorted s.bases (length s.timers) answers) t ≡ noted_timer_lines t sorted.entries sorted.looks
+    timer_lines_are {sorted = sorted} is answers t = lines_are (λ u. noted_timer_lines u sorted.entries sorted.looks) (length s.timers) t
+        (λ past. ap (numbered_from _ 1) (none_long _ (as_many is.entries (entries_once t) ∙ none_past (TimersList t) (λ less. omega (arith, less, past)))))
+
+    pub base_lines_are : {sorted : NotesOf} → IsSortedFrom notes sorted → (answers : List (List Answer)) (b : ℕ)
+        → lines_of_base (record_from s.version sorted s.bases (length s.timers) answers) b ≡ noted_base_lines b sorted.bases
+    base_lines_are {sorted = sorted} is answers b = lines_are (λ c. noted_base_lines c sorted.bases) s.bases b
+        (λ past. ap (map base_line) (none_long _ (as_many is.bases (shifts_once b) ∙ none_past (BasesList b) (λ less. omega (arith, less, past)))))
+
+    pub object_lines_are : {sorted : NotesOf} → IsSortedFrom notes sorted → (answers : List (List Answer)) (i : ℕ)
+        → lines_of_object (record_from s.version sorted s.bases (length s.timers) answers) i ≡ noted_object_lines i sorted.objects sorted.skips
+    object_lines_are {sorted = sorted} is answers i = lines_are (λ j. noted_object_lines j sorted.objects sorted.skips) (length s.timers) i
+        (λ past. ap (numbered_from _ 1) (none_long _ (as_many is.objects (objects_once i) ∙ ap length (objects_past i past))))

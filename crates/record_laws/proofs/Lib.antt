@@ -1,0 +1,10 @@
+pub mod BaseLines
+pub mod Numbered
+pub mod OwnLines
+pub mod LastSeen
+pub mod FiledNotes
+pub mod ClockLines
+pub mod ObjectLines
+pub mod HungNotes
+pub mod HungLines
+pub mod Ended

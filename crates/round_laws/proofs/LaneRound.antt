@@ -1,0 +1,299 @@
+-- What a lane leaves of one round: what it kept of its calls in it, one after another, behind what was kept of it so far.
+use Rattle.std.proofs.Common.{◌≡◌, ◌≤◌, ℕ, ◌+◌, suc, get_or, List, [], ◌∷◌, ◌++◌, length, length-append, arith, refl, sym, ap, ◌∙◌, subst, ⊎_elim, inl, inr, Some, zero, map, ◌⊎◌}
+use Rattle.std.specs.List.{AllByRecursion, slice_get}
+use Rattle.std.proofs.lemmas.List.{append_assoc, append-nil, length-map, map-append}
+use Rattle.lane_notes.specs.Notes.{NotesOf, both_noted, no_notes}
+use Rattle.record_text.specs.declared.record.Answer.{Answer}
+use Rattle.record_text.specs.declared.record.Label.{Label}
+use Rattle.run_history.specs.Fits.{Seen}
+use Rattle.run_history.specs.Promises.{IsPromisedSoFar, IsPromised}
+use Rattle.run_history.specs.Runs.{CallLog, witness_of}
+use Rattle.run_history.specs.Order.{CallInRound, calls_of}
+use Rattle.script_text.specs.Scripts.{IsInRange}
+use Rattle.script_text.specs.declared.script.Call.{Call}
+use Rattle.script_text.specs.declared.script.Round.{Round}
+use Rattle.script_text.specs.declared.script.Script.{Script}
+use Rattle.lane_world.specs.Called.{lane_of, LaneOf, Called}
+use Rattle.lane_world.proofs.Kept.{Follows, KeepsCall, log_of, seen_by, StandAt, Tallies, follows_less, more_begun, more_called, more_split, more_trans, no_less, SeesMore, stand_later}
+use Rattle.lane_world.specs.Rounds.{as_index, BeginsFirst, BeginsRound, IsLaneOf, lane_calls, LeftOf, MakesLane, next_of, CalledAll}
+use Rattle.lane_world.specs.Worlds.{ArePassesOf, IsWhole, IsWorldOf, WorldOf}
+use Rattle.lane_world.specs.declared.Lane.{Lane}
+use Rattle.lane_world.specs.declared.WorldPass.{WorldPass}
+use Rattle.round_laws.proofs.CallingLanes.{calls_bound, in_round}
+use Rattle.round_laws.proofs.Chains.{lies_later, lies_pushed, ListOf, lies_new, LiesIn}
+use Rattle.round_laws.proofs.LaneKept.{KeepsEach, fits_lane_behind}
+use Rattle.round_laws.proofs.NotesJoined.{are_later, AreOf, call_notes, joined, none_noted}
+use Rattle.lane_world.proofs.PartLists.{both_noted-assoc, each_weaker, no_notes-joins}
+use Rattle.round_laws.proofs.Tallies.{tallies_none, tallies_more, tallies_split}
+use Rattle.std.proofs.lemmas.Option.{slice_get_within, same_Some}
+use Rattle.pass_names.specs.Passes.{Begins}
+use Rattle.run_history.proofs.Lists.{at_left, all_at, at_seam}
+use Rattle.pass_names.proofs.Passes.{begins_length, begins_trans, begins_refl, begins_more}
+use Rattle.timer_objects.specs.Known.{row_of}
+use Rattle.run_history.specs.Rounds.{label_at}
+use Rattle.run_history.proofs.Promise.{promised_push}
+use Rattle.record_text.proofs.Lists.{All-append}
+
+-- ---- a lane so far
+
+-- a call that was made, with what its lane kept of it, and its answer
+pub record DoneCall : Type 0 where
+  pub at : CallInRound
+  pub log : CallLog
+  pub answer : Answer
+
+-- a lane's calls that were made, and those that are left
+pub record LaneSoFar : Type 0 where
+  pub done : List DoneCall
+  pub rest : List CallInRound
+
+abbrev pub calls_in : List DoneCall → List CallInRound
+calls_in done = map (λ k. k.at) done
+
+abbrev pub logs_of : List DoneCall → List CallLog
+logs_of done = map (λ k. k.log) done
+
+abbrev pub answers_in : List DoneCall → List Answer
+answers_in done = map (λ k. k.answer) done
+
+-- what was kept of a call stands in what passes have seen, and along each list in its round
+pub record Stands (past : List Seen) (p : WorldPass) (k : DoneCall) : Type 0 where
+  pub stand : StandAt p k.log
+  pub lies : (x : ListOf) → LiesIn x past (seen_by p) k.at.round k.log
+
+-- it is what the lane kept, by where rounds began and what passes have seen
+pub record IsKeptOf (s : Script) (past : List Seen) (p : WorldPass) (lane : ℕ) (d : LaneSoFar) : Type 0 where
+  pub parts : calls_of s lane ≡ calls_in d.done ++ d.rest
+  pub promised : IsPromisedSoFar s lane (length d.done) (logs_of d.done) (Follows p) (seen_by p) d.rest (answers_in d.done)
+  pub each : AllByRecursion (Stands past p) d.done
+  pub next : (x : ListOf) (j : ℕ) (g h : DoneCall) → slice_get d.done j ≡ Some g → slice_get d.done (suc j) ≡ Some h → (x.span g.log).1 ≤ (x.span h.log).0
+
+-- law: and so it is when more was seen
+pub kept_later : {s : Script} {past : List Seen} {p q : WorldPass} {lane : ℕ} {d : LaneSoFar} → SeesMore p q → IsKeptOf s past p lane d
+    → IsKeptOf s past q lane d
+kept_later {s} {p = p} {q = q} {lane = lane} {d = d} more kept = record {
+  parts = kept.parts;
+  promised = λ e follows has joined later fits. kept.promised e (follows_less more follows) has joined later
+      (fits_lane_behind (witness_of s e) lane (length d.done) (seen_by p) (seen_by q) d.rest later (no_less more) fits);
+  each = each_weaker d.done (λ k is. record { stand = stand_later more is.stand; lies = λ x. lies_later (no_less more) (is.lies x) }) kept.each;
+  next = kept.next;
+}
+
+-- law: and when the next round begins
+pub kept_pushed : {s : Script} {past : List Seen} {p : WorldPass} {lane : ℕ} {d : LaneSoFar} → IsKeptOf s past p lane d
+    → IsKeptOf s (past ++ seen_by p ∷ []) p lane d
+kept_pushed {d = d} kept = record {
+  parts = kept.parts;
+  promised = kept.promised;
+  each = each_weaker d.done (λ k is. record { stand = is.stand; lies = λ x. lies_pushed (is.lies x) }) kept.each;
+  next = kept.next;
+}
+
+-- an item of a list with one more behind it is one of the list's, or that one
+at_push : {X : Type 0} (xs : List X) (x : X) (j : ℕ) (y : X) → slice_get (xs ++ x ∷ []) j ≡ Some y
+    → (slice_get xs j ≡ Some y) ⊎ ((j ≡ length xs) × (x ≡ y))
+at_push [] x zero y at = inr (refl, same_Some x y at)
+at_push [] x (suc j) y at = absurd (cc)
+at_push (z ∷ xs) x zero y at = inl at
+at_push (z ∷ xs) x (suc j) y at = ⊎_elim (λ there. inl there) (λ last. inr (ap suc last.0, last.1)) (at_push xs x j y at)
+
+-- what was kept of a call among these
+abbrev pub IsAt : List DoneCall → Label → CallLog → Type 0
+IsAt done c g = (k : DoneCall) × (slice_get done c.call ≡ Some k) × (k.log ≡ g)
+
+-- of a lane's call, from one on
+abbrev pub IsFrom : ℕ → ℕ → List DoneCall → Label → CallLog → Type 0
+IsFrom lane start done c g = (c.lane ≡ lane) × (start ≤ c.call) × IsAt done c g
+
+-- ---- one more call
+
+module _ {s : Script} {l : LaneOf} {call : Call} {a : Answer} {m : LaneOf} (kept : KeepsCall s l call a m) (before : List Seen) (lane : ℕ)
+    (done : List DoneCall) (label : l.label ≡ label_at lane (length done)) where
+  abbrev log : CallLog
+  log = log_of l.pass m.pass kept.notes kept.trace
+
+  abbrev at : CallInRound
+  at = record { round = length before; call = call }
+
+  abbrev one : DoneCall
+  one = record { at = at; log = log; answer = a }
+
+  -- law: it was kept too
+  kept_one : (base : WorldPass) (rest : List CallInRound) → SeesMore base l.pass
+      → IsKeptOf s (before ++ seen_by base ∷ []) l.pass lane (record { done = done; rest = at ∷ rest })
+      → IsKeptOf s (before ++ seen_by base ∷ []) m.pass lane (record { done = done ++ one ∷ []; rest = rest })
+  kept_one base rest sees so_far =
+      let more = more_called kept.sees in
+      let promise : IsPromised s lane (length done) log (Follows m.pass) call a (seen_by l.pass) (seen_by m.pass) =
+      subst (λ (c : Label). IsPromised s c.lane c.call log (Follows m.pass) call a (seen_by l.pass) (seen_by m.pass)) label kept.promised in
+      let pushed = promised_push s lane (length done) (logs_of done) log (Follows l.pass) (Follows m.pass) (seen_by l.pass) (seen_by m.pass) at rest
+      (answers_in done) a (sym (length-map done (λ (d : DoneCall). d.log))) (λ e follows. follows_less more follows) so_far.promised promise in
+      record {
+        parts = so_far.parts ∙ sym (append_assoc (calls_in done) (at ∷ []) rest)
+            ∙ ap (λ ps. ps ++ rest) (sym (map-append (λ (d : DoneCall). d.at) done (one ∷ [])));
+        promised = rw (
+          map-append (λ (d : DoneCall). d.log) done (one ∷ []),
+          map-append (λ (d : DoneCall). d.answer) done (one ∷ []),
+          length-append done (one ∷ []),
+        ) pushed;
+        each = All-append (Stands (before ++ seen_by base ∷ []) m.pass) done (one ∷ []) (kept_later more so_far).each
+            (record { stand = kept.stand; lies = λ x. lies_new x before l.pass m.pass kept.notes kept.trace (no_less sees) (no_less more) }, tt);
+        next = λ x j g h this that.
+            let last = slice_get_within (done ++ one ∷ []) (suc j) h that in
+            ⊎_elim (λ there. ⊎_elim (λ behind. so_far.next x j g h there behind)
+            (λ new. let most = ((all_at (Stands (before ++ seen_by base ∷ []) l.pass) done j g so_far.each there).lies x).most in
+            omega (arith, most, ap (λ n. n.0) (x.of_log l.pass m.pass kept.notes kept.trace), ap (λ (d : DoneCall). (x.span d.log).0) new.1))
+            (at_push done one (suc j) h that)) (λ new. absurd (omega (arith, new.0, last, length-append done (one ∷ []))))
+            (at_push done one j g this);
+      }
+
+  -- law: and its notes are among the lane's
+  notes_one : (start : ℕ) → start ≤ length done → AreOf l.pass l.notes (IsFrom lane start done)
+      → AreOf m.pass m.notes (IsFrom lane start (done ++ one ∷ []))
+  notes_one start low are =
+      subst (λ ns. AreOf m.pass ns (IsFrom lane start (done ++ one ∷ []))) (sym kept.joins)
+      (joined (are_later (more_called kept.sees) are) (call_notes kept)
+      (λ c g h old new. absurd (omega (arith, slice_get_within done c.call old.2.0 old.2.1, ap (λ (d : Label). d.call) (new.0 ∙ label))))
+      (λ c g old. (old.0, old.1, (old.2.0, at_left done (one ∷ []) c.call old.2.0 old.2.1, old.2.2)))
+      (λ c g new. subst (λ (d : Label). IsFrom lane start (done ++ one ∷ []) d g) (sym (new.0 ∙ label)) (refl, low, (one, at_seam done [] one, new.1)))
+      (λ c g both. ⊎_elim (λ there. inl (both.0, both.1, (both.2.0, there, both.2.2)))
+      (λ last. inr (ap (λ n. label_at n c.call) both.0 ∙ ap (label_at lane) last.0 ∙ sym label, ap (λ (d : DoneCall). d.log) last.1 ∙ both.2.2))
+      (at_push done one c.call both.2.0 both.2.1)))
+
+-- ---- a round
+
+-- A lane in a round, behind its calls of earlier rounds, with the first passes as they were when the round began. Behind these notes the places of its
+-- passes are those of its own.
+pub record IsInRound (s : Script) (x : WorldOf) (before : List Seen) (base : WorldPass) (first : List DoneCall) (start : NotesOf) (lane : ℕ) (l : LaneOf)
+    (d : LaneSoFar) : Type 0 where
+  pub label : l.label ≡ label_at lane (as_index (length d.done))
+  pub opening : l.pass.objects.knows.opening ≡ (row_of x.objects).made
+  pub sees : SeesMore base l.pass
+  pub begins : Begins first d.done
+  pub kept : IsKeptOf s (before ++ seen_by base ∷ []) l.pass lane d
+  pub are : AreOf l.pass l.notes (IsFrom lane (length first) d.done)
+  pub tallies : Tallies (length s.timers) l.pass (both_noted start l.notes)
+
+-- a lane has made calls in the round: they are done, with these answers, and it wrote no more than this
+pub record MakesInRound (s : Script) (x : WorldOf) (before : List Seen) (base : WorldPass) (first : List DoneCall) (start : NotesOf) (lane : ℕ) (m : LaneOf)
+    (done : List DoneCall) (rest : List CallInRound) (given : List Answer) (most : ℕ) : Type 0 where
+  pub all : List DoneCall
+  pub answers : answers_in all ≡ answers_in done ++ given
+  pub few : length m.notes.writes ≤ most
+  pub is : IsInRound s x before base first start lane m (record { done = all; rest = rest })
+
+-- a lane begins a round: its passes have seen what the first ones had, the places that they have made are those of these notes, and nothing is noted
+pub record BeginsSo (s : Script) (x : WorldOf) (base : WorldPass) (left : LeftOf) (start : NotesOf) (old : Lane) : Type 0 where
+  pub call : old.label.call ≡ as_index (length (get_or left.answers old.label.lane []))
+  pub pass : ArePassesOf x old.pass
+  pub sees : SeesMore base old.pass
+  pub notes : old.notes ≡ no_notes
+  pub answers : old.answers.items ≡ []
+  pub tallies : Tallies (length s.timers) old.pass start
+
+-- law: so does a lane behind the first, whose passes have made nothing
+pub begins_behind : {s : Script} {x : WorldOf} {base : WorldPass} {left : LeftOf} {old : Lane} → BeginsRound base left old → IsLaneOf x old
+    → BeginsSo s x base left no_notes old
+begins_behind begins of = record {
+  call = begins.call;
+  pass = of.pass;
+  sees = more_begun begins;
+  notes = begins.notes;
+  answers = begins.answers;
+  tallies = tallies_none begins.timers_mine begins.objects_mine begins.clock_mine;
+}
+
+-- law: and the first lane, whose passes are the first ones
+pub begins_first : {s : Script} {x : WorldOf} {base : WorldPass} {left : LeftOf} {old : Lane} → BeginsFirst x base left old
+    → Tallies (length s.timers) base left.notes → BeginsSo s x base left left.notes old
+begins_first {left = left} begins tallies = record {
+  call = ap (λ (l : Label). l.call) begins.label ∙ sym (ap (λ (l : Label). as_index (length (get_or left.answers l.lane []))) begins.label);
+  pass = begins.of;
+  sees = more_split begins.split;
+  notes = begins.notes;
+  answers = begins.answers;
+  tallies = tallies_split begins.split tallies;
+}
+
+module _ {s : Script} {x : WorldOf} (each : KeepsEach s x) (world : IsWorldOf s x) (range : IsInRange s) (whole : IsWhole x) (before : List Seen)
+    (base : WorldPass) (first : List DoneCall) (start : NotesOf) where
+  -- one call
+  one_call : {lane : ℕ} {l n : LaneOf} (done : List DoneCall) (rest : List CallInRound) {c : Call} {a : Answer}
+      → IsInRound s x before base first start lane l (record { done = done; rest = record { round = length before; call = c } ∷ rest }) → n.label ≡ l.label
+      → Called x l c a n → MakesInRound s x before base first start lane (next_of n) done rest (a ∷ []) (length l.notes.writes + 1)
+  one_call {lane} {l} {n} done rest {c} {a} old same called =
+      let at : CallInRound = record { round = length before; call = c } in
+      let there : slice_get (calls_of s lane) (length done) ≡ Some at =
+      subst (λ k. slice_get (calls_of s lane) k ≡ Some at) (length-map done (λ (d : DoneCall). d.at))
+      (ap (λ ps. slice_get ps (length (calls_in done))) old.kept.parts ∙ at_seam (calls_in done) rest at) in
+      let within = slice_get_within (calls_of s lane) (length done) at there in
+      let label : l.label ≡ label_at lane (length done) =
+      old.label ∙ ap (label_at lane) (omega (arith, within, calls_bound s lane range)) in
+      let has = subst (λ (d : Label). slice_get (calls_of s d.lane) d.call ≡ Some at) (sym label) there in
+      let kept = each l n c a (record { world = world; range = range; whole = whole; objects = old.opening; at = at; there = has; is = refl }) called in
+      let k = one kept before lane done label in
+      record {
+        all = done ++ k ∷ [];
+        answers = map-append (λ (d : DoneCall). d.answer) done (k ∷ []);
+        few = omega (arith, ap (λ (ns : NotesOf). length ns.writes) kept.joins, length-append l.notes.writes kept.added.writes, kept.few);
+        is = record {
+          label = ap (λ (d : Label). label_at d.lane (as_index (d.call + 1))) (same ∙ label)
+              ∙ ap (λ i. label_at lane (as_index i)) (sym (length-append done (k ∷ [])));
+          opening = kept.sees.opening ∙ old.opening;
+          sees = more_trans old.sees (more_called kept.sees);
+          begins = begins_trans old.begins (begins_more done (k ∷ []));
+          kept = kept_one kept before lane done label base rest old.sees old.kept;
+          are = notes_one kept before lane done label (length first) (begins_length old.begins) old.are;
+          tallies = subst (Tallies (length s.timers) n.pass) (both_noted-assoc start l.notes kept.added ∙ ap (both_noted start) (sym kept.joins))
+              (tallies_more (both_noted start l.notes) kept.added old.tallies kept.places);
+        };
+      }
+
+  -- calls in turn
+  calls_made : {lane : ℕ} (cs : List Call) (given : List Answer) {l m : LaneOf} (done : List DoneCall) (rest : List CallInRound)
+      → IsInRound s x before base first start lane l (record { done = done; rest = in_round (length before) cs ++ rest }) → CalledAll x l cs given m
+      → MakesInRound s x before base first start lane m done rest given (length l.notes.writes + length cs)
+  calls_made {lane} [] [] done rest old called = record {
+    all = done;
+    answers = sym (append-nil (answers_in done));
+    few = omega (arith, ap (λ (k : LaneOf). length k.notes.writes) called);
+    is = subst (λ k. IsInRound s x before base first start lane k (record { done = done; rest = rest })) (sym called) old;
+  }
+  calls_made [] (a ∷ given) done rest old called = absurd called
+  calls_made (c ∷ cs) [] done rest old called = absurd called
+  calls_made (c ∷ cs) (a ∷ given) done rest old called =
+      let this = one_call done (in_round (length before) cs ++ rest) old called.1 called.2 in
+      let others = calls_made cs given this.all rest this.is called.3 in
+      record {
+        all = others.all;
+        answers = others.answers ∙ ap (λ zs. zs ++ given) this.answers ∙ append_assoc (answers_in done) (a ∷ []) given;
+        few = omega (arith, this.few, others.few);
+        is = others.is;
+      }
+
+  -- law: what a lane leaves of a round in which it made its calls
+  pub leaves_from : {left : LeftOf} {r : Round} (rest : List CallInRound) {old new : Lane} → let lane = old.label.lane in
+      IsKeptOf s (before ++ seen_by base ∷ []) base lane (record { done = first; rest = in_round (length before) (lane_calls lane r) ++ rest })
+      → get_or left.answers lane [] ≡ answers_in first → BeginsSo s x base left start old → MakesLane x r old new
+      → MakesInRound s x before base first start lane (lane_of new) first rest new.answers.items (length (lane_calls lane r))
+  leaves_from {left} {r} rest {old} {new} so_far same begins makes =
+      let lane = old.label.lane in
+      let cs = lane_calls lane r in
+      let begun : IsInRound s x before base first start lane (lane_of old) (record { done = first; rest = in_round (length before) cs ++ rest }) = record {
+        label = ap (label_at lane) (begins.call ∙ ap as_index (ap length same ∙ length-map first (λ (d : DoneCall). d.answer)));
+        opening = begins.pass.objects.row.made;
+        sees = begins.sees;
+        begins = begins_refl first;
+        kept = kept_later begins.sees so_far;
+        are = subst (λ ns. AreOf old.pass ns (IsFrom lane (length first) first)) (sym begins.notes)
+            (none_noted (λ c g is. absurd (omega (arith, is.1, slice_get_within first c.call is.2.0 is.2.1))));
+        tallies = subst (Tallies (length s.timers) old.pass) (no_notes-joins start ∙ ap (both_noted start) (sym begins.notes)) begins.tallies;
+      } in
+      let made = calls_made cs makes.calls.given first rest begun makes.calls.calls in
+      record {
+        all = made.all;
+        answers = made.answers
+            ∙ ap (λ zs. answers_in first ++ zs) (ap (λ zs. zs ++ makes.calls.given) (sym begins.answers) ∙ sym makes.calls.answers);
+        few = omega (arith, made.few, ap (λ (ns : NotesOf). length ns.writes) begins.notes);
+        is = made.is;
+      }

@@ -1,0 +1,9 @@
+pub mod LaneKept
+pub mod NotesJoined
+pub mod Tallies
+pub mod Chains
+pub mod CallingLanes
+pub mod LaneRound
+pub mod LanesTaken
+pub mod RoundsLeft
+pub mod LeftByRounds
