@@ -1,5 +1,5 @@
 // The kernel's own tree of timers, a queue a base, under a lock each: a test-and-test-and-set lock of C11, or pthread's spin lock. The cases are
-// those of crates/base_row_bench (word `base`) and crates/hr_timers_bench (word `timers`).
+// those of crates/base_row_bench (word `base`) and crates/hr_timers_bench (word `timers`; `scale N`: a start and a cancel with N queued).
 #include <linux/bug.h>
 #include <linux/timerqueue.h>
 #include <pthread.h>
@@ -216,6 +216,10 @@ static void lines(const char *what, unsigned queued, unsigned started, turn_of t
 int main(int count, char **words) {
     if (count < 2)
         return 2;
+    if (strcmp(words[1], "scale") == 0) {
+        line("start, cancel\t", count > 2 ? strtoul(words[2], NULL, 10) : 256, 1, "one thread", NULL, start_and_cancel);
+        return 0;
+    }
     for (int lock = 0; lock < 2; lock++, pthreads = true) {
         if (strcmp(words[1], "base") == 0) {
             for (unsigned queued = 256; queued <= 4096; queued *= 16) {

@@ -41,7 +41,7 @@ use Rattle.run_history.specs.Runs.{Ending, IsJoined, witness_of}
 use Rattle.run_history.specs.Traces.{all_entered}
 use Rattle.run_history.specs.Witnesses.{Evacuation, OfTimer, Shown, TimersList}
 use Rattle.run_history.proofs.Known.{numbered}
-use Rattle.run_history.proofs.OwnParts.{entries_on, history_shown, own_entry}
+use Rattle.run_history.proofs.OwnHistories.{entries_on, history_shown, own_entry}
 use Rattle.run_history.proofs.Stamped.{entry_stamped}
 use Rattle.lane_world.specs.Called.{LaneOf}
 use Rattle.lane_world.specs.Worlds.{WorldOf}

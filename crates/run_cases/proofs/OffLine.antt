@@ -19,7 +19,7 @@ use Rattle.run_history.specs.Fits.{Fits}
 use Rattle.run_history.specs.Histories.{timer_after}
 use Rattle.run_history.specs.Traces.{all_entered}
 use Rattle.run_history.specs.Witnesses.{BasesList, Evacuation, Owner, TimersList, Trace, Witness}
-use Rattle.run_history.proofs.EachTimer.{fits_for_each_timer, heads}
+use Rattle.fit_laws.proofs.EachTimer.{fits_for_each_timer, heads}
 use Rattle.run_cases.specs.Fitting.{heir_record, heir_script}
 use Rattle.run_cases.specs.Lines.{case_start_entry, out_entry}
 use Rattle.run_cases.specs.Wrong.{early_move_record, left_record, left_script, silent_record, silent_script, stranded_record, stranded_script}

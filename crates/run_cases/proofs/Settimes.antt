@@ -23,7 +23,7 @@ use Rattle.run_history.specs.Fits.{FitsCall, Seen}
 use Rattle.run_history.specs.Traces.{all_entered, own_moves}
 use Rattle.run_history.specs.Truths.{ButOfCancel, DisarmedFirst}
 use Rattle.run_history.proofs.Actions.{all_entered-append, made-append}
-use Rattle.run_history.proofs.EachTimer.{heads, true_at}
+use Rattle.fit_laws.proofs.EachTimer.{heads, true_at}
 
 -- what began with a start had found the timer idle
 pub idle_first : (w : Witness) (t : ℕ) (actions : List Action) (first u number : ℕ) (entry : Entry) (rest : List (ℕ × Shown))

@@ -32,7 +32,7 @@ use Rattle.run_history.specs.Calls.{fires}
 use Rattle.run_history.specs.Witnesses.{Witness, entries_in, entry_of_move, Fired, is_owner, Move, moves_on, OfBase, OfTimer, Owner, owner_of, Shown, system_along, timer_along, TimersList, Trace}
 use Rattle.run_history.specs.Receipts.{move_at}
 use Rattle.run_history.specs.Truths.{IsDone}
-use Rattle.run_history.proofs.OwnParts.{entries_on, own_entry}
+use Rattle.run_history.proofs.OwnHistories.{entries_on, own_entry}
 use Rattle.run_cases.proofs.Tests.{all_true, le, lt, other}
 
 -- ---- a witness by lists

@@ -27,10 +27,10 @@ use Rattle.run_history.specs.Witnesses.{labels, Move, OfTimer, Shown, TimersList
 use Rattle.run_history.specs.Fits.{Fits}
 use Rattle.run_history.specs.Traces.{all_entered}
 use Rattle.run_history.specs.Truths.{IsDone, IsClaimSpan}
-use Rattle.run_history.proofs.EachTimer.{heads}
+use Rattle.fit_laws.proofs.EachTimer.{heads}
 use Rattle.run_history.proofs.Lists.{at_map}
 use Rattle.run_history.proofs.Expires.{claim_of, finish_of}
-use Rattle.run_history.proofs.OwnPoints.{declared_then, same_then, seen, seen_rises, stamp_then, turn_at}
+use Rattle.fit_laws.proofs.OwnPoints.{declared_then, same_then, seen, seen_rises, stamp_then, turn_at}
 use Rattle.run_cases.specs.Lines.{at, claim_entry}
 use Rattle.run_cases.specs.Fitting.{waiting_script}
 use Rattle.run_cases.specs.Wrong.{both_record, both_script, tie_record, tie_script, due_record, due_script, uncancelled_record, uncancelled_script, crossed_record, crossed_script, set_entry_of, settimes_record, settimes_script, soon_record, soon_script, past_record, missed_record, missed_script, astray_record, astray_script, versions_record, versions_script}

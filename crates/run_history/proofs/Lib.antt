@@ -1,5 +1,4 @@
 pub mod Actions
-pub mod EachTimer
 pub mod Reached
 pub mod Expires
 pub mod Filed
@@ -10,22 +9,18 @@ pub mod Labels
 pub mod Laid
 pub mod Lists
 pub mod Looks
-pub mod NoSlack
 pub mod ObjectsMade
 pub mod OffLineMade
-mod OneText
 pub mod OthersMade
 pub mod Owners
-pub mod OwnParts
-pub mod OwnPoints
 pub mod PassState
 pub mod Permuted
 pub mod Plain
 pub mod Points
 pub mod Promise
-pub mod Replies
 pub mod Rounds
 pub mod Run
 pub mod Shown
 pub mod Stamped
 pub mod Weave
+pub mod OwnHistories

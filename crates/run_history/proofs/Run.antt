@@ -17,7 +17,7 @@ use Rattle.run_history.proofs.Filed.{receipts_from}
 use Rattle.run_history.proofs.Labels.{label_itself}
 use Rattle.run_history.proofs.Laid.{are_all, AreReceipts, at_among, is_among}
 use Rattle.run_history.proofs.Lists.{all_at, map_get}
-use Rattle.run_history.proofs.OwnPoints.{own_history}
+use Rattle.run_history.proofs.OwnHistories.{own_history}
 use Rattle.run_history.proofs.Rounds.{in_order, labels_from}
 use Rattle.run_history.proofs.Shown.{shows_from}
 use Rattle.run_history.proofs.Weave.{IsShown, length_weave, one_history_from, woven}
@@ -59,7 +59,7 @@ module _ (s : Script) (e : Ending) (ends : IsEnding s e) where
 
   -- each timer's lines show its part of the order
   pub shows : (t : ℕ) → history_of e.run t ≡ entries_of t e.order
-  shows t = sym (own_history (witness_of s e) joined_from.one ends.timers t) ∙ ap (entries_of t) joined_from.entries
+  shows t = sym (own_history (witness_of s e) joined_from.one t) ∙ ap (entries_of t) joined_from.entries
 
   fits_in : FitsIn (witness_of s e)
   fits_in = record {

@@ -16,4 +16,3 @@ pub mod Receipts
 pub mod Rounds
 pub mod Runs
 pub mod Promises
-pub mod EachTimer

@@ -1,38 +1,12 @@
-//! What it means that a record fits a script, and the laws by which what many lanes leave together makes a record that does.
+//! What it means that a record fits a script, and the law by which what many lanes leave together makes a record that does.
 #![tactic(auto)]
 
-ghost use Rattle.std.specs.Prelude.{◌≡◌};
-ghost use Rattle.script_text.specs.Scripts.{IsInRange};
 ghost use Rattle.script_text.specs.declared.script.Script.{Script};
-ghost use Rattle.record_text.specs.Numbers.{HasMachineNumbers, HasNoSlack, HasReplies};
-ghost use Rattle.record_text.specs.Text.{text_of};
-ghost use Rattle.record_text.specs.declared.version.Version.TheVariants as versions;
 ghost use Rattle.record_text.specs.declared.record.RunRecord.{RunRecord};
-ghost use Rattle.run_history.specs.EachTimer.{HasTimers};
 ghost use Rattle.run_history.specs.Fits.{Fits};
 ghost use Rattle.run_history.specs.Runs.{IsRun};
 
 /// What many lanes leave together makes a record that fits the script.
 pub fn a_run_of_lanes_fits()
     ensures { (s : Script) (r : RunRecord) → IsRun s r → Fits s r }
-{}
-
-/// A record that fits is right of each timer by itself: its list is a history of such a timer, and what calls did and were told was so by that list.
-pub fn a_record_that_fits_is_right_of_each_timer()
-    ensures { (s : Script) (r : RunRecord) → Fits s r → HasTimers s r }
-{}
-
-/// A record that fits a script of version 1 has no slack: a soft expiry is the expiry. The text of such a record shows neither.
-pub fn a_record_of_version_one_has_no_slack()
-    ensures { (s : Script) (r : RunRecord) → IsInRange s → s.version ≡ versions.One → Fits s r → HasNoSlack r }
-{}
-
-/// Each entry of a record that fits has a reply that its event has.
-pub fn each_entry_of_a_record_that_fits_has_a_reply_of_its_event()
-    ensures { (s : Script) (r : RunRecord) → Fits s r → HasReplies r }
-{}
-
-/// Of the records that fit a script, and whose numbers a program can hold, no two have one text.
-pub fn the_text_of_a_record_that_fits_determines_it()
-    ensures { (s : Script) (a b : RunRecord) → IsInRange s → Fits s a → Fits s b → HasMachineNumbers a → HasMachineNumbers b → text_of a ≡ text_of b → a ≡ b }
 {}

@@ -1,25 +1,23 @@
 -- One timer in the order of all: its list is a history, it is at each moment as after a number of its own entries, and a moment of a call is a point of the
 -- call in that list.
-use Rattle.std.proofs.Common.{◌≡◌, ◌<◌, ◌≤◌, ◌⊎◌, ℕ, ◌+◌, zero, suc, Bool, true, false, if◌then◌else◌, List, [], ◌∷◌, ◌++◌, Some, length, map, take, drop, get_or, arith, refl, sym, ap, ◌∙◌, subst, inl, inr}
+use Rattle.std.proofs.Common.{◌≡◌, ◌<◌, ◌≤◌, ◌⊎◌, ℕ, ◌+◌, zero, suc, true, false, List, [], ◌∷◌, ◌++◌, Some, length, map, take, drop, get_or, arith, refl, sym, ap, ◌∙◌, subst, inl, inr}
 use Rattle.std.specs.List.{AllByRecursion, slice_get}
 use Rattle.std.proofs.Math.Logic.{⊎_elim}
-use Rattle.std.proofs.lemmas.Bool.{cases_eq, cases_lt, eq-eqb, ne_eqb}
-use Rattle.std.proofs.lemmas.List.{append_assoc, drop-map, get_or_past, get_or-map, length-map, take-map}
+use Rattle.std.proofs.lemmas.Bool.{cases_lt}
+use Rattle.std.proofs.lemmas.List.{drop-map, get_or_past, get_or-map, length-map, take-map}
 use Rattle.seq_timer.proofs.Ties.{may_stand_behind}
 use Rattle.seq_timer.specs.declared.context.Terms.{Terms}
 use Rattle.seq_timer.specs.declared.context.Declared.{Declared}
 use Rattle.seq_timer.specs.declared.observation.Observation.{Observation}
 use Rattle.seq_timer.specs.declared.observation.Observation.TheVariants as observations
-use Rattle.seq_timer.specs.declared.system.SystemEntry.{SystemEntry}
-use Rattle.seq_timer.specs.declared.system.SystemEntry.TheVariants as entries
 use Rattle.seq_timer.specs.Histories.{after_all, AreSteps, Entry, Holds, IsLegal}
 use Rattle.seq_timer.specs.Steps.{opening, Timer}
-use Rattle.seq_timer.specs.Systems.{IsSystemHistory, System, after_entry, armed_in, entries_of, first_system, openings, system_of}
+use Rattle.seq_timer.specs.Systems.{IsSystemHistory, armed_in, entries_of, first_system, openings}
 use Rattle.seq_timer.specs.Tables.{in_context, no_declared, no_timer, timer_at}
 use Rattle.seq_timer.proofs.Contents.{declared-after_all}
 use Rattle.seq_timer.specs.Turns.{IsInTurn, IsTurn}
-use Rattle.seq_timer.proofs.Agreement.{stamp_counts}
-use Rattle.seq_timer.proofs.Systems.{after_entries-append, after_entries-entries_of, timer_else, timer_here, timers_shift}
+use Rattle.seq_timer.proofs.Agreement.{parts, stamp_counts}
+use Rattle.seq_timer.proofs.Systems.{after_entries-entries_of}
 use Rattle.seq_timer.specs.declared.event.EventBy.TheVariants as events
 use Rattle.seq_timer.specs.Events.{map_reading}
 use Rattle.record_text.specs.declared.record.Entry.{Entry as ShownEntry}
@@ -30,12 +28,13 @@ use Rattle.run_history.specs.Histories.{history_from, history_of, lines_of_timer
 use Rattle.script_text.specs.Declarations.{declared_as, declared_of, terms_of, declareds_of}
 use Rattle.run_history.specs.Order.{is_before, IsInOrder, made_by}
 use Rattle.run_history.specs.Witnesses.{Witness, entries_in, entry_of_move, entry_of_shown, IsOneHistory, is_owner, labels, line_of_timer, lines_at, Move, moves_from, moves_on, OfTimer, owner_of, Shown, TimersList, timer_along}
-use Rattle.run_history.specs.EachTimer.{IsOwnPoint, WasSo}
+use Rattle.fit_laws.specs.EachTimer.{IsOwnPoint, WasSo}
 use Rattle.run_history.specs.Traces.{all_entered, own_moves}
 use Rattle.run_history.specs.Truths.{IsMoment, Saw}
 use Rattle.run_history.proofs.Actions.{all_entered-append}
 use Rattle.run_history.proofs.Lists.{at_map}
-use Rattle.run_history.proofs.OwnParts.{all_on, before_at, entries_on, history_shown, labels_of_lines, of_timer, of_timer-entered, of_timer-from, of_timer-on, on_drop, on_place, on_take, own_early, own_entry, take_from}
+use Rattle.run_history.proofs.OwnHistories.{entries_on, own_entry, own_history}
+use Rattle.fit_laws.proofs.OwnParts.{all_on, before_at, labels_of_lines, of_timer, of_timer-entered, of_timer-from, of_timer-on, on_drop, on_place, on_take, own_early, take_from}
 use Rattle.run_history.proofs.Points.{count_own}
 
 -- an entry after so many
@@ -47,37 +46,6 @@ split_at (y ∷ xs) (suc p) x at = ap (λ zs. y ∷ zs) (split_at xs p x at)
 -- how many entries a timer has among the first so many of all
 abbrev pub seen : Witness → ℕ → ℕ → ℕ
 seen w n t = length (moves_on (TimersList t) (take n w.moves))
-
--- ---- a timer's part of a history of all is one of its own
-
-own_steps : (bases : ℕ) (list : List Declared) (terms : Terms) (t : ℕ) (log done later : List SystemEntry) → IsInTurn bases list terms log → log ≡ done ++ later
-    → AreSteps ((system_of list terms done).timers t) (entries_of t later)
-own_steps bases list terms t log done [] turns is = tt
-own_steps bases list terms t log done (entries.Base c ∷ es) turns is =
-    let first = first_system (openings list terms) in
-    subst (λ x. AreSteps x (entries_of t es))
-    (ap (λ (x : System). x.timers t) (after_entries-append first done (entries.Base c ∷ [])) ∙ timers_shift (system_of list terms done) c t)
-    (own_steps bases list terms t log (done ++ entries.Base c ∷ []) es turns (is ∙ sym (append_assoc done (entries.Base c ∷ []) es)))
-own_steps bases list terms t log done (entries.Timer e ∷ es) turns is =
-    let first = first_system (openings list terms) in
-    let now = system_of list terms done in
-    let may = turns done es (entries.Timer e) is in
-    let on : (system_of list terms (done ++ entries.Timer e ∷ [])).timers t ≡ (after_entry now e).timers t =
-    ap (λ (x : System). x.timers t) (after_entries-append first done (entries.Timer e ∷ [])) in
-    let rest = subst (λ x. AreSteps x (entries_of t es)) on
-    (own_steps bases list terms t log (done ++ entries.Timer e ∷ []) es turns (is ∙ sym (append_assoc done (entries.Timer e ∷ []) es))) in
-    ⊎_elim
-    (λ (same : e.timer ≡ t). subst (λ (b : Bool). AreSteps (now.timers t)
-    (if b then record { event = e.event; reply = e.reply } ∷ entries_of t es else entries_of t es))
-    (sym (eq-eqb e.timer t same))
-    (subst (λ u. AreSteps ((after_entry now e).timers u) (entries_of t es)
-    → AreSteps (now.timers u) (record { event = e.event; reply = e.reply } ∷ entries_of t es)) same
-    (λ steps. (may.needs, may.reply, subst (λ x. AreSteps x (entries_of t es)) (timer_here now e) steps)) rest))
-    (λ (other : e.timer ≡ t → ⊥). subst (λ (b : Bool). AreSteps (now.timers t)
-    (if b then record { event = e.event; reply = e.reply } ∷ entries_of t es else entries_of t es))
-    (sym (ne_eqb e.timer t other))
-    (subst (λ x. AreSteps x (entries_of t es)) (timer_else now e t (λ q. other (sym q))) rest))
-    (cases_eq e.timer t)
 
 -- a script's timer by its number; one that isn't there has no clock of its own
 declared : (list : List Declared) (terms : Terms) (t : ℕ) → t < length list → timer_at (openings list terms) t ≡ opening (get_or list t no_declared) terms
@@ -105,18 +73,13 @@ module _ (w : Witness) (one : IsOneHistory w) (timers : length w.run.timers ≡ 
       ∙ ap length (entries_on w.run.clock t (take n w.moves))
       ∙ length-map (moves_on (TimersList t) (take n w.moves)) (own_entry w.run.clock)
 
-  -- law: each timer's lines show its part of the order
-  pub own_history : (t : ℕ) → entries_of t (entries_in w) ≡ history_of w.run t
-  own_history t = entries_on w.run.clock t w.moves ∙ ap (map (own_entry w.run.clock)) (one.all (TimersList t))
-      ∙ history_shown w.run.clock t 0 (lines_of_timer w.run t)
-
   early_history : (n t : ℕ) → entries_of t (take n (entries_in w)) ≡ take (seen w n t) (history_of w.run t)
   early_history n t =
       ap (entries_of t) (take-map (entry_of_move w.run.clock) n w.moves)
       ∙ entries_on w.run.clock t (take n w.moves)
       ∙ ap (map (own_entry w.run.clock)) (sym (on_take (TimersList t) n w.moves))
       ∙ sym (take-map (own_entry w.run.clock) (seen w n t) (moves_on (TimersList t) w.moves))
-      ∙ ap (take (seen w n t)) (sym (entries_on w.run.clock t w.moves) ∙ own_history t)
+      ∙ ap (take (seen w n t)) (sym (entries_on w.run.clock t w.moves) ∙ own_history w one t)
 
   begins : (t : ℕ) → (timer_at (openings (declareds_of w.script) (terms_of w.script)) t ≡ opening (declared_of w.script t) (terms_of w.script))
       ⊎ ((timer_at (openings (declareds_of w.script) (terms_of w.script)) t ≡ no_timer) × (declared_of w.script t ≡ no_declared) × (history_of w.run t ≡ []))
@@ -133,8 +96,8 @@ module _ (w : Witness) (one : IsOneHistory w) (timers : length w.run.timers ≡ 
   pub legal_each : (t : ℕ) → IsLegal (declared_of w.script t) (terms_of w.script) (history_of w.run t)
   legal_each t = ⊎_elim
       (λ is. subst (λ x. AreSteps x (history_of w.run t)) is (subst (AreSteps (timer_at (openings (declareds_of w.script) (terms_of w.script)) t))
-      (own_history t)
-      (own_steps w.script.bases (declareds_of w.script) (terms_of w.script) t (entries_in w) [] (entries_in w) in_turn refl)))
+      (own_history w one t)
+      (parts w.script.bases (length (declareds_of w.script)) (first_system (openings (declareds_of w.script) (terms_of w.script))) (entries_in w) one.history t)))
       (λ none. subst (AreSteps (opening (declared_of w.script t) (terms_of w.script))) (sym none.2) tt)
       (begins t)
 

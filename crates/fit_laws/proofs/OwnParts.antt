@@ -5,19 +5,12 @@ use Rattle.std.proofs.lemmas.Option.{same_Some}
 use Rattle.std.proofs.Math.Seq.{take-append_seam}
 use Rattle.std.proofs.lemmas.Bool.{eq-eqb}
 use Rattle.std.proofs.lemmas.List.{take-map}
-use Rattle.record_text.specs.declared.record.ClockLine.{ClockLine}
 use Rattle.record_text.specs.declared.record.Entry.{Entry}
 use Rattle.record_text.specs.declared.record.Label.{Label}
 use Rattle.record_text.specs.declared.record.TimerLine.{TimerLine}
 use Rattle.run_history.specs.Actions.{Action, also, Entered, entered, Looked, Made, own, Shifted, Skipped, Wrote}
-use Rattle.run_history.specs.Histories.{entry_shown, history_from}
 use Rattle.run_history.specs.Order.{is_label, made_by}
-use Rattle.seq_timer.specs.Histories as histories
-use Rattle.seq_timer.specs.Systems.{entries_of}
-use Rattle.seq_timer.specs.declared.event.EventBy.TheVariants as events
-use Rattle.seq_timer.specs.declared.event.Reply.TheVariants as replies
-use Rattle.seq_timer.specs.declared.system.SystemEntry.{SystemEntry}
-use Rattle.run_history.specs.Witnesses.{Move, OfBase, OfTimer, Owner, Shown, ShownLine, TimersList, entry_of_move, entry_of_shown, is_owner, line_of_timer, moves_from, moves_on, owner_of}
+use Rattle.run_history.specs.Witnesses.{Move, OfBase, OfTimer, Owner, Shown, ShownLine, TimersList, is_owner, line_of_timer, moves_from, moves_on, owner_of}
 use Rattle.run_history.specs.Traces.{all_entered, own_moves}
 use Rattle.run_history.proofs.Owners.{owner_is}
 
@@ -91,45 +84,6 @@ pub labels_of_lines : (t b : ℕ) (lines : List TimerLine)
     → map (λ m. m.label) (moves_from b (map (line_of_timer t) lines)) ≡ map (λ line. line.label) lines
 labels_of_lines t b [] = refl
 labels_of_lines t b (l ∷ lines) = ap (λ xs. l.label ∷ xs) (labels_of_lines t (b + 1) lines)
-
--- ---- the history that a timer's moves show
-
--- the entry of a timer that is shown, as one of its own history; of a base there is none
-abbrev pub entry_in : List ClockLine → Shown → histories.Entry
-entry_in clock (OfTimer t entry) = entry_shown clock entry
-entry_in clock (OfBase b event) = record { event = events.Cancel; reply = replies.Cancel 0 }
-
-abbrev pub own_entry : List ClockLine → Move → histories.Entry
-own_entry clock m = entry_in clock m.shown
-
-one_entry : (clock : List ClockLine) (t : ℕ) (shown : Shown) (es : List SystemEntry)
-    → entries_of t (entry_of_shown clock shown ∷ es) ≡ also (is_owner (owner_of shown) (TimersList t)) (entry_in clock shown) (entries_of t es)
-one_entry clock t (OfTimer u entry) es =
-    elim (nat_eq u t) as (λ b. (if b then entry_shown clock entry ∷ entries_of t es else entries_of t es) ≡ also b (entry_shown clock entry)
-    (entries_of t es)) [
-      | true ↦ refl
-      | false ↦ refl
-    ]
-one_entry clock t (OfBase b event) es = refl
-
--- a timer's entries are what its moves show
-pub entries_on : (clock : List ClockLine) (t : ℕ) (ms : List Move)
-    → entries_of t (map (entry_of_move clock) ms) ≡ map (own_entry clock) (moves_on (TimersList t) ms)
-entries_on clock t [] = refl
-entries_on clock t (m ∷ ms) =
-    let rest = entries_of t (map (entry_of_move clock) ms) in
-    one_entry clock t m.shown (map (entry_of_move clock) ms)
-    ∙ elim (is_owner (owner_of m.shown) (TimersList t)) as (λ b. also b (own_entry clock m) rest ≡ map (own_entry clock) (also b m (moves_on
-    (TimersList t) ms))) [
-      | true ↦ ap (λ xs. own_entry clock m ∷ xs) (entries_on clock t ms)
-      | false ↦ entries_on clock t ms
-    ]
-
--- and a timer's lines show its history
-pub history_shown : (clock : List ClockLine) (t b : ℕ) (lines : List TimerLine)
-    → map (own_entry clock) (moves_from b (map (line_of_timer t) lines)) ≡ history_from clock lines
-history_shown clock t b [] = refl
-history_shown clock t b (l ∷ lines) = ap (λ xs. entry_shown clock l.entry ∷ xs) (history_shown clock t (b + 1) lines)
 
 -- ---- the moves of a call
 

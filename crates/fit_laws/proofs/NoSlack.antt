@@ -51,9 +51,9 @@ use Rattle.script_text.specs.declared.script.Script.{Script}
 use Rattle.script_text.specs.declared.script.StartRequest.{StartRequest}
 use Rattle.run_history.specs.Calls.{Does, IsBody, IsExpiryRun, fires}
 use Rattle.run_history.specs.Witnesses.{Evacuation, Fired}
-use Rattle.run_history.specs.EachTimer.{FitsTimers, HasTimers}
+use Rattle.fit_laws.specs.EachTimer.{FitsTimers, HasTimers}
 use Rattle.run_history.specs.Fits.{Fits}
-use Rattle.run_history.proofs.EachTimer.{fits_for_each_timer}
+use Rattle.fit_laws.proofs.EachTimer.{fits_for_each_timer}
 use Rattle.run_history.proofs.Labels.{label_itself}
 use Rattle.run_history.proofs.Lists.{all_lists}
 

@@ -10,8 +10,8 @@ use Rattle.record_text.proofs.Sections.{record_from_lines}
 use Rattle.script_text.specs.Scripts.{IsInRange}
 use Rattle.script_text.specs.declared.script.Script.{Script}
 use Rattle.run_history.specs.Fits.{Fits}
-use Rattle.run_history.proofs.NoSlack.{version_one_recorded}
-use Rattle.run_history.proofs.Replies.{has_replies}
+use Rattle.fit_laws.proofs.NoSlack.{version_one_recorded}
+use Rattle.fit_laws.proofs.Replies.{has_replies}
 
 -- a record that fits is of the script's version, and for as many bases, timers, objects and lanes as the script has
 record IsOfSize (s : Script) (r : RunRecord) : Type 0 where

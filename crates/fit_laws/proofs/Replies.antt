@@ -12,10 +12,10 @@ use Rattle.record_text.specs.declared.record.RunRecord.{RunRecord}
 use Rattle.record_text.specs.declared.record.TimerLine.{TimerLine}
 use Rattle.script_text.specs.Declarations.{declared_of, terms_of}
 use Rattle.script_text.specs.declared.script.Script.{Script}
-use Rattle.run_history.specs.EachTimer.{HasTimers}
+use Rattle.fit_laws.specs.EachTimer.{HasTimers}
 use Rattle.run_history.specs.Fits.{Fits}
 use Rattle.run_history.specs.Histories.{entry_shown, history_from, lines_of_timer, reading_at}
-use Rattle.run_history.proofs.EachTimer.{fits_for_each_timer}
+use Rattle.fit_laws.proofs.EachTimer.{fits_for_each_timer}
 use Rattle.run_history.proofs.Lists.{all_lists}
 
 -- a step's reply is one that its event has, by any name of its reading

@@ -33,16 +33,16 @@ use Rattle.run_history.specs.Histories.{answers_of, reading_at, timer_after}
 use Rattle.script_text.specs.Declarations.{declared_of, terms_of}
 use Rattle.run_history.specs.Order.{CallInRound, calls_of, is_before, is_label, IsInOrder, IsLabel, IsWithin, made_by, round_of}
 use Rattle.run_history.specs.Witnesses.{Witness, Move, OfTimer, Shown, labels, owner_of, timer_along}
-use Rattle.run_history.specs.EachTimer.{HasTimers, FitsTimers, IsOwnPoint, TookNextDue, WasRefused, WasSo, WasTold}
+use Rattle.fit_laws.specs.EachTimer.{HasTimers, FitsTimers, IsOwnPoint, TookNextDue, WasRefused, WasSo, WasTold}
 use Rattle.run_history.specs.Fits.{Fits, FitsCall, FitsIn, FitsLane, Seen, unseen}
 use Rattle.run_history.specs.Traces.{all_entered, own_moves}
 use Rattle.run_history.specs.Truths.{AreTrue, IsMoment, AnswerHolds, IsTrue, Saw, SawRefusal, WasOffLine}
 use Rattle.run_history.proofs.Actions.{all_entered-append}
 use Rattle.run_history.proofs.Labels.{same_label}
 use Rattle.run_history.proofs.Lists.{all_at, at_map, each_drop, each_take}
-use Rattle.run_history.proofs.OwnParts.{count_moves}
+use Rattle.fit_laws.proofs.OwnParts.{count_moves}
 use Rattle.run_history.proofs.Reached.{does_wider}
-use Rattle.run_history.proofs.OwnPoints.{before_then, declared_then, entered_then, labels_each, legal_each, order_each, point_then, same_then, saw_then, seen, stamp_then, turn_at}
+use Rattle.fit_laws.proofs.OwnPoints.{before_then, declared_then, entered_then, labels_each, legal_each, order_each, point_then, same_then, saw_then, seen, stamp_then, turn_at}
 
 -- a function runs on a base
 running_there : (base : ℕ) (u : Timer) (g : ℕ) → running_on base u ≡ Some g → (u.running ≡ Some g) × (u.base ≡ base)

@@ -1,0 +1,6 @@
+pub mod EachTimer
+pub mod NoSlack
+mod OneText
+pub mod OwnParts
+pub mod OwnPoints
+pub mod Replies
