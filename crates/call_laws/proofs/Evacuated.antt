@@ -1,5 +1,5 @@
 -- Timers that a call moved off a base, one after the other, as a part of the call.
-use Rattle.std.proofs.Common.{◌≡◌, ◌<◌, ℕ, ◌+◌, ◌-◌, Bool, true, false, ◌&&◌, not, is_some, nat_eq, List, [], ◌∷◌, ◌++◌, length, take, map, arith, refl, sym, ap, ◌∙◌, subst}
+use Rattle.std.proofs.Common.{◌≡◌, ◌<◌, ◌≤◌, ℕ, ◌+◌, ◌-◌, Bool, true, false, ◌&&◌, not, is_some, nat_eq, List, [], ◌∷◌, ◌++◌, length, take, map, arith, refl, sym, ap, ◌∙◌, subst}
 use Rattle.std.specs.List.{AllByRecursion}
 use Rattle.std.specs.Prelude.{flat_map, if◌then◌else◌}
 use Rattle.std.proofs.Math.Seq.{take-append_seam}
@@ -16,7 +16,8 @@ use Rattle.seq_timer.specs.declared.event.Reply.TheVariants as replies
 use Rattle.record_text.specs.declared.record.Entry.{Entry}
 use Rattle.seq_timer.specs.Steps.{Timer, after, opening, placement_of, reply_to}
 use Rattle.seq_timer.specs.Calls.{asked_for, step_all}
-use Rattle.seq_timer.specs.Systems.{AreSystemSteps, System, after_one, entries_of, first_system, openings}
+use Rattle.seq_timer.specs.Contents.{front_of}
+use Rattle.seq_timer.specs.Systems.{AreSystemSteps, System, after_one, entries_of, first_system, openings, system_after}
 use Rattle.seq_timer.specs.Tables.{is_armed_on, no_declared, no_timer, timer_at}
 use Rattle.seq_timer.specs.declared.event.EventBy.TheVariants as events
 use Rattle.seq_timer.specs.declared.system.SystemEntry.{SystemEntry}
@@ -25,9 +26,11 @@ use Rattle.seq_timer.proofs.Agreement.{all_fresh}
 use Rattle.seq_timer.proofs.Systems.{entries_of-append}
 use Rattle.base_row.specs.Logs.{LogOf, kept, receipts_of}
 use Rattle.base_row.specs.declared.log.Receipt.{Receipt}
+use Rattle.base_row.specs.declared.view.Opening.{Opening}
+use Rattle.pass_names.proofs.Passes.{begins_length}
 use Rattle.base_row.proofs.Logging.{all_kept}
 use Rattle.hr_timers.specs.Known.{KnownOfTimers, timer_then}
-use Rattle.hr_timers.specs.Moves.{AreMoved, MovesTimer, move_entries}
+use Rattle.hr_timers.specs.Moves.{AreMoved, IsFront as IsFrontOf, MovesTimer, move_entries}
 use Rattle.hr_timers.proofs.Moments.{timer_own}
 use Rattle.script_text.specs.Declarations.{declared_of, declareds_of, terms_of}
 use Rattle.script_text.specs.declared.script.Call.{Call}
@@ -39,9 +42,12 @@ use Rattle.run_history.specs.Promises.{GoesOn}
 use Rattle.run_history.specs.Receipts.{PlacedEntry}
 use Rattle.run_history.specs.Runs.{Ending, IsJoined, witness_of}
 use Rattle.run_history.specs.Traces.{all_entered}
-use Rattle.run_history.specs.Witnesses.{Evacuation, OfTimer, Shown, TimersList}
+use Rattle.run_history.specs.Truths.{IsFront, WasFront}
+use Rattle.run_history.specs.Witnesses.{Evacuation, OfTimer, Shown, TimersList, Witness, timer_along}
 use Rattle.run_history.proofs.Known.{numbered}
 use Rattle.run_history.proofs.OwnHistories.{entries_on, history_shown, own_entry}
+use Rattle.run_history.proofs.PassState.{system_seen, timer_seen}
+use Rattle.run_history.proofs.Promise.{seen_first}
 use Rattle.run_history.proofs.Stamped.{entry_stamped}
 use Rattle.lane_world.specs.Called.{LaneOf}
 use Rattle.lane_world.specs.Worlds.{WorldOf}
@@ -128,6 +134,34 @@ move_shown heir reading t u armed is on =
     let shown : Bool → ℕ → List (ℕ × Shown) = λ b n. (u.stamp + 1, OfTimer t (record { event = events.Out heir; reply = replies.Out b })) ∷ (n, OfTimer t start) ∷ [] in
     ap (λ b. shown b (u.stamp + 1 + 1)) (is ∙ on) ∙ ap (shown true) (omega arith)
 
+-- ---- whose turn it was
+
+module _ {s : Script} {x : WorldOf} {l : LaneOf} {call : Call} (next : IsNextCall s x l call) (e : Ending) (joined : IsJoined s e) where
+  -- law: a timer that a pass saw to be the next one of a base is that in the run
+  pub front_seen : (seen : List SystemEntry) → GoesOn seen e → (base t : ℕ) → IsFrontOf x.timers.about seen base t
+      → IsFront (witness_of s e) base t (length seen)
+  front_seen seen goes base t front = (
+    front.0,
+    ap (λ (u : System). front_of (u.bases base).content)
+        (system_seen (witness_of s e) seen goes.0 (seen_first seen joined goes) ∙ sym (ap (λ (o : Opening). system_after o.timers seen) next.world.timers))
+        ∙ front.1,
+  )
+
+-- law: what was so between two moments was so between two that are further apart
+pub front_wider : {w : Witness} {low first last high base : ℕ} → low ≤ first → last ≤ high → (ys : List Evacuation)
+    → AllByRecursion (WasFront w first last base) ys → AllByRecursion (WasFront w low high base) ys
+front_wider le more [] all = tt
+front_wider le more (y ∷ ys) all = (
+  record {
+    at = all.0.at;
+    from = omega (arith, le, all.0.from);
+    to = omega (arith, all.0.to, more);
+    stamp = all.0.stamp;
+    front = all.0.front;
+  },
+  front_wider le more ys all.1,
+)
+
 module _ {s : Script} {x : WorldOf} {l : LaneOf} {call : Call} (next : IsNextCall s x l call) (base heir : ℕ) (reading : ClockReading) (p : ObjectsPass) where
   -- these timers were moved, as a part of a call with these receipts
   pub record MovedSo (v w : KnownOfTimers) (moved : List Evacuation) (log : List Receipt) : Type 0 where
@@ -137,6 +171,7 @@ module _ {s : Script} {x : WorldOf} {l : LaneOf} {call : Call} (next : IsNextCal
     pub no_looks : look_notes l.label log ≡ []
     pub keeps : (e : Ending) → IsJoined s e → GoesOn w.seen e
         → AllByRecursion (λ y. KeepsExpiries base (timer_after s e.run y.timer y.before) y) moved
+    pub turns : (e : Ending) → IsJoined s e → GoesOn w.seen e → AllByRecursion (WasFront (witness_of s e) (length v.seen) (length w.seen) base) moved
 
   -- as timers in turn, the receipts in the log
   pub record MovedAll (v w : KnownOfTimers) (ts : List ℕ) (old new : LogOf Receipt) : Type 0 where
@@ -171,6 +206,20 @@ module _ {s : Script} {x : WorldOf} {l : LaneOf} {call : Call} (next : IsNextCal
               let there = armed_there next e joined moves.at on base t moves.armed in
               let same = own_timer next e joined moves.at on t there in
               (subst (λ z. KeepsExpiries base z y) (sym same) (record { armed = moves.armed; soft = refl; slack = refl }), tt);
+          turns = λ e joined goes.
+              let on = goes_before moves.made.seen goes in
+              let same : timer_along (witness_of s e) (length moves.at) t ≡ u =
+              timer_seen (witness_of s e) moves.at on.0 (seen_first moves.at joined on) t
+              ∙ sym (ap (λ (o : Opening). timer_then o moves.at t) next.world.timers) in (
+                record {
+                  at = length moves.at;
+                  from = begins_length moves.made.from;
+                  to = begins_length moves.made.seen;
+                  stamp = ap (λ (z : Timer). z.stamp) same;
+                  front = front_seen next e joined moves.at on base t moves.front;
+                },
+                tt,
+              );
         };
       }
 
@@ -188,6 +237,7 @@ module _ {s : Script} {x : WorldOf} {l : LaneOf} {call : Call} (next : IsNextCal
       only = tt;
       no_looks = refl;
       keeps = λ e joined goes. tt;
+      turns = λ e joined goes. tt;
     };
   }
   all_moved (t ∷ ts) {v} {w} old new moves =
@@ -212,4 +262,8 @@ module _ {s : Script} {x : WorldOf} {l : LaneOf} {call : Call} (next : IsNextCal
             ∙ ap (λ ns. ns ++ look_notes l.label more) one.no_looks ∙ rest.no_looks;
         keeps = λ e joined goes. All-append _ ys zs
             (one.keeps e joined (goes_before rest.part.timers.enters.seen goes)) (rest.keeps e joined goes);
+        turns = λ e joined goes. All-append _ ys zs
+            (front_wider (omega arith) (begins_length rest.part.timers.enters.seen) ys
+            (one.turns e joined (goes_before rest.part.timers.enters.seen goes)))
+            (front_wider (begins_length one.part.timers.enters.seen) (omega arith) zs (rest.turns e joined goes));
       }

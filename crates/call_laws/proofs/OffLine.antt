@@ -1,5 +1,5 @@
 -- Calls that take a base off line or bring it on line again, as their lanes keep them.
-use Rattle.std.proofs.Common.{◌≡◌, ◌≤◌, ℕ, ◌+◌, ◌-◌, nat_lt, None, List, [], ◌∷◌, ◌++◌, length, arith, refl, sym, ap, ◌∙◌, subst}
+use Rattle.std.proofs.Common.{◌≡◌, ◌≤◌, ℕ, ◌+◌, ◌-◌, nat_lt, None, List, [], ◌∷◌, ◌++◌, length, arith, refl, sym, ap, ◌∙◌, subst, inl, inr, ⊎_elim}
 use Rattle.std.specs.List.{AllByRecursion}
 use Rattle.std.specs.Prelude.{IsSome, flat_map}
 use Rattle.std.proofs.lemmas.Bool.{ltb-true}
@@ -7,11 +7,13 @@ use Rattle.std.proofs.lemmas.List.{append-nil}
 use Rattle.ktime.specs.Readings.{ClockReading}
 use Rattle.clock_cell.specs.Views.{writes}
 use Rattle.pass_names.specs.SharedHistory.{LooksOn}
+use Rattle.pass_names.proofs.Passes.{begins_length}
 use Rattle.seq_timer.specs.Halves.{running_on}
 use Rattle.seq_timer.specs.Standings.{first_standing, last_standing, standing_after_all}
 use Rattle.seq_timer.specs.Steps.{Timer}
 use Rattle.seq_timer.specs.Systems.{first_system, shifts_of}
-use Rattle.seq_timer.specs.Tables.{is_armed_on, no_declared, no_timer, runs_on, timer_at}
+use Rattle.seq_timer.specs.Tables.{is_armed_on, no_declared, no_timer, runs_on, seen_in, timer_at}
+use Rattle.seq_timer.specs.declared.context.Context.TheVariants as contexts
 use Rattle.seq_timer.specs.declared.standing.BaseEvent.TheVariants as shifts
 use Rattle.seq_timer.specs.declared.standing.Standing.{Standing}
 use Rattle.seq_timer.specs.declared.system.SystemEntry.{SystemEntry}
@@ -34,9 +36,10 @@ use Rattle.script_text.specs.declared.script.Call.TheVariants as calls
 use Rattle.script_text.specs.declared.script.Script.{Script}
 use Rattle.run_history.specs.Actions.{Action, Shifted}
 use Rattle.run_history.specs.Receipts.{PlacedEntry}
-use Rattle.run_history.specs.Calls.{Does, evacuates}
+use Rattle.run_history.specs.Calls.{AllKeepExpiries, AllMoved, Does, evacuates}
+use Rattle.run_history.specs.Promises.{GoesOn}
 use Rattle.run_history.specs.Runs.{Ending, IsJoined, witness_of}
-use Rattle.run_history.specs.Truths.{AnswerHolds, RunsNone, WasOffLine}
+use Rattle.run_history.specs.Truths.{AnswerHolds, RunsNone, WasFront, WasOffLine}
 use Rattle.run_history.specs.Witnesses.{Evacuation, Trace, standing_along, timer_along}
 use Rattle.run_history.proofs.OffLineMade.{evacuating, offline_made, online_made, shift_by}
 use Rattle.run_history.proofs.OthersMade.{plain}
@@ -46,7 +49,7 @@ use Rattle.script_text.proofs.Lists.{All-append}
 use Rattle.lane_world.specs.Called.{CallsOffline, CallsOnline, LaneOf, LeavesClock, ReadsClock, offline_told, online_told, with_done, with_offline_told, with_online_told}
 use Rattle.lane_world.specs.Worlds.{WorldOf}
 use Rattle.call_laws.proofs.CallKept.{LooksAtClock, clock_left, clock_read, opened_timers, reading_goes_on}
-use Rattle.call_laws.proofs.Evacuated.{MovedSo, all_moved, armed_there}
+use Rattle.call_laws.proofs.Evacuated.{MovedSo, all_moved, armed_there, front_seen, front_wider}
 use Rattle.lane_world.proofs.Kept.{Follows, IsNextCall, KeepsCall, begins_same}
 use Rattle.call_laws.proofs.PartKept.{keeps_part}
 use Rattle.lane_world.proofs.PartLists.{IsEntered, no_other}
@@ -160,6 +163,7 @@ moves_off {l = l} next base heir reading {fresh = fresh} empty g =
         only = so.only;
         no_looks = so.no_looks;
         keeps = so.keeps;
+        turns = λ e joined goes. front_wider (begins_length g.looks.seen) (omega arith) all.moved (so.turns e joined goes);
       });
     }
 
@@ -182,6 +186,12 @@ module _ {s : Script} {x : WorldOf} {l : LaneOf} (m : LaneOf) {base heir budget 
   HoldsSo a = (e : Ending) → Follows m.pass e → IsJoined s e → AnswerHolds (witness_of s e) (length l.pass.timers.known.seen)
       (length m.pass.timers.known.seen) l.label reading.stamp (trace_of a).actions (calls.Offline base heir budget) a
 
+  -- the timers that it moved were the next ones in turn, and keep their expiries
+  moved_so : (e : Ending) → IsJoined s e → GoesOn mid.seen e → length mid.seen ≤ length m.pass.timers.known.seen
+      → AllKeepExpiries s e.run (calls.Offline base heir budget) off.moved × AllMoved (WasFront (witness_of s e) (length l.pass.timers.known.seen)
+      (length m.pass.timers.known.seen)) (calls.Offline base heir budget) off.moved
+  moved_so e joined goes more = (off.so.keeps e joined goes, front_wider (omega arith) more off.moved (off.so.turns e joined goes))
+
   -- law: so the call ended without an entry of the base
   pub ended_by_look : (a : Answer) → shift_by base heir a ≡ [] → LooksOn mid m.pass.timers.known → m.notes ≡ with_done l.notes l.label log [] → DoesSo a
       → HoldsSo a → KeepsCall s l (calls.Offline base heir budget) a m
@@ -198,7 +208,7 @@ module _ {s : Script} {x : WorldOf} {l : LaneOf} (m : LaneOf) {base heir budget 
       keeps_part next m a t whole (reading_goes_on l.pass m.pass reading reads) (clock_read reads.looks) notes refl reads.count
       (no_object_steps l.pass m.pass (calls.Offline base heir budget) a t.actions (no_other t.actions only).numbers refl whole.objects.goes_on)
       (λ e follows joined has kept low. offline_made base heir budget off.moved a kept low (does e)
-      (off.so.keeps e joined (goes_before looks.seen follows.timers)) (holds e follows joined))
+      (moved_so e joined (goes_before looks.seen follows.timers) (begins_length looks.seen)) (holds e follows joined))
 
   -- law: or with one, by which the base went off line
   pub ended_by_shift : (number stamp : ℕ) → ShiftsBase x.timers.about mid m.pass.timers.known base (shifts.Offline heir)
@@ -212,7 +222,7 @@ module _ {s : Script} {x : WorldOf} {l : LaneOf} (m : LaneOf) {base heir budget 
       part.are refl (All-append IsEntered _ _ off.so.only (tt, tt)) shift counted (reading_goes_on l.pass m.pass reading reads) (clock_read reads.looks)
       objects notes refl reads.count refl
       (λ e follows joined has kept low. offline_made base heir budget off.moved a kept low (does e)
-      (off.so.keeps e joined (goes_before shift.seen follows.timers)) (holds e follows joined))
+      (moved_so e joined (goes_before shift.seen follows.timers) (begins_length shift.seen)) (holds e follows joined))
 
 -- ---- each answer
 
@@ -248,7 +258,13 @@ offline_kept {s} {x} {l} {m} {base} {heir} {budget} next first reading reads fre
     let end = fits.evacuates.last in
     ended_by_look m next reading reads off objects (answers.OfflineBusy n t g) refl end.1.0.looks (notes ∙ same_log l end.1.0.sink)
     (λ e. (record { counted = omega (arith, end.0, off.many); done = refl }, omega (arith, end.0, fits.evacuates.few)))
-    (λ e follows joined. ap (running_on base) (timer_last next m e follows joined t) ∙ end.1.1)
+    (λ e follows joined. (
+      ap (running_on base) (timer_last next m e follows joined t) ∙ end.1.1,
+      ⊎_elim
+          (λ hard. inl (ap (λ u. running_on base (seen_in contexts.Hard u)) (timer_last next m e follows joined t) ∙ hard))
+          (λ soft. inr (λ u. ap (λ z. runs_on base (seen_in contexts.Hard z)) (timer_last next m e follows joined u) ∙ soft.0 u))
+          end.1.2,
+    ))
 offline_kept {s} {x} {l} {m} {base} {heir} {budget} next first reading reads fresh log empty (offs.More n) fits objects notes =
     let off = moves_off next base heir reading empty fits in
     let end = fits.evacuates.last in
@@ -273,6 +289,7 @@ offline_kept {s} {x} {l} {m} {base} {heir} {budget} next first reading reads fre
     ∙ get_or-map (λ d. opening d (terms_of s)) (declareds_of s) t no_declared no_timer there) in (
       runs_none next m e follows joined base end.1.1,
       record {
+        front = front_seen next e joined m.pass.timers.known.seen follows.timers base t end.1.6;
         armed = ap (is_armed_on base) (timer_last next m e follows joined t) ∙ end.1.3;
         stamp = ap (λ (u : Timer). u.stamp) (timer_last next m e follows joined t) ∙ sym end.1.4;
         full = subst (λ (y : Terms). y.limit + y.reach ≤ stamp) terms end.1.5;

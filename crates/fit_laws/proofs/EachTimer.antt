@@ -259,7 +259,7 @@ module _ (w : Witness) (f : FitsIn w) where
       };
     }
     told_then (calls.Offline base heir budget) (answers.OfflineBusy moved t generation) is =
-        let runs = running_there base (timer_along w last t) generation is in
+        let runs = running_there base (timer_along w last t) generation is.0 in
         let on : (timer_after w.script w.run t (timer_along w last t).stamp).base ≡ base =
         ap (λ k. (timer_after w.script w.run t k).base) (stamp_then w f.history f.timers last t)
         ∙ sym (same_then w f.history f.timers (λ x. x.base) refl last t) ∙ runs.1 in

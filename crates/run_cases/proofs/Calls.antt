@@ -15,12 +15,12 @@ use Rattle.run_history.specs.Told.{object_called, object_stamp_in, object_steps_
 use Rattle.run_history.specs.Histories.{clock_labels, lines_of_timer}
 use Rattle.run_history.specs.Objects.{lines_of_object}
 use Rattle.run_history.specs.Order.{CallInRound, NeverFall}
-use Rattle.run_history.specs.Calls.{AllKeepExpiries, Does}
+use Rattle.run_history.specs.Calls.{AllKeepExpiries, AllMoved, Does}
 use Rattle.run_history.specs.Witnesses.{Witness, labels}
 use Rattle.run_history.specs.Fits.{FitsLane}
 use Rattle.run_history.specs.Traces.{all_entered, HasTraced, own_moves}
-use Rattle.run_history.specs.Truths.{AreTrue, IsClaimSpan, AnswerHolds, WasOffLine}
-use Rattle.run_history.proofs.OthersMade.{keep_none}
+use Rattle.run_history.specs.Truths.{AnswerHolds, AreTrue, IsClaimSpan, WasFront, WasOffLine}
+use Rattle.run_history.proofs.OthersMade.{none_moved}
 use Rattle.run_cases.proofs.Witnesses.{Along, everywhere, each_list}
 use Rattle.run_cases.proofs.Tests.{all_true, are_made, are_plain, plain_pass, is_point, never_fall, IsPast, made_past, other, point_passes, steps_pass, upto}
 
@@ -49,6 +49,7 @@ pub record IsRight (w : Witness) (c : Label) (call : Call) (answer : Answer) (be
   pub does : Does (WasOffLine w (w.traces c).first (w.traces c).last) w.script (w.traces c).at call answer (w.traces c).fired (w.traces c).moved
       (w.traces c).actions
   pub keeps : AllKeepExpiries w.script w.run call (w.traces c).moved
+  pub turns : AllMoved (WasFront w (w.traces c).first (w.traces c).last) call (w.traces c).moved
   pub truth : AreTrue w c (w.traces c).first (w.traces c).first [] (w.traces c).actions (w.traces c).last
   pub expiries : AllByRecursion (λ f. IsClaimSpan w f f.body) (w.traces c).fired
   pub seen : AnswerHolds w (w.traces c).first (w.traces c).last c (w.traces c).at (w.traces c).actions call answer
@@ -94,6 +95,7 @@ lane_fits w lane index clock moves objects (p ∷ ps) (a ∷ more) placed right 
         traced = right.1.traced;
         does = right.1.does;
         keeps = right.1.keeps;
+        turns = right.1.turns;
         reading = point_passes w.script c 0 t.at (clock_labels w.run) times.0;
         begins = point_passes w.script c 0 t.first (labels w) ends.0;
         ends = point_passes w.script c (length (all_entered t.actions)) t.last (labels w) ends.1;
@@ -140,13 +142,13 @@ pub right_moving : {w : Witness} {c : Label} {call : Call} {answer : Answer} {be
     → Along (λ i. own (λ line. line.label) (λ line. line.entry) c 1 (lines_of_object w.run i) ≡ made i (w.traces c).actions) 0 w.run.objects
     → Along (λ i. NeverFall before (object_steps_on i call answer (w.traces c).actions) after) 0 w.run.objects
     → Does (WasOffLine w (w.traces c).first (w.traces c).last) w.script (w.traces c).at call answer (w.traces c).fired (w.traces c).moved (w.traces c).actions
-    → AllKeepExpiries w.script w.run call (w.traces c).moved
+    → AllKeepExpiries w.script w.run call (w.traces c).moved × AllMoved (WasFront w (w.traces c).first (w.traces c).last) call (w.traces c).moved
     → (are_plain w c (w.traces c).first [] (w.traces c).actions (w.traces c).last ≡ true)
     ⊎ AreTrue w c (w.traces c).first (w.traces c).first [] (w.traces c).actions (w.traces c).last
     → AllByRecursion (λ f. IsClaimSpan w f f.body) (w.traces c).fired
     → AnswerHolds w (w.traces c).first (w.traces c).last c (w.traces c).at (w.traces c).actions call answer
     → IsRight w c call answer before after
-right_moving {w} {c} {call} {answer} {before} {after} said clock moves looks objects steps does keeps truth expiries seen =
+right_moving {w} {c} {call} {answer} {before} {after} said clock moves looks objects steps does moved truth expiries seen =
     let r = w.run in
     let ds = (w.traces c).actions in
     let parts = and_parts (list_all is_unrefused r.objects && are_made (length r.timers) (length r.objects) ds)
@@ -168,7 +170,8 @@ right_moving {w} {c} {call} {answer} {before} {after} said clock moves looks obj
             (subst (IsPermutation []) (sym (past i).skipped) (IsPermutation-refl []));
       };
       does = does;
-      keeps = keeps;
+      keeps = moved.0;
+      turns = moved.1;
       truth = ⊎_elim (plain_pass w c (w.traces c).first (w.traces c).first [] ds (w.traces c).last) (λ is. is) truth;
       expiries = expiries;
       seen = seen;
@@ -196,5 +199,8 @@ right {w} {c} {call} {answer} {before} {after} said clock moves looks objects st
     let moved = (w.traces c).moved in
     let parts = and_parts (nat_eq (length moved) 0) (is_said w c call before after) said in
     right_moving parts.1 clock moves looks objects steps does
-    (subst (AllKeepExpiries w.script w.run call) (sym (nil_from_length moved (eqb-true (length moved) 0 parts.0))) (keep_none w.script w.run call))
+    (none (nil_from_length moved (eqb-true (length moved) 0 parts.0)))
     truth expiries seen
+  where
+    none : (w.traces c).moved ≡ [] → AllKeepExpiries w.script w.run call (w.traces c).moved × AllMoved (WasFront w (w.traces c).first (w.traces c).last) call (w.traces c).moved
+    none is = (subst (AllMoved _ call) (sym is) (none_moved _ call), subst (AllMoved _ call) (sym is) (none_moved _ call))

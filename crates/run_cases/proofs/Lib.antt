@@ -7,3 +7,4 @@ pub mod Settimes
 pub mod Small
 pub mod Tests
 pub mod WrongRecords
+pub mod MovedInTurn

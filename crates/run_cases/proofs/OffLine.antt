@@ -91,7 +91,8 @@ heir_fits = fits_by heir_witness (record {
         record { below = le refl; next = (refl, tt); way = (([], refl), refl, tt) },
       ) (inl refl) tt tt)
       (next 0 (right_moving refl refl refl (refl, tt) (refl, tt) (le refl, tt) (record { counted = refl; done = refl }, le refl)
-      (record { armed = refl; soft = refl; slack = refl }, tt) (inl refl) tt
+      ((record { armed = refl; soft = refl; slack = refl }, tt), (record { at = 2; from = le refl; to = le refl; stamp = refl; front = (100, refl) }, tt))
+      (inl refl) tt
       (record {
         unarmed = none_along heir_witness 5 (is_armed_on 1) refl refl (refl, tt);
         idle = none_along heir_witness 5 (runs_on 1) refl refl (refl, tt);

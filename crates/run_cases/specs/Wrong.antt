@@ -226,6 +226,24 @@ early_move_record = off_line_record ([] ∷ (base_line 1 (shifts.Offline 0) ∷ 
     ((lines_there 0 ++ line 0 1 (out_entry 0 true) ∷ line 0 1 (case_start_entry modes.Keep 90 0 0 0 90 false) ∷ []) ∷ [])
     (answers.Started 2 1 false ∷ answers.Offline 1 1 ∷ [])
 
+-- ---- of two timers on a base that goes off line, the one that expires later is moved first
+
+-- the script: the first timer to be started expires first
+abbrev pub turns_script : Script
+turns_script = case_script_in versions.Two 2 1 two_timers
+    (map (by 0) (case_start 1 modes.Abs 50 1 ∷ case_start 0 modes.Abs 100 1 ∷ calls.Offline 1 0 1 ∷ []) ∷ [])
+
+-- the entries of its move
+abbrev pub later_move : List Entry
+later_move = out_entry 0 true ∷ case_start_entry modes.Keep 100 0 0 0 100 false ∷ []
+
+-- a record that breaks it
+abbrev pub turns_record : RunRecord
+turns_record = off_line_record ([] ∷ [] ∷ [])
+    ((lines_there 1 ++ map (line 0 2) later_move)
+    ∷ (line 0 0 (out_entry 1 false) ∷ line 0 0 (case_start_entry modes.Abs 50 0 1 1 50 false) ∷ []) ∷ [])
+    (answers.Started 2 1 false ∷ answers.Started 2 1 false ∷ answers.OfflineMore 1 ∷ [])
+
 -- ---- a call answers that a base is on line again, and the base has no such entry
 
 -- the script

@@ -16,5 +16,6 @@ pub use wrong::{
     an_expiry_run_is_done_at_one_moment, entries_of_objects_and_timers_dont_cross,
     equal_expiries_are_claimed_in_turn, no_claim_looks_past_the_first_timer,
     no_hard_expiry_is_missed, no_start_ends_on_a_base_off_line,
-    no_timer_expires_before_its_soft_expiry, two_functions_never_run_at_once_on_a_base,
+    no_timer_expires_before_its_soft_expiry, timers_are_moved_in_turn,
+    two_functions_never_run_at_once_on_a_base,
 };

@@ -82,6 +82,12 @@ pub fn a_moved_timer_keeps_its_expiry()
     ensures { Fits wrong.left_script wrong.early_move_record → ⊥ }
 {}
 
+/// The timers of a base that goes off line are moved in the order of their expiries.
+#[tactic(auto, using(crate::proofs::MovedInTurn::turns_dont_fit))]
+pub fn timers_are_moved_in_turn()
+    ensures { Fits wrong.turns_script wrong.turns_record → ⊥ }
+{}
+
 /// A base isn't on line again without an entry that says so.
 #[tactic(auto, using(crate::proofs::OffLine::silent_doesnt_fit))]
 pub fn a_base_comes_on_line_by_an_entry()

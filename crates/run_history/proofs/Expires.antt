@@ -365,7 +365,7 @@ module _ {w : Witness} {moves : Spans} {c : Label} {context : Context} {base bud
             (kind_of w.script f.timer) at f ran.kind) [] first
             fired notes last run (omega arith) (omega arith);
       }))
-      tt
+      (tt, tt)
       (run_true w c order context base at first (moves.first c) last notes (moment_of kept) [] first fired notes last [] run refl
       (none_made order (moves.first c) first) refl (omega (arith, starts)) (omega arith))
       (each_ran w c order context base at _ first last (λ before f from to under over ran. ran.span) [] first fired notes last run (omega arith) (omega arith))

@@ -11,13 +11,13 @@ use Rattle.run_history.specs.Histories.{clock_labels, lines_of_timer}
 use Rattle.run_history.specs.Objects.{lines_of_object}
 use Rattle.run_history.specs.Order.{is_label, IsLabel, IsPoint, NeverFall}
 use Rattle.script_text.specs.declared.script.Call.{Call}
-use Rattle.run_history.specs.Calls.{AllKeepExpiries, Does}
+use Rattle.run_history.specs.Calls.{AllKeepExpiries, AllMoved, Does}
 use Rattle.run_history.specs.Witnesses.{Witness, labels, Move, Trace}
 use Rattle.run_history.specs.Fits.{FitsCall, Seen}
 use Rattle.run_history.specs.Receipts.{AreAll, at_place, PlacedEntry, receipt, shape}
 use Rattle.run_history.specs.Rounds.{IsLaid, Spans}
 use Rattle.run_history.specs.Traces.{all_entered, HasTraced, own_moves}
-use Rattle.run_history.specs.Truths.{AreTrue, IsClaimSpan, IsMoment, AnswerHolds, WasOffLine}
+use Rattle.run_history.specs.Truths.{AreTrue, IsClaimSpan, IsMoment, AnswerHolds, WasFront, WasOffLine}
 use Rattle.run_history.proofs.Points.{point_among}
 
 -- a call that had made these entries, and no others, when it had seen so many of all
@@ -106,10 +106,11 @@ module _ {w : Witness} {moves : Spans} {c : Label} {t : Trace} {notes : List Pla
   -- A call fits that begins at a moment at which it had made nothing: it did what its arguments and its answer say, what it was told held, and the
   -- answer is right.
   pub call_made : moves.first c ≤ t.first → t.first ≤ t.last → AllByRecursion (λ x. t.first ≤ x.place) notes
-      → Does (WasOffLine w t.first t.last) w.script t.at call answer t.fired t.moved t.actions → AllKeepExpiries w.script w.run call t.moved
+      → Does (WasOffLine w t.first t.last) w.script t.at call answer t.fired t.moved t.actions
+      → AllKeepExpiries w.script w.run call t.moved × AllMoved (WasFront w t.first t.last) call t.moved
       → AreTrue w c t.first t.first [] t.actions t.last → AllByRecursion (λ f. IsClaimSpan w f f.body) t.fired
       → AnswerHolds w t.first t.last c t.at t.actions call answer → FitsCall w c call answer before after
-  call_made low high behind does keeps truth claims seen =
+  call_made low high behind does moved truth claims seen =
       let to : (P : Trace → Type 0) → P t → P (w.traces c) = λ P. subst P (sym kept.trace) in record {
         traced = to (λ x. HasTraced w c x.actions) (record {
           clock = kept.clock;
@@ -119,7 +120,8 @@ module _ {w : Witness} {moves : Spans} {c : Label} {t : Trace} {notes : List Pla
           skips = kept.skips;
         });
         does = to (λ x. Does (WasOffLine w x.first x.last) w.script x.at call answer x.fired x.moved x.actions) does;
-        keeps = to (λ x. AllKeepExpiries w.script w.run call x.moved) keeps;
+        keeps = to (λ x. AllKeepExpiries w.script w.run call x.moved) moved.0;
+        turns = to (λ x. AllMoved (WasFront w x.first x.last) call x.moved) moved.1;
         reading = to (λ x. IsPoint w.script c 0 x.at (clock_labels w.run)) kept.reading;
         begins = to (λ x. IsMoment w c [] x.first) (moment_of [] t.first low high (none_yet t.first behind));
         ends = to (λ x. IsMoment w c x.actions x.last) (moment_of t.actions t.last kept.forward (omega arith) made_at_end);
@@ -134,7 +136,7 @@ module _ {w : Witness} {moves : Spans} {c : Label} {t : Trace} {notes : List Pla
 
   -- the same, where it begins with what its pass had seen
   pub call_made_whole : t.first ≡ moves.first c → Does (WasOffLine w t.first t.last) w.script t.at call answer t.fired t.moved t.actions
-      → AllKeepExpiries w.script w.run call t.moved → AreTrue w c t.first t.first [] t.actions t.last → AllByRecursion (λ f. IsClaimSpan w f f.body) t.fired
+      → AllKeepExpiries w.script w.run call t.moved × AllMoved (WasFront w t.first t.last) call t.moved → AreTrue w c t.first t.first [] t.actions t.last → AllByRecursion (λ f. IsClaimSpan w f f.body) t.fired
       → AnswerHolds w t.first t.last c t.at t.actions call answer → FitsCall w c call answer before after
   call_made_whole starts = call_made (omega (arith, starts)) (omega (arith, starts, kept.forward))
       (subst (λ n. AllByRecursion (λ x. n ≤ x.place) notes) (sym starts) (inside_behind (moves.first c) t.last notes kept.inside))

@@ -39,7 +39,7 @@ use Rattle.run_history.specs.Traces.{all_entered}
 use Rattle.run_history.specs.Truths.{DisarmedFirst, HasSpan, AnswerHolds, IsSpan, IsSpanBy, IsTrueEntry, IsTrueStart, SawRefusal, WasOffLine}
 use Rattle.run_history.proofs.Actions.{all_entered-append}
 use Rattle.run_history.proofs.Kept.{call_made, inside_behind, inside_below, IsKept, made_all, moment_of}
-use Rattle.run_history.proofs.OthersMade.{keep_none, plain}
+use Rattle.run_history.proofs.OthersMade.{none_moved, plain}
 use Rattle.run_history.proofs.Plain.{IsPlain, plain_arms, plain_then}
 
 -- ---- entries of its timer, and then the object's
@@ -131,7 +131,7 @@ module _ (reply : SettimeReply) {w : Witness} {moves : Spans} {c : Label} {at be
       let idle = disarmed (WasOffLine w begin last) w.script.limit w timer (nanoseconds_of value) at (base_of kind) begin
       (start_mode kind flags) cancel arm start number entry set.arms set.idle in
       call_made kept low (omega (arith, set.between, set.high)) (inside_behind begin set.ends notes set.part)
-      (does reply actions (record { taken = set.taken; cancel = cancel; arm = arm; start = start; number = number; arms = set.arms; done = refl })) tt
+      (does reply actions (record { taken = set.taken; cancel = cancel; arm = arm; start = start; number = number; arms = set.arms; done = refl })) (tt, tt)
       (plain_then w c begin begin set.ends last [] (cancels timer cancel ++ start) (Made timer number entry) plain set.between set.high
       (moment_of kept (cancels timer cancel ++ start) set.ends (omega (arith, low, set.between)) set.high stops, set.holds, set.span))
       tt (seen reply actions refused idle)
@@ -182,7 +182,7 @@ module _ {w : Witness} {moves : Spans} {c : Label} {at begin last timer : ℕ} {
       let stops = made_all kept rearmed.ends start (but_made start timer number (entry arm)) (inside_below begin rearmed.ends notes rearmed.part) in
       call_made kept low (omega (arith, rearmed.between, rearmed.high)) (inside_behind begin rearmed.ends notes rearmed.part)
       (does (record { arm = arm; ns = rearmed.ns; start = start; number = number; timely = rearmed.timely; arms = rearmed.arms; done = refl }))
-      (keep_none w.script w.run call)
+      (none_moved _ call, none_moved _ call)
       (plain_then w c begin begin rearmed.ends last [] start (Made timer number (entry arm))
       (plain_start (WasOffLine w begin last) w.script.limit timer rearmed.ns at (base_of
       (kind_of w.script timer)) modes.Keep arm start rearmed.arms) rearmed.between rearmed.high

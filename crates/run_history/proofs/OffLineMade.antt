@@ -8,11 +8,11 @@ use Rattle.record_text.specs.declared.record.Answer.{Answer}
 use Rattle.record_text.specs.declared.record.Label.{Label}
 use Rattle.script_text.specs.declared.script.Call.TheVariants as calls
 use Rattle.run_history.specs.Actions.{Action, Shifted}
-use Rattle.run_history.specs.Calls.{AllKeepExpiries, Does, evacuates}
+use Rattle.run_history.specs.Calls.{AllKeepExpiries, AllMoved, Does, evacuates}
 use Rattle.run_history.specs.Fits.{FitsCall, Seen}
 use Rattle.run_history.specs.Receipts.{PlacedEntry}
 use Rattle.run_history.specs.Rounds.{Spans}
-use Rattle.run_history.specs.Truths.{AnswerHolds, WasOffLine}
+use Rattle.run_history.specs.Truths.{AnswerHolds, WasFront, WasOffLine}
 use Rattle.run_history.specs.Witnesses.{Evacuation, Trace, Witness}
 use Rattle.run_history.proofs.Kept.{call_made_whole, IsKept}
 use Rattle.run_history.proofs.OthersMade.{plain}
@@ -40,7 +40,7 @@ pub offline_made : {w : Witness} {moves : Spans} {c : Label} {at first last : �
     → first ≡ moves.first c
     → Does (WasOffLine w first last) w.script at (calls.Offline base heir budget) answer [] moved (flat_map
     (evacuates heir at) moved ++ shift_by base heir answer)
-    → AllKeepExpiries w.script w.run (calls.Offline base heir budget) moved
+    → AllKeepExpiries w.script w.run (calls.Offline base heir budget) moved × AllMoved (WasFront w first last) (calls.Offline base heir budget) moved
     → AnswerHolds w first last c at (flat_map (evacuates heir at) moved ++ shift_by base heir answer) (calls.Offline base heir budget) answer
     → FitsCall w c (calls.Offline base heir budget) answer before after
 offline_made {w = w} {c = c} {at = at} {first = first} {last = last} base heir budget moved answer kept starts does keeps holds =
@@ -57,4 +57,4 @@ pub online_made : {w : Witness} {moves : Spans} {c : Label} {at first last : ℕ
     → IsKept w moves c (plain at first last (Shifted base stamp shifts.Online ∷ [])) notes (calls.Online base) (answers.Online stamp) before after
     → first ≡ moves.first c → FitsCall w c (calls.Online base) (answers.Online stamp) before after
 online_made {first = first} base stamp kept starts =
-    call_made_whole kept starts refl tt (first, omega arith, tt, omega (arith, starts, kept.forward)) tt tt
+    call_made_whole kept starts refl (tt, tt) (first, omega arith, tt, omega (arith, starts, kept.forward)) tt tt

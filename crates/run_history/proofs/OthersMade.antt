@@ -14,8 +14,8 @@ use Rattle.script_text.specs.declared.script.Script.{Script}
 use Rattle.script_text.specs.declared.script.StartRequest.{StartRequest}
 use Rattle.script_text.specs.declared.script.Call.TheVariants as calls
 use Rattle.script_text.specs.declared.script.Call.{Call}
-use Rattle.run_history.specs.Calls.{AllKeepExpiries, Does}
-use Rattle.run_history.specs.Witnesses.{Witness, Trace}
+use Rattle.run_history.specs.Calls.{AllMoved, Does}
+use Rattle.run_history.specs.Witnesses.{Evacuation, Witness, Trace}
 use Rattle.run_history.specs.Fits.{FitsCall, Seen}
 use Rattle.run_history.specs.Receipts.{PlacedEntry, receipt}
 use Rattle.run_history.specs.Rounds.{Spans}
@@ -27,28 +27,29 @@ use Rattle.run_history.proofs.Plain.{plain_arms, plain_true}
 abbrev pub plain : ℕ → ℕ → ℕ → List Action → Trace
 plain at first last actions = record { at = at; fired = []; moved = []; actions = actions; first = first; last = last }
 
--- a call that moved no timers keeps the expiries of all that it moved
-pub keep_none : (s : Script) (r : RunRecord) (call : Call) → AllKeepExpiries s r call []
-keep_none s r (calls.Offline base heir budget) = tt
-keep_none s r (calls.Start timer request) = tt
-keep_none s r (calls.Cancel timer) = tt
-keep_none s r (calls.Peek timer) = tt
-keep_none s r (calls.Expire context base budget) = tt
-keep_none s r (calls.Clock write) = tt
-keep_none s r (calls.Settime timer flags value interval) = tt
-keep_none s r (calls.Gettime timer) = tt
-keep_none s r (calls.Accept timer) = tt
-keep_none s r (calls.Overrun timer) = tt
-keep_none s r (calls.Read timer len) = tt
-keep_none s r (calls.Readable timer) = tt
-keep_none s r (calls.Online base) = tt
+-- what is asked of the timers that a call moved is so where it moved none
+pub none_moved : (IsSo : ℕ → Evacuation → Type 0) (call : Call) → AllMoved IsSo call []
+none_moved IsSo (calls.Offline base heir budget) = tt
+none_moved IsSo (calls.Start timer request) = tt
+none_moved IsSo (calls.Cancel timer) = tt
+none_moved IsSo (calls.Peek timer) = tt
+none_moved IsSo (calls.Expire context base budget) = tt
+none_moved IsSo (calls.Clock write) = tt
+none_moved IsSo (calls.Settime timer flags value interval) = tt
+none_moved IsSo (calls.Gettime timer) = tt
+none_moved IsSo (calls.Accept timer) = tt
+none_moved IsSo (calls.Overrun timer) = tt
+none_moved IsSo (calls.Read timer len) = tt
+none_moved IsSo (calls.Readable timer) = tt
+none_moved IsSo (calls.Online base) = tt
 
 -- a call that makes no entry, of a timer, an object or the clock: what it was told held at one moment
 pub quiet_made : {w : Witness} {moves : Spans} {c : Label} {at last : ℕ} {notes : List PlacedEntry} {call : Call} {answer : Answer} {before after : Seen}
     → IsKept w moves c (plain at last last []) notes call answer before after
     → Does (WasOffLine w last last) w.script at call answer [] [] [] → AnswerHolds w last last c at [] call answer → FitsCall w c call answer before after
 quiet_made {w = w} {last = last} {notes = notes} {call = call} kept does seen =
-    call_made kept kept.forward (omega arith) (none_of notes kept.entered) does (keep_none w.script w.run call) (omega arith) tt seen
+    call_made kept kept.forward (omega arith) (none_of notes kept.entered) does
+    (none_moved _ call, none_moved _ call) (omega arith) tt seen
   where
     none_of : (xs : List PlacedEntry) → map receipt xs ≡ [] → AllByRecursion (λ x. last ≤ x.place) xs
     none_of [] none = tt
@@ -61,14 +62,14 @@ pub cancelled_made : {w : Witness} {moves : Spans} {c : Label} {at first last : 
     (calls.Cancel timer) (answers.Cancelled generation) before after
     → first ≡ moves.first c → FitsCall w c (calls.Cancel timer) (answers.Cancelled generation) before after
 cancelled_made {first = first} timer number generation kept starts =
-    call_made_whole kept starts (number, refl) tt (first, omega arith, tt, omega (arith, starts, kept.forward)) tt tt
+    call_made_whole kept starts (number, refl) (tt, tt) (first, omega arith, tt, omega (arith, starts, kept.forward)) tt tt
 
 -- a write of the clock that it took
 pub wrote_made : {w : Witness} {moves : Spans} {c : Label} {at first last : ℕ} {notes : List PlacedEntry} {before after : Seen} (stamp : ℕ) (write : Write)
     → IsKept w moves c (plain at first last (Wrote stamp write ∷ [])) notes (calls.Clock write) (answers.Clock stamp) before after
     → first ≡ moves.first c → FitsCall w c (calls.Clock write) (answers.Clock stamp) before after
 wrote_made {first = first} stamp write kept starts =
-    call_made_whole kept starts refl tt (first, omega arith, tt, omega (arith, starts, kept.forward)) tt tt
+    call_made_whole kept starts refl (tt, tt) (first, omega arith, tt, omega (arith, starts, kept.forward)) tt tt
 
 -- a start's entries tell nothing that must be looked up
 pub start_true : (w : Witness) (c : Label) (first from to timer reading : ℕ) (request : StartRequest) (before : List Action) (a : Arming) → from ≤ to
@@ -85,5 +86,5 @@ pub started_made : {w : Witness} {moves : Spans} {c : Label} {at first last : �
     → first ≡ moves.first c → IsArming (WasOffLine w first last) w.script.limit request.base a
     → FitsCall w c (calls.Start timer request) (answers.Started a.number a.placement.base (was_armed_before a.outs a.was_armed)) before after
 started_made {w = w} {c = c} {at = at} {first = first} {last = last} timer request a kept starts arms =
-    call_made_whole kept starts (a, refl, refl, refl, refl, arms) tt
+    call_made_whole kept starts (a, refl, refl, refl, refl, arms) (tt, tt)
     (start_true w c first first last timer at request [] a (omega (arith, starts, kept.forward))) tt tt

@@ -62,10 +62,14 @@ pub record KeepsExpiries (base : ℕ) (t : Timer) (e : Evacuation) : Type 0 wher
   pub soft : e.ns ≡ t.soft
   pub slack : e.slack ≡ t.expires - t.soft
 
--- so each timer that a call moved off a base, by the timer's own history
+-- so each timer that a call moved off a base
+abbrev pub AllMoved : (ℕ → Evacuation → Type 0) → Call → List Evacuation → Type 0
+AllMoved IsSo (calls.Offline base heir budget) moved = AllByRecursion (IsSo base) moved
+AllMoved IsSo call moved = Unit
+
+-- they keep their expiries, by each one's own history
 abbrev pub AllKeepExpiries : Script → RunRecord → Call → List Evacuation → Type 0
-AllKeepExpiries s r (calls.Offline base heir budget) moved = AllByRecursion (λ e. KeepsExpiries base (timer_after s r e.timer e.before) e) moved
-AllKeepExpiries s r call moved = Unit
+AllKeepExpiries s r call moved = AllMoved (λ base e. KeepsExpiries base (timer_after s r e.timer e.before) e) call moved
 
 -- by what the call saw of bases off line
 module _ (Reached : ℕ → ℕ → Type 0) where

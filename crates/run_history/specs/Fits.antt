@@ -17,8 +17,8 @@ use Rattle.run_history.specs.Actions.{wrote}
 use Rattle.run_history.specs.Told.{object_steps_on}
 use Rattle.run_history.specs.Witnesses.{Witness, IsOneHistory, labels}
 use Rattle.run_history.specs.Traces.{HasTraced}
-use Rattle.run_history.specs.Calls.{AllKeepExpiries, Does}
-use Rattle.run_history.specs.Truths.{AreTrue, IsClaimSpan, IsMoment, AnswerHolds, WasOffLine}
+use Rattle.run_history.specs.Calls.{AllKeepExpiries, AllMoved, Does}
+use Rattle.run_history.specs.Truths.{AreTrue, IsClaimSpan, IsMoment, AnswerHolds, WasFront, WasOffLine}
 
 -- how many of the clock's writes, of all timers' and bases' entries, and of each object's entries, a lane has seen
 pub record Seen : Type 0 where
@@ -38,6 +38,8 @@ pub record FitsCall (w : Witness) (c : Label) (call : Call) (answer : Answer) (b
       (w.traces c).actions
   -- the timers that it moved off a base keep their expiries
   pub keeps : AllKeepExpiries w.script w.run call (w.traces c).moved
+  -- and each was the next one when it was moved
+  pub turns : AllMoved (WasFront w (w.traces c).first (w.traces c).last) call (w.traces c).moved
   pub reading : IsPoint w.script c 0 (w.traces c).at (clock_labels w.run)
   -- its first moment, at which it had made no entry, and its last, at which it had made them all
   pub begins : IsMoment w c [] (w.traces c).first

@@ -1,5 +1,5 @@
 -- What a call told held at one moment of the order of all timers' and bases' entries, a moment at which it had done just so much.
-use Rattle.std.specs.Prelude.{ℕ, ◌≡◌, ◌≤◌, ◌+◌, None, Bool, true, false, Some, IsSome, List, [], ◌∷◌, ◌++◌, length}
+use Rattle.std.specs.Prelude.{ℕ, ◌≡◌, ◌≤◌, ◌+◌, ◌⊎◌, None, Bool, true, false, Some, IsSome, List, [], ◌∷◌, ◌++◌, length}
 use Rattle.clock_model.specs.Clocks.{after_write, greatest}
 use Rattle.seq_timer.specs.declared.observation.Observation.{Observation}
 use Rattle.seq_timer.specs.declared.observation.Observation.TheVariants as observations
@@ -24,14 +24,16 @@ use Rattle.run_history.specs.Objects.{object_armed_after, fd_after, object_label
 use Rattle.run_history.specs.Actions.{Action, Entered, Looked, Made, Skipped, made}
 use Rattle.run_history.specs.Told.{IsBelowLimit, IsOutOfRange, IsArmedLike, observed}
 use Rattle.ktime.specs.declared.clock_id.ClockId.{ClockId}
+use Rattle.seq_timer.specs.Contents.{front_of}
 use Rattle.seq_timer.specs.declared.context.Context.{Context}
+use Rattle.seq_timer.specs.declared.context.Context.TheVariants as contexts
 use Rattle.seq_timer.specs.Halves.{running_on}
 use Rattle.seq_timer.specs.Systems.{next_on}
 use Rattle.seq_timer.specs.Standings.{last_standing}
 use Rattle.seq_timer.specs.Tables.{IsStopped, IsUnused, in_context, is_armed_on, runs_on}
 use Rattle.run_history.specs.Traces.{all_entered}
 use Rattle.run_history.specs.Witnesses.{Witness, labels, standing_along, system_along, timer_along}
-use Rattle.run_history.specs.Witnesses.{Fired}
+use Rattle.run_history.specs.Witnesses.{Evacuation, Fired}
 
 -- a number of entries of all timers and bases is one at which the call has done so much, and that it may have seen
 abbrev pub IsMoment : Witness → Label → List Action → ℕ → Type 0
@@ -49,6 +51,25 @@ WasOffLine w first last base heir = (n : ℕ) × (first ≤ n) × (n ≤ last) �
 -- at this moment no function ran on the base
 abbrev pub RunsNone : Witness → ℕ → ℕ → Type 0
 RunsNone w base n = (t : ℕ) → runs_on base (timer_along w n t) ≡ false
+
+-- at this moment this function ran on the base: that of the hard context, or of the soft one while none of the hard one ran there
+abbrev pub RunsFirst : Witness → ℕ → ℕ → ℕ → ℕ → Type 0
+RunsFirst w base timer generation n =
+    (running_on base (timer_along w n timer) ≡ Some generation)
+    × ((running_on base (in_context contexts.Hard (timer_along w n) timer) ≡ Some generation)
+    ⊎ ((t : ℕ) → runs_on base (in_context contexts.Hard (timer_along w n) t) ≡ false))
+
+-- at this moment the timer was the next to be moved off the base: the first of the first queue that wasn't empty, the hard context's before the soft one's
+abbrev pub IsFront : Witness → ℕ → ℕ → ℕ → Type 0
+IsFront w base timer n = (expires : ℕ) × (front_of ((system_along w n).bases base).content ≡ Some (expires, timer))
+
+-- a timer that was moved off a base was the next one at a moment between these two, at which it had just the entries before its move
+pub record WasFront (w : Witness) (first last base : ℕ) (e : Evacuation) : Type 0 where
+  pub at : ℕ
+  pub from : first ≤ at
+  pub to : at ≤ last
+  pub stamp : (timer_along w at e.timer).stamp ≡ e.before
+  pub front : IsFront w base e.timer at
 
 -- a start was refused: the timer's history was full, and the timer was not on the move between bases
 abbrev pub SawRefusal : Witness → ℕ → ℕ → ℕ → Type 0
@@ -141,8 +162,9 @@ pub record IsDone (w : Witness) (context : Context) (reading base n : ℕ) : Typ
   pub first : next_on context ((system_along w n).bases base) (reading_at w.run.clock reading) ≡ None
   pub stopped : (clock : ClockId) → IsStopped (in_context context (timer_along w n)) base (reading_at w.run.clock reading) clock
 
--- a timer is armed on a base, and has so many entries that it isn't moved off it any more
+-- a timer is the next to be moved off a base, and has so many entries that it isn't moved any more
 pub record SawFullOn (w : Witness) (base timer number n : ℕ) : Type 0 where
+  pub front : IsFront w base timer n
   pub armed : is_armed_on base (timer_along w n timer) ≡ true
   pub stamp : (timer_along w n timer).stamp ≡ number
   pub full : (terms_of w.script).limit + (terms_of w.script).reach ≤ number
@@ -184,7 +206,7 @@ AnswerHolds w first last c reading actions (calls.Readable timer) (answers.Reada
     × (is_readable (fd_after w.script w.run timer (base_of (kind_of w.script timer)) stamp) (reading_at w.run.clock reading) ≡ ready)
 AnswerHolds w first last c reading actions (calls.Offline base heir budget) (answers.Offline moved stamp) = IsUnused (timer_along w last) base
 AnswerHolds w first last c reading actions (calls.Offline base heir budget) (answers.OfflineBusy moved timer generation) =
-    running_on base (timer_along w last timer) ≡ Some generation
+    RunsFirst w base timer generation last
 AnswerHolds w first last c reading actions (calls.Offline base heir budget) (answers.OfflineMore moved) =
     RunsNone w base last × ((t : ℕ) × (is_armed_on base (timer_along w last t) ≡ true))
 AnswerHolds w first last c reading actions (calls.Offline base heir budget) (answers.OfflineSpent moved timer stamp) =
