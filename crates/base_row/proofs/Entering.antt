@@ -1,11 +1,11 @@
 -- One entry more, of a timer whose base the seat holds: the rule stays, whatever the event is.
 use Rattle.base_row.specs.Places.{word_at}
 use Rattle.std.proofs.Common.{◌≡◌, ℕ, ◌+◌, ◌<◌, ◌≢◌, true, List, [], ◌∷◌, ◌++◌, length, refl, ap, sym, ◌∙◌, subst, inl, inr, ⊎_elim, arith}
-use Rattle.std.specs.Prelude.{slice_index, slice_set, Option}
+use Rattle.std.specs.Prelude.{slice_set, Option}
 use Rattle.std.proofs.lemmas.Bool.{cases_Bool, cases_eq}
 use mathlib.Core.Option.{some, none}
 use lib.ListN.{get_elem?}
-use Rattle.atomic_table.specs.Table.{State, step, stepped, carried_after, keeps, Allows}
+use Rattle.atomic_table.specs.Table.{State, step, carried_after, keeps, Allows}
 use Rattle.pass_names.specs.Counts.{one_if}
 use Rattle.pass_names.specs.Passes.{within}
 use Rattle.pass_names.proofs.Counts.{set_there}
@@ -185,33 +185,26 @@ module _ (o : Opening) (id : ℕ) (v : BaseView BaseContent) (h : HeldContent Ba
         },
       )
 
--- the same as it is told to a seat whose event was picked
-pub enters_by : (o : Opening) (id : ℕ) (v : BaseView BaseContent) (h : HeldContent BaseContent) (timer : ℕ)
-    (event asked : Event) → v.opening ≡ o → asked ≡ event → v.id.live ≡ true
-    → MayEnter o v h (entry_in o v timer event)
-    → OwnNeeds v timer (timer_seen o v timer) event
-    → (slots : ℕ) (slot : List (ℕ × Option BaseContent)) (word stamp : ℕ) → word ≡ word_at o.bases timer
-    → stamp ≡ number_of (after (timer_seen o v timer) event)
-    → Allows (HasOneHistory o) slots id (v, slot) word (λ _. stamp) (λ _. EntersBy asked (step slots word stamp 0 none) (v, slot))
-enters_by o id v h timer event asked opening picked live may own slots slot word stamp word_is stamp_is s kept many at small =
+-- the same as it is told to a seat, of a row of the seat's opening
+pub enters_by : (o : Opening) (id : ℕ) (v : BaseView BaseContent) (h : HeldContent BaseContent) (timer : ℕ) (event : Event)
+    → v.opening ≡ o → v.id.live ≡ true → MayEnter o v h (entry_in o v timer event) → OwnNeeds v timer (timer_seen o v timer) event
+    → (slots : ℕ) (slot : List (ℕ × Option BaseContent)) → let stamp = number_of (after (timer_seen o v timer) event) in
+    Allows (HasOneHistory o) slots id (v, slot) (word_at o.bases timer) (λ _. stamp)
+    (λ _. EntersBy event (step slots (word_at o.bases timer) stamp 0 none) (v, slot))
+enters_by o id v h timer event opening live may own slots slot s kept many at small =
     let t = timer_seen o v timer in
-    let e = entry_in o v timer event in
     let along = go_along v timer t event (reply_to t event) may.allowed.needs own may.carries in
-    let r = enters o id v h e (claims_with_event timer t event v.claims)
-    (carry_after timer t event v.carry) live may slots slot along s kept many at
-    (subst (λ i. slice_index s.words i < 18446744073709551616) word_is small) in (
+    let r = enters o id v h (entry_in o v timer event) (claims_with_event timer t event v.claims) (carry_after timer t event v.carry) live may
+    slots slot along s kept many at small in (
       r.0,
       r.1,
       r.2,
-      subst (λ i. HasOneHistory o (stepped s i stamp id slot r.0 r.1)) (sym word_is)
-          (subst (λ x. HasOneHistory o (stepped s (word_at o.bases timer) x id slot r.0 r.1)) (sym stamp_is) r.3),
+      r.3,
       λ g k held at_word.
-          let same : h ≡ g = some_same h g (sym may.held ∙ held) in
-          let same_timer : timer ≡ k = omega (arith, word_is, at_word, ap (λ (o : Opening). o.bases) opening) in
+          let same_timer : timer ≡ k = omega (arith, at_word, ap (λ (q : Opening). q.bases) opening) in
           let me : SeatState = (v, slot) in
           let new : SeatState = (r.0, carried_after slot r.1) in
-          subst (λ (o : Opening). EntersAs o g k asked me new) (sym opening)
-          (subst (λ x. EntersAs o g k x me new) (sym picked)
-          (subst (λ x. EntersAs o x k event me new) same
-          (subst (λ x. EntersAs o h x event me new) same_timer r.4))),
+          subst (λ (q : Opening). EntersAs q g k event me new) (sym opening)
+          (subst (λ x. EntersAs o x k event me new) (some_same h g (sym may.held ∙ held))
+          (subst (λ x. EntersAs o h x event me new) same_timer r.4)),
     )

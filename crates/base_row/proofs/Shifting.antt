@@ -1,11 +1,11 @@
 -- One entry more, of a base that the first pass holds: the rule stays.
 use Rattle.base_row.specs.Places.{word_at}
 use Rattle.std.proofs.Common.{◌≡◌, ℕ, ◌+◌, ◌<◌, ◌≢◌, true, List, [], ◌∷◌, ◌++◌, length, refl, ap, sym, ◌∙◌, subst, ⊎_elim, arith, inr, inl}
-use Rattle.std.specs.Prelude.{slice_index, slice_set, Option}
+use Rattle.std.specs.Prelude.{slice_set, Option}
 use Rattle.std.proofs.lemmas.Bool.{cases_eq}
 use mathlib.Core.Option.{some, none}
 use lib.ListN.{get_elem?}
-use Rattle.atomic_table.specs.Table.{State, step, stepped, carried_after, keeps, Allows}
+use Rattle.atomic_table.specs.Table.{State, step, carried_after, keeps, Allows}
 use Rattle.pass_names.specs.Counts.{one_if}
 use Rattle.pass_names.specs.Passes.{within}
 use Rattle.pass_names.proofs.Counts.{set_there}
@@ -132,29 +132,23 @@ module _ (o : Opening) (id : ℕ) (v : BaseView BaseContent) (h : HeldContent Ba
         },
       )
 
--- the same as it is told to a seat whose event was picked
-pub shifts_by : (o : Opening) (id : ℕ) (v : BaseView BaseContent) (h : HeldContent BaseContent)
-    (event asked : BaseEvent) → v.opening ≡ o → asked ≡ event → v.id.live ≡ true
-    → MayEnterShift v h event
-    → (slots : ℕ) (slot : List (ℕ × Option BaseContent)) (word stamp : ℕ) → word ≡ word_at o.bases (base_place (length o.timers) h.base)
-    → stamp ≡ standing_number (standing_after h.content.standing event)
-    → Allows (HasOneHistory o) slots id (v, slot) word (λ _. stamp) (λ _. ShiftsBy asked (step slots word stamp 0 none) (v, slot))
-shifts_by o id v h event asked opening picked live may slots slot word stamp word_is stamp_is s kept many at small =
+-- the same as it is told to a seat, of a row of the seat's opening
+pub shifts_by : (o : Opening) (id : ℕ) (v : BaseView BaseContent) (h : HeldContent BaseContent) (event : BaseEvent) → v.opening ≡ o → v.id.live ≡ true
+    → MayEnterShift v h event → (slots : ℕ) (slot : List (ℕ × Option BaseContent))
+    → let word = word_at o.bases (base_place (length o.timers) h.base) in
+    let stamp = standing_number (standing_after h.content.standing event) in
+    Allows (HasOneHistory o) slots id (v, slot) word (λ _. stamp) (λ _. ShiftsBy event (step slots word stamp 0 none) (v, slot))
+shifts_by o id v h event opening live may slots slot s kept many at small =
     let reach : (t : ℕ) → t < length o.timers → 0 < (timer_at o.timers t).terms.reach =
-    λ t inside. subst (λ (o : Opening). 0 < (timer_at o.timers t).terms.reach) opening
-    (may.reach t (subst (λ (o : Opening). t < length o.timers) (sym opening) inside)) in
-    let r = shifts_word o id v h event live may reach slots slot s kept many at
-    (subst (λ i. slice_index s.words i < 18446744073709551616) word_is small) in (
+    subst (λ (q : Opening). (t : ℕ) → t < length q.timers → 0 < (timer_at q.timers t).terms.reach) opening may.reach in
+    let r = shifts_word o id v h event live may reach slots slot s kept many at small in (
       r.0,
       r.1,
       r.2,
-      subst (λ i. HasOneHistory o (stepped s i stamp id slot r.0 r.1)) (sym word_is)
-          (subst (λ x. HasOneHistory o (stepped s (word_at o.bases (base_place (length o.timers) h.base)) x id slot r.0 r.1)) (sym stamp_is) r.3),
+      r.3,
       λ g held.
-          let same : h ≡ g = some_same h g (sym may.held ∙ held) in
           let me : SeatState = (v, slot) in
           let new : SeatState = (r.0, carried_after slot r.1) in
-          subst (λ (o : Opening). EnteredShift o g asked me new) (sym opening)
-          (subst (λ x. EnteredShift o g x me new) (sym picked)
-          (subst (λ x. EnteredShift o x event me new) same r.4)),
+          subst (λ (q : Opening). EnteredShift q g event me new) (sym opening)
+          (subst (λ x. EnteredShift o x event me new) (some_same h g (sym may.held ∙ held)) r.4),
     )

@@ -11,9 +11,9 @@ store-requires g c =
     let key = c.args.cells.now.key in (
       c.requires.same,
       c.requires.word.1,
-      enters_by (record { bases = key.0; timers = key.1.value.items }) seat.id seat.me.0 c.requires.may.0 c.args.timer c.args.event.now g.K.EventPick.event
-          c.requires.about c.requires.asked c.requires.live c.requires.may.1 c.requires.own
-          c.args.cells.now.table_id.slots seat.me.1 c.args.word c.args.stamp c.requires.word.0 c.requires.stamp,
+      rw (c.requires.word.0, c.requires.stamp, c.requires.asked)
+          (enters_by (record { bases = key.0; timers = key.1.value.items }) seat.id seat.me.0 c.requires.may.0 c.args.timer c.args.event.now
+          c.requires.about c.requires.live c.requires.may.1 c.requires.own c.args.cells.now.table_id.slots seat.me.1),
     )
 
 pub returns-clause-entered : goal.returns-clause-entered

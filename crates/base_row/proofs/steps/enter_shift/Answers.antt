@@ -11,8 +11,9 @@ store-requires g c =
     let may = c.requires.may in (
       c.requires.same,
       may.3,
-      shifts_by (record { bases = key.0; timers = key.1.value.items }) seat.id seat.me.0 may.0 c.args.event.now g.K.BaseEventPick.event c.requires.about c.requires.asked c.requires.live
-          may.1 c.args.cells.now.table_id.slots seat.me.1 c.args.word c.args.stamp may.2 may.4,
+      rw (may.2, may.4, c.requires.asked)
+          (shifts_by (record { bases = key.0; timers = key.1.value.items }) seat.id seat.me.0 may.0 c.args.event.now c.requires.about c.requires.live
+          may.1 c.args.cells.now.table_id.slots seat.me.1),
     )
 
 pub returns-clause-shifted : goal.returns-clause-shifted
