@@ -109,10 +109,6 @@ timer_seen o v t = (system_after o.timers v.seen).timers t
 abbrev pub base_seen : Opening → BaseView BaseContent → ℕ → BaseContent
 base_seen o v b = (system_after o.timers v.seen).bases b
 
--- the system after a history of a row that was made so, in its parts
-abbrev pub now : ℕ → List Timer → (Timer → ℕ) → List SystemEntry → System
-now bases opened code log = system_after opened log
-
 module _ (o : Opening) where
   -- what a pass holds is what the base has, by the whole history and by what the pass has seen
   pub record HeldHolds (log : List SystemEntry) (words : List ℕ) (v : BaseView BaseContent) (h : HeldContent BaseContent) : Type 0 where

@@ -148,10 +148,10 @@ module _ {s : Script} {x : WorldOf} {l : LaneOf} {call : Call} (next : IsNextCal
   )
 
 -- law: what was so between two moments was so between two that are further apart
-pub front_wider : {w : Witness} {low first last high base : ℕ} → low ≤ first → last ≤ high → (ys : List Evacuation)
+pub front_wider : (w : Witness) (base : ℕ) {low first last high : ℕ} → low ≤ first → last ≤ high → (ys : List Evacuation)
     → AllByRecursion (WasFront w first last base) ys → AllByRecursion (WasFront w low high base) ys
-front_wider le more [] all = tt
-front_wider le more (y ∷ ys) all = (
+front_wider w base le more [] all = tt
+front_wider w base le more (y ∷ ys) all = (
   record {
     at = all.0.at;
     from = omega (arith, le, all.0.from);
@@ -159,7 +159,7 @@ front_wider le more (y ∷ ys) all = (
     stamp = all.0.stamp;
     front = all.0.front;
   },
-  front_wider le more ys all.1,
+  front_wider w base le more ys all.1,
 )
 
 module _ {s : Script} {x : WorldOf} {l : LaneOf} {call : Call} (next : IsNextCall s x l call) (base heir : ℕ) (reading : ClockReading) (p : ObjectsPass) where
@@ -263,7 +263,7 @@ module _ {s : Script} {x : WorldOf} {l : LaneOf} {call : Call} (next : IsNextCal
         keeps = λ e joined goes. All-append _ ys zs
             (one.keeps e joined (goes_before rest.part.timers.enters.seen goes)) (rest.keeps e joined goes);
         turns = λ e joined goes. All-append _ ys zs
-            (front_wider (omega arith) (begins_length rest.part.timers.enters.seen) ys
+            (front_wider (witness_of s e) base (omega arith) (begins_length rest.part.timers.enters.seen) ys
             (one.turns e joined (goes_before rest.part.timers.enters.seen goes)))
-            (front_wider (begins_length one.part.timers.enters.seen) (omega arith) zs (rest.turns e joined goes));
+            (front_wider (witness_of s e) base (begins_length one.part.timers.enters.seen) (omega arith) zs (rest.turns e joined goes));
       }

@@ -150,7 +150,7 @@ moves_off : {s : Script} {x : WorldOf} {l : LaneOf} {call : Call} (next : IsNext
     {w : KnownOfTimers} {budget : ℕ} {a : OfflineAnswer} {fresh log : LogOf Receipt} → fresh.receipts ≡ []
     → (g : GoesOffline kept x.timers.about base heir reading l.pass.timers.known w budget a fresh log)
     → MovesOff next base heir reading g.evacuates.mid (length g.evacuates.timers) g.evacuates.between.receipts
-moves_off {l = l} next base heir reading {fresh = fresh} empty g =
+moves_off {s = s} {l = l} next base heir reading {fresh = fresh} empty g =
     let all = all_moved next base heir reading l.pass.objects g.evacuates.timers fresh g.evacuates.between g.evacuates.moves in
     let so = all.so in
     let same : all.log ≡ g.evacuates.between.receipts = sym (all.adds ∙ ap (λ rs. rs ++ all.log) empty) in
@@ -163,7 +163,7 @@ moves_off {l = l} next base heir reading {fresh = fresh} empty g =
         only = so.only;
         no_looks = so.no_looks;
         keeps = so.keeps;
-        turns = λ e joined goes. front_wider (begins_length g.looks.seen) (omega arith) all.moved (so.turns e joined goes);
+        turns = λ e joined goes. front_wider (witness_of s e) base (begins_length g.looks.seen) (omega arith) all.moved (so.turns e joined goes);
       });
     }
 
@@ -190,7 +190,7 @@ module _ {s : Script} {x : WorldOf} {l : LaneOf} (m : LaneOf) {base heir budget 
   moved_so : (e : Ending) → IsJoined s e → GoesOn mid.seen e → length mid.seen ≤ length m.pass.timers.known.seen
       → AllKeepExpiries s e.run (calls.Offline base heir budget) off.moved × AllMoved (WasFront (witness_of s e) (length l.pass.timers.known.seen)
       (length m.pass.timers.known.seen)) (calls.Offline base heir budget) off.moved
-  moved_so e joined goes more = (off.so.keeps e joined goes, front_wider (omega arith) more off.moved (off.so.turns e joined goes))
+  moved_so e joined goes more = (off.so.keeps e joined goes, front_wider (witness_of s e) base (omega arith) more off.moved (off.so.turns e joined goes))
 
   -- law: so the call ended without an entry of the base
   pub ended_by_look : (a : Answer) → shift_by base heir a ≡ [] → LooksOn mid m.pass.timers.known → m.notes ≡ with_done l.notes l.label log [] → DoesSo a

@@ -14,8 +14,7 @@ use Rattle.seq_timer.specs.declared.event.EventBy.TheVariants.{Out, Start}
 use Rattle.base_row.specs.declared.view.BaseView.{BaseView}
 use Rattle.base_row.specs.declared.view.HeldContent.{HeldContent}
 use Rattle.base_row.specs.declared.view.Opening.{Opening}
-use Rattle.base_row.specs.Rules.{now, number_of}
-use Rattle.base_row.specs.Calls.{MayAppend, opening_of, timer_seen}
+use Rattle.base_row.specs.Calls.{MayAppend, base_seen, opening_of, timer_seen}
 use Rattle.base_row.proofs.Placed.{terms_now}
 use Rattle.shared_timer_uses.specs.Rows.{HasNoReach}
 
@@ -32,7 +31,7 @@ near_on bases terms list none t inside = ap (λ (x : Timer). x.terms.reach)
 
 -- a timer that rests on a held base which is on line may be started there, below its limit
 pub may_start_here : (o : Opening) (v : BaseView BaseContent) (h : HeldContent BaseContent) (t : ℕ) (asked : Asked)
-    → h.content.standing.heir ≡ None → h.content ≡ (now o.bases o.timers number_of v.seen).bases h.base → t < length o.timers → v.held ≡ Some h
+    → h.content.standing.heir ≡ None → h.content ≡ base_seen o v h.base → t < length o.timers → v.held ≡ Some h
     → IsOn h.base (timer_seen o v t) → asked.base ≡ h.base → (timer_seen o v t).stamp < (timer_seen o v t).terms.limit → MayAppend o v h t (Start asked)
 may_start_here o v h t asked online whole inside held on here room = record {
   may = record {
@@ -43,7 +42,7 @@ may_start_here o v h t asked online whole inside held on here room = record {
       reply = refl;
       base = record {
         needs = tt;
-        online = subst (λ q. ((now o.bases o.timers number_of v.seen).bases q).standing.heir ≡ None) (sym on.at)
+        online = subst (λ q. (base_seen o v q).standing.heir ≡ None) (sym on.at)
             (subst (λ (x : BaseContent). x.standing.heir ≡ None) whole online);
       };
     };
