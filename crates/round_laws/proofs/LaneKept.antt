@@ -26,6 +26,7 @@ fits_behind w c call a less before after no_less fits = record {
   traced = fits.traced;
   does = fits.does;
   keeps = fits.keeps;
+  turns = fits.turns;
   reading = fits.reading;
   begins = fits.begins;
   ends = fits.ends;
