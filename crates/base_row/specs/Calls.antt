@@ -6,7 +6,6 @@ use Rattle.pass_names.specs.SharedHistory.{Known}
 use Rattle.seq_timer.specs.declared.context.Terms.{Terms}
 use Rattle.seq_timer.specs.declared.context.Declared.{Declared}
 use Rattle.seq_timer.specs.Events.{Event}
-use Rattle.seq_timer.specs.declared.event.EventBy.TheVariants as events
 use Rattle.seq_timer.specs.declared.system.SystemEntry.{SystemEntry}
 use Rattle.seq_timer.specs.declared.standing.BaseEvent.{BaseEvent}
 use Rattle.seq_timer.specs.Steps.{Timer, HasRoom, reply_to}
@@ -64,15 +63,6 @@ pub record Appended (o : Opening) (h : HeldContent BaseContent) (t : ℕ) (event
 -- a held base after this entry
 abbrev pub stepped : Opening → BaseView BaseContent → HeldContent BaseContent → ℕ → Event → HeldContent BaseContent
 stepped o v h t event = record h { content = changed t (timer_seen o v t) event h.content }
-
--- whether an event is a start
-abbrev pub IsStart : Event → Type 0
-IsStart (events.Start asked) = Unit {0}
-IsStart (events.Out base) = ⊥
-IsStart events.Cancel = ⊥
-IsStart (events.Claim base reading) = ⊥
-IsStart (events.Forward reading interval) = ⊥
-IsStart (events.Finish restart) = ⊥
 
 -- the first pass has made this entry of a base
 pub record Shifted (o : Opening) (h : HeldContent BaseContent) (event : BaseEvent) (v w : BaseView BaseContent) : Type 0 where

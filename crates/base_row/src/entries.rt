@@ -1,12 +1,13 @@
 //! Entries of timers, made under the lock of the base that the timer is on.
-ghost use Rattle.std.specs.Prelude.{◌≡◌, ◌+◌, ◌<◌, ◌≤◌, Some, None, length};
+ghost use Rattle.std.specs.Prelude.{◌≡◌, ◌+◌, ◌<◌, ◌≤◌, true, Some, None, length};
 ghost use Rattle.seq_timer.specs.declared.event.EventBy.TheVariants as events;
+ghost use Rattle.seq_timer.specs.Effects.{effect, is_start};
 ghost use Rattle.seq_timer.specs.Steps.{after, reply_to};
 ghost use Rattle.seq_timer.specs.Systems.{BaseContent, IsOn};
 ghost use Rattle.seq_timer.specs.Tables.{timer_at};
 ghost use Rattle.base_row.specs.declared.view.HeldContent.{HeldContent};
 ghost use Rattle.base_row.specs.Plays.{carry_after};
-ghost use Rattle.base_row.specs.Calls.{IsBasePassOf, IsStart, MayAppend, Appended, own_receipt, stepped, timer_seen};
+ghost use Rattle.base_row.specs.Calls.{IsBasePassOf, MayAppend, Appended, own_receipt, stepped, timer_seen};
 
 use crate::held::{HeldBase, Pass};
 use crate::log::{ReceiptSink, Unlogged};
@@ -164,7 +165,7 @@ impl BaseRow {
         requires may { MayAppend self.now.about pass.old.knows held.old timer event }
         requires carried { pass.old.knows.carry ≡ Some timer }
         requires state { state ≡ timer_seen self.now.about pass.old.knows timer }
-        requires start { IsStart event }
+        requires start { is_start (effect state event) ≡ true }
         ensures row { IsBasePassOf self.now pass.new }
         ensures reply { result ≡ reply_to (timer_seen self.now.about pass.old.knows timer) event }
         ensures held { pass.new.knows.held ≡ Some held.new }
@@ -188,7 +189,7 @@ impl BaseRow {
         requires may { MayAppend self.now.about pass.old.knows held.old timer event.now }
         requires carried { pass.old.knows.carry ≡ Some timer }
         requires state { state.now ≡ timer_seen self.now.about pass.old.knows timer }
-        requires start { IsStart event.now }
+        requires start { is_start (effect state.now event.now) ≡ true }
         requires room { 0 < S.room sink.old }
         ensures row { IsBasePassOf self.now pass.new }
         ensures reply { result ≡ reply_to (timer_seen self.now.about pass.old.knows timer) event.now }

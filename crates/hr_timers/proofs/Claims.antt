@@ -41,7 +41,7 @@ module _ (o : Opening) (v : BaseView BaseContent) (knows : KnowsBases o v) (h : 
     needs = subst (λ y. (running_in y (base_seen o v h.base).content ≡ None)
         × (next_on y (base_seen o v h.base) reading ≡ Some ((timer_seen o v timer).expires, timer))) (sym own)
         (subst (λ (b : BaseContent). running_in x b.content ≡ None) (knows.held h held).1.0 free, first);
-    online = tt;
+    online = λ is. absurd (true≢false (sym is));
   }
 
   pub may_claim : MayAppend o v h timer (events.Claim h.base reading)

@@ -1,5 +1,6 @@
 -- What the first pass sees of bases: nothing but its own entries of them.
 use Rattle.std.proofs.Common.{add-one, ◌^◌, ◌≡◌, ◌+◌, eqb, ℕ, ◌<◌, ◌≤◌, true, List, [], ◌∷◌, ◌++◌, length, Some, None, is_some, if◌then◌else◌, refl, ap, sym, subst, ◌∙◌, arith}
+use Rattle.std.proofs.lemmas.Bool.{true≢false}
 use Rattle.std.proofs.lemmas.Bool.Decides.{nat_tests}
 use Rattle.seq_timer.specs.declared.event.EventBy.TheVariants as events
 use Rattle.seq_timer.specs.Steps.{Timer, may_send}
@@ -69,7 +70,7 @@ may_send_on o v h t to inside held carry moves here idle down within few reach =
       within = inside;
       needs = (ap is_some idle, (λ same. omega (arith, same, here, down)), sends_down (rows.timer_seen o v t) to moves (omega (arith, here, down)) (omega (arith, down, within, few)) reach);
       reply = refl;
-      base = record { needs = omega (arith, down, within); online = tt };
+      base = record { needs = omega (arith, down, within); online = λ is. absurd (true≢false (sym is)) };
     };
     base = here;
     carries = λ m. carry;

@@ -118,7 +118,7 @@ stranded_doesnt_fit fits =
     let order : List Owner = BasesList 1 ∷ TimersList 0 ∷ TimersList 0 ∷ [] in
     let o = in_one_order_of stranded_script stranded_record (moves_by stranded_record [] order) refl (refl, tt) (refl, (refl, tt)) refl fits in
     -- at the third place, where the timer is started
-    on_line o.2.history.history.1.1.0.base.online
+    on_line (o.2.history.history.1.1.0.base.online refl)
   where
     on_line : {heir : ℕ} → Some heir ≡ None → ⊥
     on_line wrong = cc

@@ -1,7 +1,7 @@
 -- Small witnesses, given by lists: short words for them, facts of all numbers by the places of lists, and timers that are not there.
 use Rattle.std.proofs.Common.{◌≡◌, ◌≤◌, ℕ, ◌+◌, zero, suc, Bool, true, false, ◌&&◌, not, is_some, nat_eq, nat_le, nat_lt, None, Option, Some, List, [], ◌∷◌, ◌++◌, if◌then◌else◌, filter, flat_map, length, map, take, get_or, arith, refl, sym, ap, ◌∙◌, subst, inl}
 use Rattle.std.specs.List.{AllByRecursion, list_all}
-use Rattle.std.proofs.lemmas.Bool.{and_parts}
+use Rattle.std.proofs.lemmas.Bool.{and_parts, true≢false}
 use Rattle.std.proofs.lemmas.List.{get_or_past, length-map, take-map}
 use Rattle.ktime.specs.declared.clock_id.ClockId.{ClockId}
 use Rattle.ktime.specs.declared.clock_id.ClockId.TheVariants as clocks
@@ -9,11 +9,8 @@ use Rattle.seq_timer.specs.declared.context.Context.{Context}
 use Rattle.seq_timer.specs.declared.context.Context.TheVariants as contexts
 use Rattle.seq_timer.specs.Histories.{after_all}
 use Rattle.seq_timer.specs.Steps.{Needs, Timer, opening, reply_to}
-use Rattle.seq_timer.specs.Effects.{NeedsOfBases, effect}
-use Rattle.seq_timer.specs.Events.{Event}
-use Rattle.seq_timer.specs.declared.event.EventBy.TheVariants as events
-use Rattle.seq_timer.specs.declared.standing.Standing.{Standing}
-use Rattle.seq_timer.specs.Systems.{BeginsInTurn, FindsOnLine, entries_of, first_system, IsSystemStep, System, next_on, openings}
+use Rattle.seq_timer.specs.Effects.{NeedsOfBases, effect, is_start}
+use Rattle.seq_timer.specs.Systems.{BeginsInTurn, entries_of, first_system, IsSystemStep, System, next_on, openings}
 use Rattle.seq_timer.specs.Tables.{in_context, is_kept_on, IsStopped, no_timer, runs_on, seen_in, timer_at}
 use Rattle.seq_timer.specs.declared.system.TimerEntry.{TimerEntry}
 use Rattle.seq_timer.proofs.Systems.{after_entries-entries_of}
@@ -111,38 +108,27 @@ stays {Reached} {limit} {base} {a} below none same = record {
   way = subst (λ outs. IsSentBy Reached base (map (λ out. out.base) outs) a.asked) (sym none) ([], same);
 }
 
--- whether an event finds its base on line, where it needs that
-abbrev pub finds : Standing → Event → Bool
-finds s (events.Out base) = true
-finds s (events.Start asked) = not (is_some s.heir)
-finds s events.Cancel = true
-finds s (events.Claim base reading) = true
-finds s (events.Forward reading interval) = true
-finds s (events.Finish restart) = true
+-- whether a start, if it is one, finds its base on line
+abbrev pub finds : Bool → Option ℕ → Bool
+finds starts heir = if starts then not (is_some heir) else true
 
-finds_pass : (s : Standing) (event : Event) → finds s event ≡ true → FindsOnLine s event
-finds_pass s (events.Out base) e = tt
-finds_pass s (events.Start asked) e = by_heir s.heir e
-  where
-    by_heir : (heir : Option ℕ) → not (is_some heir) ≡ true → heir ≡ None
-    by_heir None e = refl
-    by_heir (Some heir) e = absurd (cc)
-finds_pass s events.Cancel e = tt
-finds_pass s (events.Claim base reading) e = tt
-finds_pass s (events.Forward reading interval) e = tt
-finds_pass s (events.Finish restart) e = tt
+finds_pass : (starts : Bool) (heir : Option ℕ) → finds starts heir ≡ true → starts ≡ true → heir ≡ None
+finds_pass true None e is = refl
+finds_pass true (Some heir) e is = absurd (cc)
+finds_pass false heir e is = absurd (true≢false (sym is))
 
 -- an entry of a timer may come next
 pub step : {bases count : ℕ} {w : System} {e : TimerEntry}
-    → (nat_lt e.timer count && finds (w.bases (w.timers e.timer).base).standing e.event) ≡ true → Needs (w.timers e.timer) e.event
+    → (nat_lt e.timer count && finds (is_start (effect (w.timers e.timer) e.event)) (w.bases (w.timers e.timer).base).standing.heir) ≡ true → Needs (w.timers e.timer) e.event
     → e.reply ≡ reply_to (w.timers e.timer) e.event
     → NeedsOfBases (BeginsInTurn (w.bases (w.timers e.timer).base) e.timer (w.timers e.timer)) bases (effect (w.timers e.timer) e.event).function
     (effect (w.timers e.timer) e.event).sent
     → IsSystemStep bases count w e
 step {w = w} {e = e} there needs reply base =
     let b = w.bases (w.timers e.timer).base in
-    let parts = and_parts (nat_lt e.timer _) (finds b.standing e.event) there in
-    record { within = lt parts.0; needs = needs; reply = reply; base = record { needs = base; online = finds_pass b.standing e.event parts.1 } }
+    let starts = is_start (effect (w.timers e.timer) e.event) in
+    let parts = and_parts (nat_lt e.timer _) (finds starts b.standing.heir) there in
+    record { within = lt parts.0; needs = needs; reply = reply; base = record { needs = base; online = finds_pass starts b.standing.heir parts.1 } }
 
 -- ---- facts of all numbers
 

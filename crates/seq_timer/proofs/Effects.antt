@@ -119,6 +119,7 @@ pub record NeedsBy (t now : Timer) (d : Effect) : Type 0 where
   pub queue : QueueNeeds d.queue d.sent t now
   pub function : RunNeeds d.function d.by_claimer t now
   pub sent : SentNeeds d.sent t now
+  pub claimed : d.by_claimer ≡ true → IsSome t.running
   pub left : HasLeft t → HasLeft now
 
 -- what an event leaves of its timer, and answers
@@ -166,6 +167,7 @@ by_effect t (events.Out base) = record {
     queue = tt;
     function = tt;
     sent = (none_of t.running needs.0, refl, none_of t.running needs.0);
+    claimed = λ is. absurd (true≢false (sym is));
     left = λ left. record { few = grind (arith, nat_tests, needs, left.few, left.apart); apart = grind (arith, nat_tests, needs) };
   };
 }
@@ -182,6 +184,7 @@ by_effect t (events.Start asked) = record {
     queue = (refl, λ apart. refl);
     function = tt;
     sent = λ apart. refl;
+    claimed = λ is. absurd (true≢false (sym is));
     left = λ left. record { few = grind (arith, nat_tests, needs, left.few, left.apart); apart = refl };
   };
 }
@@ -198,6 +201,7 @@ by_effect t events.Cancel = record {
     queue = needs.0;
     function = tt;
     sent = λ apart. needs.2;
+    claimed = λ is. absurd (true≢false (sym is));
     left = λ left. record { few = grind (arith, nat_tests, needs, left.few, left.apart); apart = grind (arith, nat_tests, needs) };
   };
 }
@@ -214,6 +218,7 @@ by_effect t (events.Claim base reading) = record {
     queue = needs.0;
     function = record { armed = needs.0; idle = none_of t.running needs.2; still = needs.3; disarmed = refl; base = refl };
     sent = λ apart. needs.3;
+    claimed = λ is. absurd (true≢false (sym is));
     left = λ left. record { few = grind (arith, nat_tests, needs, left.few, left.apart); apart = grind (arith, nat_tests, needs) };
   };
 }
@@ -232,6 +237,7 @@ by_effect t (events.Forward reading interval) = record {
         queue = λ base clock. wanted-unarmed base clock now none ∙ sym (wanted-unarmed base clock t none);
         function = tt;
         sent = λ apart. still_running t needs.0 apart;
+        claimed = λ is. needs.0;
         left = λ left. record { few = grind (arith, nat_tests, needs, left.few, left.apart); apart = left.apart };
       };
 }
@@ -248,6 +254,7 @@ by_effect t (events.Finish restart) = record {
     queue = queue-finished t (arms_again t restart) needs;
     function = record { runs = needs; base = refl; claimed = refl };
     sent = λ apart. still_running t needs apart;
+    claimed = λ is. needs;
     left = λ left. record {
       few = grind (arith, nat_tests, needs, left.few, left.apart);
       apart = grind (arith, nat_tests, needs, left.apart);

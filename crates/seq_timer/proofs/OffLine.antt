@@ -1,5 +1,5 @@
--- A base that is off line has empty queues, and no function runs there; so no timer is started, claimed or armed again on it.
-use Rattle.std.proofs.Common.{◌≡◌, ℕ, ◌<◌, false, List, [], ◌∷◌, length, Option, Some, None, IsSome, refl, ap, sym, ◌∙◌, subst, arith}
+-- A base that is off line has empty queues, and no function runs there; so no timer is armed on it, and no function begins there.
+use Rattle.std.proofs.Common.{◌≡◌, ℕ, ◌<◌, Bool, true, false, if◌then◌else◌, List, [], ◌∷◌, length, Option, Some, None, IsSome, refl, ap, sym, ◌∙◌, subst, arith}
 use Rattle.std.proofs.Math.Logic.{⊎_elim}
 use Rattle.std.proofs.lemmas.Bool.{cases_eq, true≢false}
 use Rattle.std.proofs.lemmas.Bool.Decides.{nat_tests}
@@ -9,8 +9,12 @@ use Rattle.seq_timer.specs.declared.context.Context.{Context}
 use Rattle.seq_timer.specs.declared.context.Context.TheVariants as contexts
 use Rattle.seq_timer.specs.declared.context.Declared.{Declared}
 use Rattle.seq_timer.specs.declared.context.Terms.{Terms}
+use Rattle.seq_timer.specs.declared.effect.QueueEffect.{QueueEffect}
+use Rattle.seq_timer.specs.declared.effect.QueueEffect.TheVariants as queues
+use Rattle.seq_timer.specs.declared.effect.RunEffect.{RunEffect}
+use Rattle.seq_timer.specs.declared.effect.RunEffect.TheVariants as functions
+use Rattle.seq_timer.specs.Effects.{NeedsOfBases, effect, is_arming, is_beginning, WantsOnLine}
 use Rattle.seq_timer.specs.Events.{Event}
-use Rattle.seq_timer.specs.declared.event.EventBy.TheVariants as events
 use Rattle.seq_timer.specs.declared.standing.BaseEvent.{BaseEvent}
 use Rattle.seq_timer.specs.declared.standing.BaseEvent.TheVariants as shifts
 use Rattle.seq_timer.specs.declared.standing.Standing.{Standing}
@@ -19,12 +23,11 @@ use Rattle.seq_timer.specs.declared.system.SystemEntry.{SystemEntry}
 use Rattle.seq_timer.specs.declared.system.SystemEntry.TheVariants as entries
 use Rattle.seq_timer.specs.declared.system.TimerEntry.{TimerEntry}
 use Rattle.seq_timer.specs.Standings.{AreShifts, IsStanding, MayShift, first_standing, standing_after, standing_after_all}
-use Rattle.seq_timer.specs.Steps.{Timer, Needs, opening}
+use Rattle.seq_timer.specs.Steps.{Timer, Needs, after, opening}
 use Rattle.seq_timer.specs.Tables.{IsUnused, in_context, runs_on, timer_at}
-use Rattle.seq_timer.specs.Halves.{Half, generation_in, half_after, no_half, running_on}
+use Rattle.seq_timer.specs.Halves.{Half, generation_in, half_after, no_half, queued_by, run_by, running_on}
 use Rattle.seq_timer.specs.Contents.{IsContentOf, content_after, first_due, half_of, no_content, with_half}
-use Rattle.seq_timer.specs.Systems.{AreSystemSteps, BaseContent, FitsBase, IsBaseStep, IsClear, IsSystemHistory, IsSystemStep, MayCome, System, after_entries, after_entry, after_one, after_shift, first_system, openings, shifts_of, system_of}
-use Rattle.seq_timer.specs.Turns.{Names}
+use Rattle.seq_timer.specs.Systems.{AreSystemSteps, BaseContent, BeginsInTurn, FitsBase, IsBaseStep, IsClear, IsSystemHistory, IsSystemStep, MayCome, System, after_entries, after_entry, after_one, after_shift, first_system, openings, shifts_of, system_of}
 use Rattle.seq_timer.proofs.Agreement.{Agrees, agrees_one, content_of_changed, first_agrees}
 use Rattle.seq_timer.proofs.Contents.{seen_own}
 use Rattle.seq_timer.proofs.Effects.{by_effect}
@@ -64,10 +67,20 @@ clear_with : (x : Context) (h : Half) → h ≡ no_half → with_half x h no_con
 clear_with contexts.Hard h is = ap (λ h. record no_content { hard = h }) is
 clear_with contexts.Soft h is = ap (λ h. record no_content { soft = h }) is
 
--- an event that does nothing to a half with nothing leaves a base with nothing so
+-- an event that leaves a half with nothing so leaves a base with nothing so
 stays : (id : ℕ) (t : Timer) (e : Event) → half_after id t e no_half ≡ no_half → content_after id t e no_content ≡ no_content
 stays id t e same = clear_with t.declared.context (half_after id t e (half_of t.declared.context no_content))
     (ap (half_after id t e) (half_in t.declared.context) ∙ same)
+
+queue_stays : (q : QueueEffect) (id : ℕ) (now : Timer) → (is_arming q ≡ true → ⊥) → queued_by q id now no_half ≡ no_half
+queue_stays queues.Stays id now unarmed = refl
+queue_stays queues.Leaves id now unarmed = refl
+queue_stays queues.Armed id now unarmed = absurd (unarmed refl)
+
+function_stays : (f : RunEffect) (id : ℕ) (armed : Option ℕ) → (is_beginning f ≡ true → ⊥) → run_by f id armed no_half ≡ no_half
+function_stays functions.Stays id armed idle = refl
+function_stays (functions.Begins reading) id armed idle = absurd (idle refl)
+function_stays functions.Ends id armed idle = refl
 
 -- ---- an entry of a timer
 
@@ -80,39 +93,37 @@ no_heir heir off = cc
 runs_here : (t : Timer) → IsSome t.running → runs_on t.base t ≡ false → ⊥
 runs_here t some none = grind (arith, nat_tests)
 
-claimed_nowhere : (bases id : ℕ) (t : Timer) (b : BaseContent) (base : ℕ) (reading : ClockReading) → FitsBase bases b id t (events.Claim base reading)
-    → b.content ≡ no_content → ⊥
-claimed_nowhere bases id t b base reading fits clear =
-    none_due t.declared.context (timer_at b.states) reading (t.expires, id)
-    (ap (λ c. first_due t.declared.context (timer_at b.states) c reading) (sym clear) ∙ fits.needs.1)
+-- a timer on a base that is off line, has nothing and runs no function
+module _ (bases id : ℕ) (t : Timer) (b : BaseContent) (heir : ℕ) (idle : runs_on t.base t ≡ false) (off : b.standing.heir ≡ Some heir)
+    (clear : b.content ≡ no_content) where
+  -- isn't armed there
+  unarmed_there : (by_claimer arms : Bool) → (by_claimer ≡ true → IsSome t.running) → ((if by_claimer then false else arms) ≡ true → b.standing.heir ≡ None)
+      → arms ≡ true → ⊥
+  unarmed_there true arms claimed online is = runs_here t (claimed refl) idle
+  unarmed_there false arms claimed online is = some_none heir (sym off ∙ online is)
 
--- an entry of a timer that is on a base that is off line leaves it with nothing
-clear_stays : (bases id : ℕ) (t : Timer) (b : BaseContent) (e : Event) (heir : ℕ) → Needs t e → FitsBase bases b id t e → runs_on t.base t ≡ false
-    → b.standing.heir ≡ Some heir → b.content ≡ no_content → content_after id t e no_content ≡ no_content
-clear_stays bases id t b (events.Out base) heir needs fits idle off clear = stays id t (events.Out base) refl
-clear_stays bases id t b (events.Start asked) heir needs fits idle off clear = absurd (some_none heir (sym off ∙ fits.online))
-clear_stays bases id t b events.Cancel heir needs fits idle off clear = stays id t events.Cancel refl
-clear_stays bases id t b (events.Claim base reading) heir needs fits idle off clear = absurd (claimed_nowhere bases id t b base reading fits clear)
-clear_stays bases id t b (events.Forward reading interval) heir needs fits idle off clear = absurd (runs_here t needs.0 idle)
-clear_stays bases id t b (events.Finish restart) heir needs fits idle off clear = absurd (runs_here t needs idle)
+  -- nor does its function begin there
+  unclaimed_there : (f : RunEffect) (sent : Option ℕ) → NeedsOfBases (BeginsInTurn b id t) bases f sent → is_beginning f ≡ true → ⊥
+  unclaimed_there functions.Stays sent needs is = true≢false (sym is)
+  unclaimed_there (functions.Begins reading) sent needs is = none_due t.declared.context (timer_at b.states) reading (t.expires, id)
+      (ap (λ c. first_due t.declared.context (timer_at b.states) c reading) (sym clear) ∙ needs.1)
+  unclaimed_there functions.Ends sent needs is = true≢false (sym is)
 
-named_at : (base : ℕ) (t : Timer) (e : Event) → Names base t e → t.base ≡ base
-named_at base t (events.Out to) names = absurd names
-named_at base t (events.Start asked) names = names
-named_at base t events.Cancel names = absurd names
-named_at base t (events.Claim on reading) names = names
-named_at base t (events.Forward reading interval) names = absurd names
-named_at base t (events.Finish restart) names = names.0
+  module _ (e : Event) (needs : Needs t e) (fits : FitsBase bases b id t e) where
+    unarmed : is_arming (effect t e).queue ≡ true → ⊥
+    unarmed = unarmed_there (effect t e).by_claimer (is_arming (effect t e).queue) ((by_effect t e).needs needs).claimed fits.online
 
--- no entry names a base that is off line
-refused : (bases id base : ℕ) (t : Timer) (b : BaseContent) (e : Event) (heir : ℕ) → Needs t e → FitsBase bases b id t e → runs_on t.base t ≡ false
-    → b.standing.heir ≡ Some heir → b.content ≡ no_content → Names base t e → ⊥
-refused bases id base t b (events.Out to) heir needs fits idle off clear names = names
-refused bases id base t b (events.Start asked) heir needs fits idle off clear names = some_none heir (sym off ∙ fits.online)
-refused bases id base t b events.Cancel heir needs fits idle off clear names = names
-refused bases id base t b (events.Claim on reading) heir needs fits idle off clear names = claimed_nowhere bases id t b on reading fits clear
-refused bases id base t b (events.Forward reading interval) heir needs fits idle off clear names = names
-refused bases id base t b (events.Finish restart) heir needs fits idle off clear names = runs_here t needs idle
+    unclaimed : is_beginning (effect t e).function ≡ true → ⊥
+    unclaimed = unclaimed_there (effect t e).function (effect t e).sent fits.needs
+
+    -- an entry of it leaves the base with nothing
+    clear_stays : content_after id t e no_content ≡ no_content
+    clear_stays = stays id t e (ap (run_by (effect t e).function id t.armed) (queue_stays (effect t e).queue id (after t e) unarmed)
+        ∙ function_stays (effect t e).function id t.armed unclaimed)
+
+    -- and wants no base on line
+    wants_none : WantsOnLine (effect t e) → ⊥
+    wants_none wants = ⊎_elim unarmed unclaimed wants
 
 -- ---- all bases
 
@@ -140,7 +151,7 @@ module _ (bases count : ℕ) where
             subst (λ q. ((after_entry w e).bases q).content ≡ no_content) (sym here)
             (ap (λ (x : BaseContent). x.content) (base_here w e) ∙ (content_of_changed e.timer t e.event (w.bases t.base)
             ∙ (ap (content_after e.timer t e.event) none
-            ∙ clear_stays bases e.timer t (w.bases t.base) e.event heir ok.needs ok.base ((unused w agrees t.base none).idle e.timer) off none))))
+            ∙ clear_stays bases e.timer t (w.bases t.base) heir ((unused w agrees t.base none).idle e.timer) off none e.event ok.needs ok.base))))
             (λ there. ap (λ (x : BaseContent). x.content) (base_else w e b there) ∙ clear.each b heir (before b heir off'))
             (cases_eq b t.base);
         reach = λ b heir off' k within. subst (λ (x : Terms). 0 < x.reach) (sym (terms_same w e k)) (clear.reach b heir (before b heir off') k within);
@@ -177,12 +188,10 @@ module _ (bases count : ℕ) where
   clear_after w [] all agrees clear = clear
   clear_after w (x ∷ xs) all agrees clear = clear_after (after_one w x) xs all.1 (agrees_one bases count w x all.0 agrees) (clear_one w x all.0 agrees clear)
 
-  -- an entry that names a base finds it on line
-  pub online_named : (w : System) (e : TimerEntry) → IsSystemStep bases count w e → Agrees w → IsClearOff count w → (base : ℕ)
-      → Names base (w.timers e.timer) e.event → (w.bases base).standing.heir ≡ None
-  online_named w e ok agrees clear base names =
-      subst (λ q. (w.bases q).standing.heir ≡ None) (named_at base t e.event names)
-      (by_heir (w.bases t.base).standing.heir refl)
+  -- an entry that wants its timer's base on line finds it so
+  pub online_wanted : (w : System) (e : TimerEntry) → IsSystemStep bases count w e → Agrees w → IsClearOff count w
+      → WantsOnLine (effect (w.timers e.timer) e.event) → (w.bases (w.timers e.timer).base).standing.heir ≡ None
+  online_wanted w e ok agrees clear wants = by_heir (w.bases t.base).standing.heir refl
     where
       t : Timer
       t = w.timers e.timer
@@ -191,7 +200,7 @@ module _ (bases count : ℕ) where
       by_heir None is = is
       by_heir (Some heir) is =
           let none = clear.each t.base heir is in
-          absurd (refused bases e.timer base t (w.bases t.base) e.event heir ok.needs ok.base ((unused w agrees t.base none).idle e.timer) is none names)
+          absurd (wants_none bases e.timer t (w.bases t.base) heir ((unused w agrees t.base none).idle e.timer) is none e.event ok.needs ok.base wants)
 
 -- nothing has happened yet: all bases are on line
 pub clear_first : (opened : List Timer) → IsClearOff (length opened) (first_system opened)

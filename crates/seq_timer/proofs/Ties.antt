@@ -33,7 +33,7 @@ use Rattle.seq_timer.proofs.Halves.{wanted-elsewhere}
 use Rattle.seq_timer.proofs.Contents.{half_of-else, half_of-here, same_context, seen_else, seen_here, seen_own}
 use Rattle.seq_timer.proofs.Due.{expiry-kept, first_reached, or_some, rank-injective}
 use Rattle.seq_timer.proofs.Firsts.{first_due-next, next_on-seen}
-use Rattle.seq_timer.proofs.OffLine.{all_clear, online_named, unused}
+use Rattle.seq_timer.proofs.OffLine.{all_clear, online_wanted, unused}
 use Rattle.seq_timer.proofs.Queues.{has_id-without, queue_of-dequeued, queue_of-enqueued, queue_of-run_by}
 use Rattle.seq_timer.proofs.Systems.{base_else, base_here, content_shift, steps_part, updated_else, updated_here}
 
@@ -354,7 +354,7 @@ module _ (bases : ℕ) (terms : Terms) (list : List Declared) (before later : Li
         needs = step.needs;
         reply = step.reply;
         sent = λ base is. (subst (λ x. FitsBase bases (w.bases (w.timers e.timer).base) e.timer (w.timers e.timer) x) is step.base).needs;
-        online = online_named bases (length list) w e step (all_agree bases terms list before part) (all_clear bases terms list before part);
+        online = online_wanted bases (length list) w e step (all_agree bases terms list before part) (all_clear bases terms list before part);
         turn = turn;
       }
 

@@ -1,5 +1,5 @@
 -- What an event does, as data: what becomes of its timer in its queue, of its timer's function, where the timer is sent, and who makes the event.
-use Rattle.std.specs.Prelude.{ℕ, ◌<◌, Bool, true, false, Option, Some, None, if◌then◌else◌}
+use Rattle.std.specs.Prelude.{ℕ, ◌≡◌, ◌⊎◌, ◌<◌, Bool, true, false, Option, Some, None, if◌then◌else◌}
 use Rattle.ktime.specs.Readings.{ClockReading}
 use Rattle.seq_timer.specs.declared.effect.Effect.{Effect}
 use Rattle.seq_timer.specs.declared.effect.QueueEffect.{QueueEffect}
@@ -32,6 +32,20 @@ abbrev pub is_arming : QueueEffect → Bool
 is_arming queues.Stays = false
 is_arming queues.Leaves = false
 is_arming queues.Armed = true
+
+-- whether a function begins
+abbrev pub is_beginning : RunEffect → Bool
+is_beginning functions.Stays = false
+is_beginning (functions.Begins reading) = true
+is_beginning functions.Ends = false
+
+-- whether the event is a start: it arms the timer, and anybody may make it
+abbrev pub is_start : Effect → Bool
+is_start d = if d.by_claimer then false else is_arming d.queue
+
+-- the event wants its timer's base on line: it arms the timer, or its function begins
+abbrev pub WantsOnLine : Effect → Type 0
+WantsOnLine d = (is_arming d.queue ≡ true) ⊎ (is_beginning d.function ≡ true)
 
 -- a timer that is sent is sent to one of so many bases
 abbrev pub IsSentWithin : ℕ → Option ℕ → Type 0

@@ -1,12 +1,11 @@
 -- The history of all timers and bases: one list of entries. Each is a step of its timer, and of the base that the timer is on, or takes a base off line
 -- or on line; the list alone says what each timer is and what each base has after it.
-use Rattle.std.specs.Prelude.{ℕ, ◌≡◌, ◌+◌, ◌<◌, Bool, false, ◌==◌, List, [], ◌∷◌, length, map, set, Option, Some, None, if◌then◌else◌}
+use Rattle.std.specs.Prelude.{ℕ, ◌≡◌, ◌+◌, ◌<◌, Bool, true, false, ◌==◌, List, [], ◌∷◌, length, map, set, Option, Some, None, if◌then◌else◌}
 use Rattle.ktime.specs.Readings.{ClockReading}
 use Rattle.seq_timer.specs.declared.context.Context.{Context}
 use Rattle.seq_timer.specs.declared.context.Declared.{Declared}
 use Rattle.seq_timer.specs.declared.context.Terms.{Terms}
 use Rattle.seq_timer.specs.Events.{Event}
-use Rattle.seq_timer.specs.declared.event.EventBy.TheVariants as events
 use Rattle.seq_timer.specs.declared.standing.BaseEvent.{BaseEvent}
 use Rattle.seq_timer.specs.declared.standing.BaseEvent.TheVariants as shifts
 use Rattle.seq_timer.specs.declared.standing.Standing.{Standing}
@@ -14,7 +13,7 @@ use Rattle.seq_timer.specs.declared.system.BaseEntry.{BaseEntry}
 use Rattle.seq_timer.specs.declared.system.SystemEntry.{SystemEntry}
 use Rattle.seq_timer.specs.declared.system.SystemEntry.TheVariants as entries
 use Rattle.seq_timer.specs.declared.system.TimerEntry.{TimerEntry}
-use Rattle.seq_timer.specs.Effects.{NeedsOfBases, effect, is_arming}
+use Rattle.seq_timer.specs.Effects.{NeedsOfBases, effect, is_arming, is_start}
 use Rattle.seq_timer.specs.Standings.{MayShift, first_standing, standing_after}
 use Rattle.seq_timer.specs.Steps.{Timer, Needs, after, opening, reply_to}
 use Rattle.seq_timer.specs.Tables.{timer_at}
@@ -91,19 +90,10 @@ abbrev pub BeginsInTurn : BaseContent → ℕ → Timer → ClockReading → Typ
 BeginsInTurn b id t reading =
     (running_in t.declared.context b.content ≡ None) × (next_on t.declared.context b reading ≡ Some (t.expires, id))
 
--- an event finds the base that its timer is on as it needs it: a start finds it on line
-abbrev pub FindsOnLine : Standing → Event → Type 0
-FindsOnLine s (events.Out base) = Unit {0}
-FindsOnLine s (events.Start asked) = s.heir ≡ None
-FindsOnLine s events.Cancel = Unit {0}
-FindsOnLine s (events.Claim base reading) = Unit {0}
-FindsOnLine s (events.Forward reading interval) = Unit {0}
-FindsOnLine s (events.Finish restart) = Unit {0}
-
--- what an event of a timer needs of the bases, of which there are so many, and of the one that it is on
+-- what an event of a timer needs of the bases, of which there are so many, and of the one that it is on: a start finds that on line
 pub record FitsBase (bases : ℕ) (b : BaseContent) (id : ℕ) (t : Timer) (e : Event) : Type 0 where
   pub needs : NeedsOfBases (BeginsInTurn b id t) bases (effect t e).function (effect t e).sent
-  pub online : FindsOnLine b.standing e
+  pub online : is_start (effect t e) ≡ true → b.standing.heir ≡ None
 
 -- an entry of a timer may come next
 pub record IsSystemStep (bases count : ℕ) (w : System) (e : TimerEntry) : Type 0 where

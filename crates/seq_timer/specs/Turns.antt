@@ -3,7 +3,6 @@ use Rattle.std.specs.Prelude.{ℕ, ◌≡◌, ◌≢◌, ◌<◌, true, false, N
 use Rattle.seq_timer.specs.declared.context.Declared.{Declared}
 use Rattle.seq_timer.specs.declared.context.Terms.{Terms}
 use Rattle.ktime.specs.Readings.{ClockReading}
-use Rattle.seq_timer.specs.Events.{Event}
 use Rattle.seq_timer.specs.declared.event.EventBy.TheVariants as events
 use Rattle.seq_timer.specs.declared.standing.BaseEvent.TheVariants as shifts
 use Rattle.seq_timer.specs.declared.system.BaseEntry.{BaseEntry}
@@ -11,7 +10,8 @@ use Rattle.seq_timer.specs.declared.system.SystemEntry.{SystemEntry}
 use Rattle.seq_timer.specs.declared.system.SystemEntry.TheVariants as entries
 use Rattle.seq_timer.specs.declared.system.TimerEntry.{TimerEntry}
 use Rattle.seq_timer.specs.Standings.{MayShift}
-use Rattle.seq_timer.specs.Steps.{Timer, Needs, arms_again, reply_to}
+use Rattle.seq_timer.specs.Effects.{effect, WantsOnLine}
+use Rattle.seq_timer.specs.Steps.{Timer, Needs, reply_to}
 use Rattle.seq_timer.specs.Tables.{IsNextDue, IsUnused, in_context, is_kept_on, runs_on}
 use Rattle.seq_timer.specs.Systems.{armed_in, system_of}
 
@@ -22,24 +22,15 @@ pub record IsTurn (timers : ℕ → Timer) (armed : ℕ → ℕ) (base : ℕ) (r
   pub next : IsNextDue timers base reading t
   pub ties : (u : ℕ) → u ≢ t → is_kept_on base (timers t).clock (timers u) ≡ true → (timers u).expires ≡ (timers t).expires → armed t < armed u
 
--- an event of a timer names a base: it is a start, a claim, or a finish that arms again, of a timer on that base
-abbrev pub Names : ℕ → Timer → Event → Type 0
-Names base t (events.Out to) = ⊥
-Names base t (events.Start asked) = t.base ≡ base
-Names base t events.Cancel = ⊥
-Names base t (events.Claim on reading) = t.base ≡ base
-Names base t (events.Forward reading interval) = ⊥
-Names base t (events.Finish restart) = (t.base ≡ base) × (arms_again t restart ≡ true)
-
--- an entry of a timer may stand behind these: it is a step of one of the timers, which is sent to one of the bases, names none that is off line, and is
--- claimed in its turn
+-- an entry of a timer may stand behind these: it is a step of one of the timers, which is sent to one of the bases, finds its base on line where it arms it
+-- or its function begins, and is claimed in its turn
 pub record MayFollow (bases : ℕ) (declareds : List Declared) (terms : Terms) (before : List SystemEntry) (e : TimerEntry) : Type 0 where
   pub within : e.timer < length declareds
   pub needs : Needs ((system_of declareds terms before).timers e.timer) e.event
   pub reply : e.reply ≡ reply_to ((system_of declareds terms before).timers e.timer) e.event
   pub sent : (base : ℕ) → e.event ≡ events.Out base → base < bases
-  pub online : (base : ℕ) → Names base ((system_of declareds terms before).timers e.timer) e.event
-      → ((system_of declareds terms before).bases base).standing.heir ≡ None
+  pub online : WantsOnLine (effect ((system_of declareds terms before).timers e.timer) e.event)
+      → ((system_of declareds terms before).bases ((system_of declareds terms before).timers e.timer).base).standing.heir ≡ None
   pub turn : (base : ℕ) (reading : ClockReading) → e.event ≡ events.Claim base reading
       → IsTurn (in_context ((system_of declareds terms before).timers e.timer).declared.context (system_of declareds terms before).timers)
       (armed_in declareds terms before) base reading e.timer

@@ -73,7 +73,7 @@ module _ {o : Opening} {h g : HeldContent BaseContent} {id base : ℕ} {reading 
         record {
           may = record {
             held = held;
-            allowed = record { within = inside; needs = runs; reply = refl; base = record { needs = tt; online = tt } };
+            allowed = record { within = inside; needs = runs; reply = refl; base = record { needs = tt; online = λ is. absurd (true≢false (sym is)) } };
             base = there.at;
             carries = λ moves. absurd (true≢false (sym moves ∙ there.still));
           };
