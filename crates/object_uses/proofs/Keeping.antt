@@ -24,6 +24,9 @@ use Rattle.timer_objects.specs.declared.cell.Span.{Span}
 use Rattle.timer_objects.specs.declared.object.ObjectReply.{ObjectReply}
 use Rattle.timer_objects.specs.declared.wanting.Rearming.{Rearming}
 use Rattle.timer_objects.specs.Arming.{ArmsFor}
+use Rattle.timer_objects.specs.BlockingReads.{ReadsBlocking}
+use Rattle.timer_objects.specs.declared.answers.BlockingRead.{BlockingRead}
+use Rattle.timer_objects.specs.declared.answers.BlockingRead.TheVariants as blocking
 use Rattle.timer_objects.specs.Calls.{Accepts, Caller, FindsFull, RearmingMade, ReadsFd, RearmsFor, SetsTimer, SettimeMade}
 use Rattle.timer_objects.specs.Known.{ObjectsOf}
 use Rattle.timer_objects.proofs.Lending.{keeps_added, keeps_read, keeps_same}
@@ -99,3 +102,10 @@ module _ (x : ObjectsOf) (o : Opening) (old new : Caller) (id flags value interv
   keeps_read_fd len (reads.Count total) made = keeps_call _ _ made.1
   keeps_read_fd len reads.Canceled made = keeps_call _ _ made.1
   keeps_read_fd len reads.Again made = keeps_call _ _ made.1
+
+  pub keeps_wait : (len : ℕ) (a : BlockingRead) → ReadsBlocking x o old new id len reading a → KeepsBoth old new
+  keeps_wait len blocking.ShortBuffer short = keeps_none short.1
+  keeps_wait len (blocking.Spent n) full = keeps_full n full.1
+  keeps_wait len (blocking.Count total) read = keeps_call _ _ read.2.made
+  keeps_wait len blocking.Zero read = keeps_call _ _ read.1.made
+  keeps_wait len blocking.Canceled read = keeps_call _ _ read.1.made

@@ -19,6 +19,9 @@ use Rattle.timer_fd.specs.States.{Descriptor, is_canceled}
 use Rattle.timer_fd.specs.Steps.{total_in}
 use Rattle.base_row.specs.declared.view.Opening.{Opening}
 use Rattle.counted_row.specs.Calls.{Commits}
+use Rattle.timer_objects.specs.BlockingReads.{ReadsBlocking}
+use Rattle.timer_objects.specs.declared.answers.BlockingRead.{BlockingRead}
+use Rattle.timer_objects.specs.declared.answers.BlockingRead.TheVariants as blocking
 use Rattle.timer_objects.specs.declared.cell.SpannedCall.{SpannedCall}
 use Rattle.timer_objects.specs.declared.object.Object.{Object}
 use Rattle.timer_objects.specs.declared.object.Object.TheVariants as objects
@@ -31,7 +34,7 @@ use Rattle.timer_objects.specs.Calls.{Accepts, Caller, RearmingMade, ReadsFd}
 use Rattle.timer_objects.specs.Cells.{cell_meaning}
 use Rattle.timer_objects.specs.Known.{ObjectsOf, ObjectsPass}
 use Rattle.timer_objects.specs.Steps.{object_answer}
-use Rattle.object_uses.specs.Callers.{AcceptFits, EndsWith, HasCounted, HasSignal, ReadFits, TakesCount, TakesSignal}
+use Rattle.object_uses.specs.Callers.{AcceptFits, EndsWith, HasCounted, HasSignal, ReadFits, TakesCount, TakesSignal, WaitFits}
 
 -- the number that a reply has
 abbrev number_in : ObjectReply → Option ℕ
@@ -111,3 +114,10 @@ module _ (x : ObjectsOf) (o : Opening) (old new : Caller) (id : ℕ) (reading : 
   read_fits len (reads.Spent n) full = (full.1.stamp, full.1.reads.pass.mine)
   read_fits len reads.Canceled made = adds_one x o old new id reading 0 _ _ made.1
   read_fits len reads.Again made = adds_one x o old new id reading 0 _ _ made.1
+
+  pub wait_fits : (len : ℕ) (a : BlockingRead) → ReadsBlocking x o old new id len reading a → WaitFits old.objects new.objects id reading a
+  wait_fits len (blocking.Count n) read = (read.1, takes_count x o old new id reading n read.2.made)
+  wait_fits len blocking.Zero read = adds_one x o old new id reading 0 _ _ read.1.made
+  wait_fits len blocking.ShortBuffer short = ap (λ (c : Caller). c.objects) short.1
+  wait_fits len (blocking.Spent n) full = (full.1.stamp, full.1.reads.pass.mine)
+  wait_fits len blocking.Canceled read = adds_one x o old new id reading 0 _ _ read.1.made

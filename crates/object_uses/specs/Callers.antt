@@ -22,6 +22,8 @@ use Rattle.timer_fd.specs.States.{Descriptor}
 use Rattle.timer_fd.specs.Steps.{fd_read, total_in}
 use Rattle.counted_row.specs.declared.view.Entry.{Entry}
 use Rattle.counted_row.specs.Views.{StateAfter}
+use Rattle.timer_objects.specs.declared.answers.BlockingRead.{BlockingRead}
+use Rattle.timer_objects.specs.declared.answers.BlockingRead.TheVariants as blocking
 use Rattle.timer_objects.specs.declared.cell.ObjectCell.{ObjectCell}
 use Rattle.timer_objects.specs.declared.cell.SpannedCall.{SpannedCall}
 use Rattle.timer_objects.specs.declared.object.Object.{Object}
@@ -122,6 +124,14 @@ ReadFits p q id reading reads.ShortBuffer = q ≡ p
 ReadFits p q id reading (reads.Spent n) = (n ≡ length (seen_of q id)) × (q.knows.pass.mine ≡ p.knows.pass.mine)
 ReadFits p q id reading reads.Canceled = length q.knows.pass.mine ≡ length p.knows.pass.mine + 1
 ReadFits p q id reading reads.Again = length q.knows.pass.mine ≡ length p.knows.pass.mine + 1
+
+-- what a read that waits answers
+abbrev pub WaitFits : ObjectsPass → ObjectsPass → ℕ → ClockReading → BlockingRead → Type 0
+WaitFits p q id reading (blocking.Count total) = (0 < total) × TakesCount p q id reading total
+WaitFits p q id reading blocking.Zero = length q.knows.pass.mine ≡ length p.knows.pass.mine + 1
+WaitFits p q id reading blocking.ShortBuffer = q ≡ p
+WaitFits p q id reading (blocking.Spent n) = (n ≡ length (seen_of q id)) × (q.knows.pass.mine ≡ p.knows.pass.mine)
+WaitFits p q id reading blocking.Canceled = length q.knows.pass.mine ≡ length p.knows.pass.mine + 1
 
 -- a reader that began with all that a pass had seen was told this, and the pass has then seen all that the reader had
 pub record ReadBeside (p q : ObjectsPass) (id : ℕ) (reading : ClockReading) (a : ReadAnswer) : Type 0 where

@@ -2,6 +2,7 @@
 #![tactic(auto)]
 
 pub use beside::read_beside;
+pub use blocking::{advance_and_expire, wait_for_count};
 pub use counts::read_count;
 pub use expiring::{Expired, expire_objects};
 pub use setting::set_timer;
@@ -9,6 +10,7 @@ pub use sharing::hear_all;
 pub use signals::accept_signal;
 
 mod beside;
+mod blocking;
 mod counts;
 mod expiring;
 mod setting;

@@ -1,6 +1,7 @@
 //! The callers, run; and the calls of objects by one thread and by two.
 mod answers;
 mod beside;
+mod blocking;
 mod expected;
 mod greatest;
 mod of_expire_pass;

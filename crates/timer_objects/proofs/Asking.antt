@@ -1,5 +1,6 @@
 -- A call that makes an entry and may start its object's timer before that.
-use Rattle.std.proofs.Common.{refl, sym, subst, ◌≡◌, ◌∙◌, ℕ, ◌≤◌, ◌<◌, List, [], ◌∷◌, ◌++◌, length}
+use Rattle.std.proofs.Common.{refl, sym, subst, ◌≡◌, ◌∙◌, ℕ, ◌≤◌, ◌<◌, Option, None, Some, List, [], ◌∷◌, ◌++◌, length}
+use Rattle.std.specs.Prelude.{MatchOption}
 use Rattle.base_row.specs.declared.view.Opening.{Opening}
 use Rattle.hr_timers.specs.Known.{KnownOfTimers}
 use Rattle.base_row.specs.declared.log.Receipt.{Receipt}
@@ -13,6 +14,8 @@ use Rattle.timer_objects.specs.declared.cell.Span.{Span}
 use Rattle.timer_objects.specs.declared.log.ObjectReceipt.{ObjectReceipt}
 use Rattle.timer_objects.specs.declared.object.Decl.{Decl}
 use Rattle.timer_objects.specs.declared.object.ObjectReply.{ObjectReply}
+use Rattle.ktime.specs.Readings.{ClockReading}
+use Rattle.timer_objects.specs.declared.wanting.Rearming.{Rearming}
 use Rattle.timer_objects.specs.declared.wanting.EntryCall.{EntryCall}
 use Rattle.timer_objects.specs.declared.wanting.EntryCall.TheVariants as entry_calls
 use Rattle.timer_objects.specs.declared.wanting.Ended.{Ended}
@@ -20,9 +23,9 @@ use Rattle.timer_objects.specs.declared.wanting.Ended.TheVariants as ends
 use Rattle.timer_objects.specs.Steps.{IsObjectOf, ObjectAllows}
 use Rattle.timer_objects.specs.Cells.{cell_meaning, spanned}
 use Rattle.timer_objects.specs.Known.{Enters, HoldsObject, IsObjectsPass, MayEnter, ObjectsOf, ObjectsPass, Suits, decl_at, receipt_of, row_of}
-use Rattle.timer_objects.specs.Calls.{BearsStart, Caller, HasWaited, SettimeTells, settime_call, wanted_by}
+use Rattle.timer_objects.specs.Calls.{BearsStart, Caller, HasWaited, RearmingMade, SettimeTells, settime_call, wanted_by}
 use Rattle.timer_objects.specs.Valid.{IsSettimeReply}
-use Rattle.timer_objects.specs.Rearming.{Ends, IsAskedOf, KeepsNames, MakesEntry, Sets, call_asked, settime_with, start_asked}
+use Rattle.timer_objects.specs.Rearming.{Ends, EndsAt, FoundAs, IsAskedOf, KeepsNames, MakesEntry, Sets, call_asked, settime_with, start_asked}
 use Rattle.timer_objects.proofs.Bearing.{allows, bears, replies_to}
 use Rattle.timer_objects.proofs.Entering.{enters_call}
 use Rattle.timer_objects.proofs.Restarting.{spans}
@@ -30,14 +33,13 @@ use Rattle.timer_objects.proofs.Retrying.{enters_after, full_after, rearms_after
 use Rattle.timer_objects.proofs.Settings.{arms_bears, set_phase, settime_allowed, settime_grants, settime_replies}
 use Rattle.timer_objects.proofs.SettimeMade.{anew_end, anew_spans, made_after, made_by, made_names}
 
-module _ (x : ObjectsOf) (o : Opening) (v w : KnownOfTimers) (p m : ObjectsPass) (id : ℕ) (h : Locked ObjectCell) (arm : Arm) (span : Span)
-    (log log' : List Receipt) (is : IsObjectsPass x p) (locks : Locks cell_meaning p m id h) (row : IsPassOfRow (row_of x) m) (holds : HoldsObject x h)
-    (room : h.stamp < x.limit) where
+module _ (x : ObjectsOf) (o : Opening) (v w : KnownOfTimers) (m : ObjectsPass) (id : ℕ) (h : Locked ObjectCell) (arm : Arm) (span : Span)
+    (log log' : List Receipt) (index : h.index ≡ id) (row : IsPassOfRow (row_of x) m) (holds : HoldsObject x h) (room : h.stamp < x.limit) where
   abbrev d : Decl
   d = decl_at x id
 
   holds_it : IsObjectOf d x.limit h.stamp h.state.object
-  holds_it = subst (λ i. IsObjectOf (decl_at x i) x.limit h.stamp h.state.object) locks.index holds
+  holds_it = subst (λ i. IsObjectOf (decl_at x i) x.limit h.stamp h.state.object) index holds
 
   spans_asked : (asked : EntryCall) → Sets o v w id asked h.state d.base arm span log log' → (h.state.last ≤ span.from) × (span.from ≤ span.to)
   spans_asked (entry_calls.Settime s) sets = anew_spans o v w id h.state.last d.base s.reading arm span log log' (start_by s.flags s.value) sets
@@ -50,13 +52,13 @@ module _ (x : ObjectsOf) (o : Opening) (v w : KnownOfTimers) (p m : ObjectsPass)
       fits.1.value fits.1.interval outcome
   allowed_asked (entry_calls.Rearming r reading) fits outcome = allows d x.limit h.stamp reading arm r h.state.object holds_it fits room outcome
 
-  pub may_enter : (asked : EntryCall) → IsAskedOf d.kind asked → Sets o v w id asked h.state d.base arm span log log'
+  pub may_enter : m.knows.claims ≡ [] → m.knows.held ≡ Some h → (asked : EntryCall) → IsAskedOf d.kind asked → Sets o v w id asked h.state d.base arm span log log'
       → IsOutcomeOf arm (start_asked asked h.state.object) → MayEnter x m h id (call_asked d.kind asked arm) span
-  may_enter asked fits sets outcome = record {
+  may_enter unclaimed held asked fits sets outcome = record {
     row = row;
-    unclaimed = locks.claims ∙ is.unclaimed;
-    held = locks.held;
-    index = locks.index;
+    unclaimed = unclaimed;
+    held = held;
+    index = index;
     holds = holds;
     may = record {
       allowed = allowed_asked asked fits outcome;
@@ -65,8 +67,8 @@ module _ (x : ObjectsOf) (o : Opening) (v w : KnownOfTimers) (p m : ObjectsPass)
     };
   }
 
-  module _ (q : ObjectsPass) (olog olog' : List ObjectReceipt) (reply : ObjectReply) (isq : IsObjectsPass x q) (suits : Suits x o)
-      (within : id < length x.decls) where
+  module _ (p : ObjectsPass) (locks : Locks cell_meaning p m id h) (q : ObjectsPass) (olog olog' : List ObjectReceipt) (reply : ObjectReply)
+      (isq : IsObjectsPass x q) (suits : Suits x o) (within : id < length x.decls) where
     abbrev begun : Caller
     begun = record { timers = v; objects = p; log = log; object_log = olog }
 
@@ -75,9 +77,10 @@ module _ (x : ObjectsOf) (o : Opening) (v w : KnownOfTimers) (p m : ObjectsPass)
 
     pub makes : (asked : EntryCall) → IsAskedOf d.kind asked → Sets o v w id asked h.state d.base arm span log log'
         → Enters m q h (spanned (call_asked d.kind asked arm) span) reply
-        → olog' ≡ olog ++ receipt_of h (spanned (call_asked d.kind asked arm) span) ∷ [] → MakesEntry x o begun done id asked reply
+        → olog' ≡ olog ++ receipt_of h (spanned (call_asked d.kind asked arm) span) ∷ []
+        → (made : MakesEntry x o begun done id asked reply) × FoundAs x o begun done id asked reply made h.state
     makes (entry_calls.Settime s) fits sets e noted =
-        let c = settime_with s arm in (
+        let c = settime_with s arm in ((
           subst IsSettimeReply (sym e.reply) (settime_replies d x.limit h.stamp h.state.object c holds_it fits.0),
           λ a tells. made_by x o begun done id _ _ _ _ a
               (settime_grants d x.limit h.stamp h.state.object c a holds_it fits.0 (subst (λ r. SettimeTells r a) e.reply tells))
@@ -98,8 +101,8 @@ module _ (x : ObjectsOf) (o : Opening) (v w : KnownOfTimers) (p m : ObjectsPass)
                     sets.arms);
                 answer = tells;
               }),
-        )
-    makes (entry_calls.Rearming r reading) fits sets e noted = (
+        ), tt)
+    makes (entry_calls.Rearming r reading) fits sets e noted = ((
       record {
         arm = arm;
         span = span;
@@ -108,7 +111,7 @@ module _ (x : ObjectsOf) (o : Opening) (v w : KnownOfTimers) (p m : ObjectsPass)
         bears = bears o v w id h.state.last d.base reading arm span log log' r h.state.object sets;
       },
       replies_to d x.limit h.stamp reading arm r h.state.object reply holds_it fits e.reply,
-    )
+    ), refl)
 
 pub sets_as : (o : Opening) (v w : KnownOfTimers) (id : ℕ) (asked : EntryCall) (arm : Arm) (span : Span) (log log' : List Receipt) (cell cell' : ObjectCell)
     (d d' : Decl) → cell ≡ cell' → d ≡ d' → Sets o v w id asked cell d.base arm span log log' → Sets o v w id asked cell' d'.base arm span log log'
@@ -116,7 +119,29 @@ sets_as o v w id asked arm span log log' cell cell' d d' same there sets =
     subst (λ (x : ObjectCell). Sets o v w id asked x d'.base arm span log log') same
     (subst (λ (x : Decl). Sets o v w id asked cell x.base arm span log log') there sets)
 
+-- a call that found a cell ends
+pub ends_at : (x : ObjectsOf) (o : Opening) (old new : Caller) (id : ℕ) (asked : EntryCall) (e : Ended) (cell : ObjectCell)
+    → EndsAt x o old new id asked e cell → Ends x o old new id asked e
+ends_at x o old new id asked (ends.Full n) cell full = full
+ends_at x o old new id asked (ends.Made n reply) cell made = (made.0, made.2)
+
+pub ends_or_waits : (x : ObjectsOf) (o : Opening) (old new : Caller) (id : ℕ) (asked : EntryCall) (cell : ObjectCell) (ended : Option Ended)
+    → MatchOption ended (HasWaited old new) (λ e. EndsAt x o old new id asked e cell) → MatchOption ended (HasWaited old new) (λ e. Ends x o old new id asked e)
+ends_or_waits x o old new id asked cell None waits = waits
+ends_or_waits x o old new id asked cell (Some e) at = ends_at x o old new id asked e cell at
+
 -- ---- turns that only looked
+
+-- an entry behind looks
+abbrev pub rearming_after : (x : ObjectsOf) (o : Opening) (a b c : Caller) (id : ℕ) (r : Rearming) (reading : ClockReading) (reply : ObjectReply)
+    → HasWaited a b → RearmingMade x o b c id r reading reply → RearmingMade x o a c id r reading reply
+rearming_after x o a b c id r reading reply waits m = record {
+  arm = m.arm;
+  span = m.span;
+  enters = enters_after waits m.enters;
+  rearms = rearms_after o a.timers b.timers c.timers id _ _ reading m.arm m.span a.log b.log c.log _ waits.timers waits.log m.rearms;
+  bears = m.bears;
+}
 
 pub ends_after : (x : ObjectsOf) (o : Opening) (a b c : Caller) (id : ℕ) (asked : EntryCall) (e : Ended) → HasWaited a b → Ends x o b c id asked e
     → Ends x o a c id asked e
@@ -124,19 +149,7 @@ ends_after x o a b c id asked (ends.Full n) waits found = full_after waits found
 ends_after x o a b c id (entry_calls.Settime s) (ends.Made n reply) waits made =
     ((made.0.0, λ answer tells. made_after x o a b c id _ _ _ _ answer waits (made.0.1 answer tells)), made.1)
 ends_after x o a b c id (entry_calls.Rearming r reading) (ends.Made n reply) waits made =
-    let m = made.0.0 in (
-      (
-        record {
-          arm = m.arm;
-          span = m.span;
-          enters = enters_after waits m.enters;
-          rearms = rearms_after o a.timers b.timers c.timers id _ _ reading m.arm m.span a.log b.log c.log _ waits.timers waits.log m.rearms;
-          bears = m.bears;
-        },
-        made.0.1,
-      ),
-      made.1,
-    )
+    ((rearming_after x o a b c id r reading reply waits made.0.0, made.0.1), made.1)
 
 -- ---- names
 

@@ -15,6 +15,7 @@ use Rattle.timer_setting.specs.declared.arming.Wanted.{Wanted}
 use Rattle.timer_objects.specs.declared.cell.ObjectCell.{ObjectCell}
 use Rattle.timer_objects.specs.declared.cell.Span.{Span}
 use Rattle.timer_objects.specs.declared.cell.SpannedCall.{SpannedCall}
+use Rattle.timer_objects.specs.declared.log.ObjectReceipt.{ObjectReceipt}
 use Rattle.timer_objects.specs.declared.object.ObjectReply.{ObjectReply}
 use Rattle.timer_objects.specs.Cells.{cell_meaning}
 use Rattle.timer_objects.specs.Known.{IsObjectsPass, ObjectsOf, ObjectsPass, row_of, seen_of}
@@ -69,6 +70,19 @@ held_up x p m q id h locks here after idle is count room why because = record {
   room = subst (λ n. n < x.limit) (count ∙ ap (λ i. length (seen_of q i)) locks.index) room;
   because = because;
 }
+
+-- a caller whose turn was given up has waited
+pub waits_held : (x : ObjectsOf) (p m q : ObjectsPass) (id : ℕ) (h : Locked ObjectCell) → Locks cell_meaning p m id h → IsPassOfRow (row_of x) m
+    → IsObjectsPass x q → p.knows.held ≡ None → q.knows ≡ released m.knows → {v w : KnownOfTimers} {log log' : List Receipt}
+    {object_log object_log' : List ObjectReceipt} → LooksOn v w → log' ≡ log → object_log' ≡ object_log
+    → HasWaited (record { timers = v; objects = p; log = log; object_log = object_log }) (record { timers = w; objects = q; log = log'; object_log = object_log' })
+waits_held x p m q id h locks here after idle is looks same same_objects =
+    let reads = reads_of {r = row_of x} locks here after.row idle is after.knows in record {
+      timers = looks;
+      objects = record { row = reads.row; pass = reads.pass; opening = reads.opening; claims = reads.claims; held = reads.held };
+      log = same;
+      object_log = same_objects;
+    }
 
 -- ---- names
 

@@ -4,6 +4,7 @@ pub mod Known
 pub mod Arming
 pub mod Calls
 pub mod Waiting
+pub mod BlockingReads
 pub mod Valid
 pub mod Rearming
 pub mod Callbacks

@@ -1,5 +1,5 @@
 -- The calls that make an entry and may start their object's timer before it: what each wants of an object, and how a turn of it ends.
-use Rattle.std.specs.Prelude.{ℕ, ◌≡◌, ◌≢◌, ◌<◌, length, List, Option, IsSome}
+use Rattle.std.specs.Prelude.{ℕ, ◌≡◌, ◌≢◌, ◌<◌, length, List, [], Option, Some, IsSome}
 use Rattle.ktime.specs.Readings.{ClockReading}
 use Rattle.base_row.specs.Logs.{LogOf}
 use Rattle.hr_timers.specs.Known.{IsPassOf, KnownOfTimers, PassOf}
@@ -22,9 +22,11 @@ use Rattle.timer_objects.specs.declared.wanting.Rearming.TheVariants as rearming
 use Rattle.timer_objects.specs.declared.wanting.Ended.{Ended}
 use Rattle.timer_objects.specs.declared.wanting.Ended.TheVariants as ends
 use Rattle.counted_row.specs.Calls.{ReadsValue}
+use Rattle.counted_row.specs.declared.view.Locked.{Locked}
+use Rattle.counted_row.specs.Views.{IsPassOfRow, Locks}
 use Rattle.timer_objects.specs.Cells.{cell_meaning}
 use Rattle.timer_objects.specs.declared.log.ObjectReceipt.{ObjectReceipt}
-use Rattle.timer_objects.specs.Known.{IsObjectsPass, ObjectsOf, ObjectsPass, Suits, decl_at, seen_of}
+use Rattle.timer_objects.specs.Known.{HoldsObject, IsObjectsPass, ObjectsOf, ObjectsPass, Suits, decl_at, row_of, seen_of}
 use Rattle.timer_objects.specs.Calls.{
   Caller,
   FindsFull,
@@ -149,6 +151,39 @@ MakesEntry x o old new id (entry_calls.Rearming r reading) reply = RearmingMade 
 abbrev pub Ends : ObjectsOf → Opening → Caller → Caller → ℕ → EntryCall → Ended → Type 0
 Ends x o old new id asked (ends.Full n) = FindsFull x old new id n
 Ends x o old new id asked (ends.Made n reply) = MakesEntry x o old new id asked reply × (n ≡ length (seen_of new.objects id))
+
+-- the cell that was found under the object's lock is this one, of an entry that may arm the timer again
+abbrev pub FoundAs : (x : ObjectsOf) (o : Opening) (old new : Caller) (id : ℕ) (asked : EntryCall) (reply : ObjectReply)
+    → MakesEntry x o old new id asked reply → ObjectCell → Type 0
+FoundAs x o old new id (entry_calls.Settime v) reply made cell = Unit {0}
+FoundAs x o old new id (entry_calls.Rearming r reading) reply made cell = made.0.enters.commits.state ≡ cell
+
+-- the same of a call that found this cell
+abbrev pub EndsAt : ObjectsOf → Opening → Caller → Caller → ℕ → EntryCall → Ended → ObjectCell → Type 0
+EndsAt x o old new id asked (ends.Full n) cell = FindsFull x old new id n
+EndsAt x o old new id asked (ends.Made n reply) cell =
+    (made : MakesEntry x o old new id asked reply) × FoundAs x o old new id asked reply made cell × (n ≡ length (seen_of new.objects id))
+
+-- ---- a call on an object that is held
+
+-- a pass took the lock of an object
+pub record HasLocked (x : ObjectsOf) (begun now : ObjectsPass) (id : ℕ) (h : Locked ObjectCell) : Type 0 where
+  pub is : IsObjectsPass x begun
+  pub locks : Locks cell_meaning begun now id h
+
+-- a caller holds an object whose history has room, and asks this of it
+pub record IsHolding (x : ObjectsOf) (timers : BaseRowOf) (pass : PassOf) (objects_pass : ObjectsPass) (id : ℕ) (asked : EntryCall) (h : Locked ObjectCell)
+    : Type 0 where
+  pub of_timers : IsPassOf timers pass
+  pub suits : Suits x timers.about
+  pub within : id < length x.decls
+  pub fits : IsAskedOf (decl_at x id).kind asked
+  pub row : IsPassOfRow (row_of x) objects_pass
+  pub unclaimed : objects_pass.knows.claims ≡ []
+  pub held : objects_pass.knows.held ≡ Some h
+  pub index : h.index ≡ id
+  pub holds : HoldsObject x h
+  pub room : h.stamp < x.limit
 
 -- ---- looks
 

@@ -16,6 +16,21 @@ pub enum Gettime {
     },
 }
 
+/// What a read that waits answers.
+#[derive(Clone, Copy, Debug, PartialEq, Eq)]
+pub enum BlockingRead {
+    /// So many expiries, at least one.
+    Count { total: u64 },
+    /// Zero bytes: the clock was set back before the expiry that was counted. A periodic timer is armed again.
+    Zero,
+    /// The buffer has fewer than 8 bytes.
+    ShortBuffer,
+    /// The object has as many entries as its limit allows.
+    Spent { stamp: u64 },
+    /// The clock was set, and the setting asked to be canceled then (`ECANCELED`).
+    Canceled,
+}
+
 /// Whether a descriptor is ready to be read, after so many entries.
 #[derive(Clone, Copy, Debug, PartialEq, Eq)]
 pub struct Readable {

@@ -6,11 +6,11 @@ ghost use Rattle.hr_timers.specs.Known.{IsPassOf};
 ghost use Rattle.hr_timers.specs.Ways.{most_to_start};
 ghost use Rattle.timer_setting.specs.Phases.{IsOutcomeOf};
 ghost use Rattle.timer_objects.specs.declared.object.Kind.TheVariants as kinds;
-ghost use Rattle.timer_objects.specs.Known.{IsObjectsPass, Suits, decl_at, most_noted};
+ghost use Rattle.timer_objects.specs.Known.{IsObjectsPass, ObjectsPass, Suits, decl_at, most_noted};
 ghost use Rattle.timer_objects.specs.Arming.{stamp_seen};
 ghost use Rattle.timer_objects.specs.Calls.{Accepts, HasWaited, ReadsFd, RearmsFor};
 ghost use Rattle.timer_objects.specs.Waiting.{HasToWait, IsHindered};
-ghost use Rattle.timer_objects.specs.Rearming.{Ends, HasEntryRoom, IsUnsettable, KeepsNames, LeavesPasses, MayAsk, Sets, SetsAnew, call_asked, caller_of, start_asked};
+ghost use Rattle.timer_objects.specs.Rearming.{Ends, EndsAt, HasEntryRoom, HasLocked, IsHolding, IsUnsettable, KeepsNames, LeavesPasses, MayAsk, Sets, SetsAnew, call_asked, caller_of, start_asked};
 
 use crate::arming::{arm, disarm, look, quiet_span};
 use crate::cell::{ObjectCell, Span};
@@ -19,7 +19,7 @@ use crate::object::{Decl, Kind, ObjectCall, ObjectReply};
 use crate::objects::Objects;
 use crate::settime::{end_of, wanted_by};
 use crate::wanting::{COUNT_LENGTH, Ended, EntryCall, Rearming, wanted};
-use counted_row::RowPass;
+use counted_row::{Held, RowPass};
 use expire_pass::Log;
 use hr_timers::{Pass, Timers};
 use ktime::Reading;
@@ -157,6 +157,40 @@ impl Objects {
             let stamp = self.release(objects_pass, held);
             return Some(Ended::Full { stamp });
         }
+        self.make_held(
+            rt,
+            timers,
+            pass,
+            objects_pass,
+            log,
+            object_log,
+            id,
+            asked,
+            held,
+        )
+    }
+
+    /// Makes the call that is asked of a held object whose history has room, and lets it go. It answers nothing where its timer can't be set yet.
+    pub(crate) fn make_held<R: Wait>(
+        &self,
+        rt: &R,
+        timers: &Timers,
+        pass: &mut Pass,
+        objects_pass: &mut RowPass<ObjectCell>,
+        log: &mut Log,
+        object_log: &mut ObjectLog,
+        id: u32,
+        asked: &EntryCall,
+        held: Held<ObjectCell>,
+    ) -> Option<Ended>
+        requires holding { IsHolding self.now timers.now pass.old objects_pass.old id asked.now held }
+        requires room { (most_noted self.now timers.now.about id ≤ log.old.spare) × (1 ≤ object_log.old.spare) }
+        ensures leaves { LeavesPasses self.now timers.now pass.new objects_pass.new }
+        ensures ends { (begun : ObjectsPass) → HasLocked self.now begun objects_pass.old id held → MatchOption result (HasWaited (caller_of pass.old begun log.old object_log.old) (caller_of pass.new objects_pass.new log.new object_log.new)) (λ e. EndsAt self.now timers.now.about (caller_of pass.old begun log.old object_log.old) (caller_of pass.new objects_pass.new log.new object_log.new) id asked.now e held.state) }
+        ensures again { IfNone result ((log.new ≡ log.old) × (object_log.new ≡ object_log.old)) }
+        ensures why { (begun : ObjectsPass) → HasLocked self.now begun objects_pass.old id held → IfNone result (HasToWait self.now begun objects_pass.new id (IsUnsettable timers.now.about pass.new.known id asked.now)) }
+        ensures room { (log.old.spare ≤ log.new.spare + most_noted self.now timers.now.about id) × (object_log.old.spare ≤ object_log.new.spare + 1) }
+    {
         let Decl { kind, base, .. } = self.decl(id);
         let cell = held.state();
         let Some((arm, span)) = set(rt, timers, pass, log, id, asked, cell, base) else {

@@ -1,16 +1,18 @@
 //! POSIX timers and timer descriptors over high-resolution timers, for many threads: each object behind a lock of its own, with one history.
 #![tactic(auto)]
 
-pub use answers::{Gettime, Overrun, Readable};
+pub use answers::{BlockingRead, Gettime, Overrun, Readable};
 pub use callback::Callback;
 pub use cell::{ObjectCell, Span, SpannedCall};
 pub use firing::{Firing, FiringWith};
 pub use log::{ObjectLog, ObjectReceipt};
 pub use object::{Decl, Kind, Object, ObjectCall, ObjectReply};
 pub use objects::Objects;
+pub use readers::Reader;
 
 mod answers;
 mod arming;
+mod blocking;
 mod callback;
 mod cell;
 mod entries;
@@ -19,6 +21,7 @@ mod log;
 mod looking;
 mod object;
 mod objects;
+mod readers;
 mod settime;
 mod trigger;
 mod wanting;

@@ -1,16 +1,18 @@
 //! Objects that many threads share, and what each call does at their row.
-ghost use Rattle.std.specs.Prelude.{◌≡◌, ◌≤◌, ◌<◌, ◌+◌, [], ◌∷◌, ◌++◌, Some, length, IfOk, MatchBool};
+ghost use Rattle.std.specs.Prelude.{◌≡◌, ◌≤◌, ◌<◌, ◌+◌, ◌^◌, [], ◌∷◌, ◌++◌, Some, length, IfOk, MatchBool};
 ghost use Rattle.pass_names.specs.Names.{AnswersFor, IsLast};
 ghost use Rattle.pass_names.specs.Passes.{HasEach, Meets, Retires};
 ghost use Rattle.timer_setting.specs.Settimes.{most_entries};
 ghost use Rattle.counted_row.specs.Views.{IsPassOfRow, Knows, Locks, first_view, new_view, released, split_view};
 ghost use Rattle.timer_objects.specs.declared.object.ObjectCall.TheVariants as calls;
+ghost use Rattle.timer_objects.specs.BlockingReads.{descriptors_below};
 ghost use Rattle.timer_objects.specs.Cells.{cell_meaning, opened_cell, opened_cells, spanned};
 ghost use Rattle.timer_objects.specs.Known.{Enters, HoldsObject, IsObjectsPass, MayEnter, decl_at, receipt_of, row_of, seen_of};
 
 use crate::cell::{ObjectCell, Span, SpannedCall};
 use crate::log::{ObjectLog, note};
 use crate::object::{Decl, Kind, Object, ObjectCall, ObjectReply};
+use crate::readers::{Bells, Reader};
 use counted_row::{Held, Row, RowPass};
 use std::alloc::{AllocError, Global};
 use std::marker::Model;
@@ -22,6 +24,7 @@ pub struct Objects {
     row: Row<ObjectCell>,
     decls: Vec<Decl>,
     limit: u64,
+    bells: Bells,
 }
 
 impl Model for Objects {
@@ -52,6 +55,41 @@ impl Objects {
         ensures pass { IfOk result (λ r. IsObjectsPass r.0 r.1) }
         ensures first { IfOk result (λ r. r.1.knows ≡ first_view (opened_cells decls.now max_events)) }
     {
+        Objects::with_bells(alloc, decls, max_events, Bells::none(alloc))
+    }
+
+    /// The same, and a reader for each descriptor, in the order of their numbers: for who calls `read_wait`.
+    pub fn make_blocking(
+        alloc: Global,
+        decls: &[Decl],
+        max_events: u64,
+    ) -> Result<(Objects, RowPass<ObjectCell>, Vec<Reader>), AllocError>
+        requires some { 0 < max_events }
+        requires few { max_events ≤ most_entries }
+        requires numbers { length decls.now ≤ 2 ^ 32 }
+        ensures made { IfOk result (λ r. (r.0.decls ≡ decls.now) × (r.0.limit ≡ max_events)) }
+        ensures pass { IfOk result (λ r. IsObjectsPass r.0 r.1) }
+        ensures first { IfOk result (λ r. r.1.knows ≡ first_view (opened_cells decls.now max_events)) }
+        ensures readers { IfOk result (λ r. r.2.items ≡ descriptors_below decls.now (length decls.now)) }
+    {
+        let (bells, readers) = Bells::of_descriptors(alloc, decls)?;
+        let (objects, pass) = Objects::with_bells(alloc, decls, max_events, bells)?;
+        Ok((objects, pass, readers))
+    }
+
+    /// Objects of these declarations with these bells, and the first pass.
+    fn with_bells(
+        alloc: Global,
+        decls: &[Decl],
+        max_events: u64,
+        bells: Bells,
+    ) -> Result<(Objects, RowPass<ObjectCell>), AllocError>
+        requires some { 0 < max_events }
+        requires few { max_events ≤ most_entries }
+        ensures made { IfOk result (λ r. (r.0.decls ≡ decls.now) × (r.0.limit ≡ max_events)) }
+        ensures pass { IfOk result (λ r. IsObjectsPass r.0 r.1) }
+        ensures first { IfOk result (λ r. r.1.knows ≡ first_view (opened_cells decls.now max_events)) }
+    {
         let mut kept = Vec::new(alloc);
         kept.extend_from_slice(decls)?;
         let cells = cells_of(alloc, decls, max_events)?;
@@ -60,8 +98,19 @@ impl Objects {
             row,
             decls: kept,
             limit: max_events,
+            bells,
         };
         Ok((objects, pass))
+    }
+
+    /// Tells every reader that the clock was set: who makes a write of it calls this afterwards. It leaves a token for each, and waits for nobody.
+    pub fn clock_was_set<R: Wait>(&self, _rt: &R) {
+        self.bells.ring_all();
+    }
+
+    /// Leaves a token for the reader of a descriptor, if it has one.
+    pub(crate) fn ring(&self, id: u32) {
+        self.bells.ring(id);
     }
 
     /// What an object was declared with.
@@ -201,6 +250,7 @@ impl Objects {
             row,
             decls: _,
             limit: _,
+            bells: _,
         } = self;
         row.close(pass);
     }

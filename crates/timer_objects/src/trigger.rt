@@ -82,7 +82,15 @@ pub(crate) fn trigger<R: Wait>(
     if held.stamp() >= objects.limit() {
         return skip(objects, pass, held, log, id, &call, span);
     }
-    let _ = objects.enter(pass, held, log, id, &call, span);
+    let reply = objects.enter(pass, held, log, id, &call, span);
+    tell_reader(objects, id, &reply);
+}
+
+/// Tells a descriptor's reader where its trigger was counted: then there is something to read.
+fn tell_reader(objects: &Objects, id: u32, reply: &ObjectReply) {
+    if let ObjectReply::Fd(timer_fd::Reply::Trigger(TriggerAnswer::Counted)) = reply {
+        objects.ring(id);
+    }
 }
 
 /// Takes the lock of an object, once the spans of its calls don't go beyond this number of its timer's entries, or its history is full.

@@ -1,0 +1,132 @@
+-- A read of a descriptor that waits until there is something to read.
+use Rattle.std.specs.Prelude.{ℕ, ◌≡◌, ◌≤◌, ◌<◌, zero, suc, true, List, [], ◌∷◌, ◌++◌, length}
+use Rattle.std.specs.Prelude.{get_or}
+use Rattle.ktime.specs.declared.clock_id.ClockId.TheVariants as clocks
+use Rattle.ktime.specs.Readings.{ClockReading}
+use Rattle.base_row.specs.declared.view.Opening.{Opening}
+use Rattle.base_row.specs.Calls.{BaseRowOf}
+use Rattle.hr_timers.specs.Known.{IsPassOf, PassOf}
+use Rattle.timer_fd.specs.declared.answers.ReadAnswer.{ReadAnswer}
+use Rattle.timer_fd.specs.declared.answers.ReadAnswer.TheVariants as reads
+use Rattle.timer_fd.specs.declared.calls.Reply.TheVariants as fd_replies
+use Rattle.timer_fd.specs.States.{Descriptor, is_canceled, is_readable}
+use Rattle.timer_fd.specs.Steps.{count_length, total_in}
+use Rattle.timer_objects.specs.declared.answers.BlockingRead.{BlockingRead}
+use Rattle.timer_objects.specs.declared.answers.BlockingRead.TheVariants as blocking
+use Rattle.timer_objects.specs.declared.object.Decl.{Decl}
+use Rattle.timer_objects.specs.declared.object.Kind.{Kind}
+use Rattle.timer_objects.specs.declared.object.Kind.TheVariants as kinds
+use Rattle.timer_objects.specs.declared.blocking.ReadTurn.{ReadTurn}
+use Rattle.timer_objects.specs.declared.blocking.ReadTurn.TheVariants as turns
+use Rattle.timer_objects.specs.declared.object.Object.{Object}
+use Rattle.timer_objects.specs.declared.object.Object.TheVariants as objects
+use Rattle.timer_objects.specs.declared.object.ObjectReply.{ObjectReply}
+use Rattle.timer_objects.specs.declared.object.ObjectReply.TheVariants as replies
+use Rattle.timer_objects.specs.declared.wanting.Ended.{Ended}
+use Rattle.timer_objects.specs.declared.wanting.Ended.TheVariants as ends
+use Rattle.timer_objects.specs.declared.wanting.EntryCall.{EntryCall}
+use Rattle.timer_objects.specs.declared.wanting.EntryCall.TheVariants as entry_calls
+use Rattle.timer_objects.specs.declared.wanting.Rearming.TheVariants as rearmings
+use Rattle.timer_objects.specs.Calls.{Caller, FindsFull, HasWaited, RearmingMade}
+use Rattle.timer_objects.specs.Known.{IsObjectsPass, ObjectsOf, ObjectsPass, Suits, decl_at, seen_of}
+use Rattle.timer_objects.specs.Rearming.{MakesEntry, RepliesTo}
+
+-- ---- readers
+
+-- the kind of an object, by what the objects were declared with
+abbrev pub kind_at : List Decl → ℕ → Kind
+kind_at decls id = (get_or decls id (record { kind = kinds.Raw; clock = clocks.Monotonic; base = 0 })).kind
+
+-- the number, where it is a descriptor's
+abbrev pub if_descriptor : Kind → ℕ → List ℕ
+if_descriptor kinds.Raw id = []
+if_descriptor kinds.Posix id = []
+if_descriptor kinds.Fd id = id ∷ []
+
+-- the descriptors among the objects of a number below this one, in the order of their numbers
+abbrev pub descriptors_below : List Decl → ℕ → List ℕ
+descriptors_below decls zero = []
+descriptors_below decls (suc n) = descriptors_below decls n ++ if_descriptor (kind_at decls n) n
+
+-- ---- the read
+
+-- A read that made an entry at this reading, by the step of a read, and so answered; and the descriptor as it was before the entry, which had something
+-- to read: an expiry, or that the clock was set.
+pub record ReadsSome (x : ObjectsOf) (o : Opening) (old new : Caller) (id : ℕ) (reading : ClockReading) (a : ReadAnswer) : Type 0 where
+  pub made : RearmingMade x o old new id rearmings.Reading reading (replies.Fd (fd_replies.Read a))
+  pub descriptor : Descriptor
+  pub found : made.enters.commits.state.object ≡ objects.Fd descriptor
+  pub some : is_readable descriptor reading ≡ true
+
+-- A read that waits: a buffer that is too short is refused first, and nothing is other than before; it is refused exactly where the object's history
+-- is full; else it has read something. Where the clock was set back before the expiry that was counted, nothing is left to be told, and it answers zero.
+abbrev pub ReadsBlocking : ObjectsOf → Opening → Caller → Caller → ℕ → ℕ → ClockReading → BlockingRead → Type 0
+ReadsBlocking x o old new id len reading blocking.ShortBuffer = (len < count_length) × (new ≡ old)
+ReadsBlocking x o old new id len reading (blocking.Spent n) = (count_length ≤ len) × FindsFull x old new id n
+ReadsBlocking x o old new id len reading (blocking.Count total) =
+    (count_length ≤ len) × (0 < total) × (r : ReadsSome x o old new id reading (reads.Count total)) × (total ≡ total_in r.descriptor reading)
+ReadsBlocking x o old new id len reading blocking.Zero =
+    (count_length ≤ len) × (r : ReadsSome x o old new id reading reads.Again) × (total_in r.descriptor reading ≡ 0)
+ReadsBlocking x o old new id len reading blocking.Canceled =
+    (count_length ≤ len) × (r : ReadsSome x o old new id reading reads.Canceled) × (is_canceled r.descriptor reading ≡ true)
+
+-- ---- its turns
+
+-- a read at this reading, as a call that makes an entry
+abbrev pub read_at : ClockReading → EntryCall
+read_at reading = entry_calls.Rearming rearmings.Reading reading
+
+-- an object is a descriptor that has something to read
+abbrev pub HasSome : ClockReading → Object → Type 0
+HasSome reading object = (t : Descriptor) × (object ≡ objects.Fd t) × (is_readable t reading ≡ true)
+
+-- a turn ended the read: its history was full, or an entry was made, of a descriptor that had something to read
+abbrev pub EndsRead : ObjectsOf → Opening → Caller → Caller → ℕ → ClockReading → Ended → Type 0
+EndsRead x o old new id reading (ends.Full n) = FindsFull x old new id n
+EndsRead x o old new id reading (ends.Made n reply) =
+    (made : MakesEntry x o old new id (read_at reading) reply) × HasSome reading made.0.enters.commits.state.object × (n ≡ length (seen_of new.objects id))
+
+-- a turn leaves the read to go on
+abbrev pub GoesOn : ReadTurn → Type 0
+GoesOn (turns.Ended e) = ⊥
+GoesOn turns.NothingToRead = Unit {0}
+GoesOn turns.Hindered = Unit {0}
+
+-- a turn that only looked, or ended the read
+abbrev pub ReadsOnce : ObjectsOf → Opening → Caller → Caller → ℕ → ClockReading → ReadTurn → Type 0
+ReadsOnce x o old new id reading (turns.Ended e) = EndsRead x o old new id reading e
+ReadsOnce x o old new id reading turns.NothingToRead = HasWaited old new
+ReadsOnce x o old new id reading turns.Hindered = HasWaited old new
+
+-- a caller's passes may read this descriptor
+pub record MayRead (x : ObjectsOf) (timers : BaseRowOf) (pass : PassOf) (objects_pass : ObjectsPass) (id : ℕ) : Type 0 where
+  pub of_timers : IsPassOf timers pass
+  pub of_objects : IsObjectsPass x objects_pass
+  pub suits : Suits x timers.about
+  pub within : id < length x.decls
+  pub kind : (decl_at x id).kind ≡ kinds.Fd
+
+-- ---- the answer
+
+-- an entry that was made is a read's
+abbrev pub EndedByRead : Ended → Type 0
+EndedByRead (ends.Full n) = Unit {0}
+EndedByRead (ends.Made n reply) = RepliesTo rearmings.Reading reply
+
+-- what the entry's reply is told as
+abbrev pub AnswersReply : ObjectReply → BlockingRead → Type 0
+AnswersReply (replies.Fd (fd_replies.Read (reads.Count total))) a = a ≡ blocking.Count total
+AnswersReply (replies.Fd (fd_replies.Read reads.Again)) a = a ≡ blocking.Zero
+AnswersReply (replies.Fd (fd_replies.Read reads.Canceled)) a = a ≡ blocking.Canceled
+AnswersReply (replies.Fd (fd_replies.Read reads.ShortBuffer)) a = ⊥
+AnswersReply (replies.Fd (fd_replies.Read (reads.Spent n))) a = ⊥
+AnswersReply (replies.Fd (fd_replies.Settime r)) a = ⊥
+AnswersReply (replies.Fd (fd_replies.Trigger r)) a = ⊥
+AnswersReply (replies.Fd (fd_replies.Gettime r)) a = ⊥
+AnswersReply (replies.Posix r) a = ⊥
+AnswersReply replies.None a = ⊥
+
+-- what a read that ended so answers
+abbrev pub AnswersBy : Ended → BlockingRead → Type 0
+AnswersBy (ends.Full n) a = a ≡ blocking.Spent n
+AnswersBy (ends.Made n reply) a = AnswersReply reply a

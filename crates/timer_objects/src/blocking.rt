@@ -1,0 +1,204 @@
+//! A read of a descriptor that waits until there is something to read.
+ghost use Rattle.std.specs.Prelude.{◌≡◌, ◌≤◌, ◌<◌, ◌+◌, length, true, IfNone, MatchOption};
+ghost use Rattle.pass_names.specs.Passes.{Looks};
+ghost use Rattle.clock_cell.specs.Views.{IsPassOfClock, seen_reading};
+ghost use Rattle.hr_timers.specs.Known.{IsPassOf};
+ghost use Rattle.timer_objects.specs.declared.object.Kind.TheVariants as kinds;
+ghost use Rattle.timer_objects.specs.Known.{IsObjectsPass, Suits, decl_at, most_noted};
+ghost use Rattle.timer_objects.specs.Calls.{HasWaited};
+ghost use Rattle.timer_objects.specs.Rearming.{KeepsNames, LeavesPasses, caller_of};
+ghost use Rattle.timer_objects.specs.BlockingReads.{AnswersBy, EndedByRead, EndsRead, GoesOn, HasSome, MayRead, ReadsBlocking, ReadsOnce};
+
+use crate::answers::BlockingRead;
+use crate::cell::ObjectCell;
+use crate::log::ObjectLog;
+use crate::object::{Object, ObjectReply};
+use crate::objects::Objects;
+use crate::readers::Reader;
+use crate::wanting::{COUNT_LENGTH, Ended, EntryCall, Rearming};
+use clock_cell::{ClockPass, SharedClock};
+use counted_row::RowPass;
+use expire_pass::Log;
+use hr_timers::{Pass, Timers};
+use ktime::Reading;
+use pass_names::Retries;
+use std::sync::Wait;
+use timer_fd::ReadAnswer;
+
+/// What a turn of such a read came to.
+#[derive(Clone, Copy, Debug, PartialEq, Eq)]
+pub enum ReadTurn {
+    /// It ended the read.
+    Ended(Ended),
+    /// There is nothing to read yet.
+    NothingToRead,
+    /// The timer can't be set yet.
+    Hindered,
+}
+
+impl Objects {
+    /// Reads how often a reader's descriptor has expired, as `read` does, but waits while there is nothing to read (`read(2)` of a descriptor
+    /// without `TFD_NONBLOCK`). Each try reads the clock while the object is locked. Only for objects that `make_blocking` made: of others no reader
+    /// is woken. It ends where an expiry is counted by an expiry run with these objects, or a write of the clock is told by `clock_was_set`.
+    pub fn read_wait<R: Wait>(
+        &self,
+        rt: &R,
+        timers: &Timers,
+        pass: &mut Pass,
+        objects_pass: &mut RowPass<ObjectCell>,
+        log: &mut Log,
+        object_log: &mut ObjectLog,
+        reader: &mut Reader,
+        len: u64,
+        clock: &SharedClock,
+        clock_pass: &mut ClockPass,
+    ) -> BlockingRead
+        requires pass { IsPassOf timers.now pass.old }
+        requires objects { IsObjectsPass self.now objects_pass.old }
+        requires suits { Suits self.now timers.now.about }
+        requires within { reader.old < length self.now.decls }
+        requires kind { (decl_at self.now reader.old).kind ≡ kinds.Fd }
+        requires clock { IsPassOfClock clock.now clock_pass.old }
+        requires room { (most_noted self.now timers.now.about reader.old ≤ log.old.spare) × (1 ≤ object_log.old.spare) }
+        ensures pass { IsPassOf timers.now pass.new }
+        ensures objects { IsObjectsPass self.now objects_pass.new }
+        ensures clock { IsPassOfClock clock.now clock_pass.new }
+        ensures reads { ReadsBlocking self.now timers.now.about (caller_of pass.old objects_pass.old log.old object_log.old) (caller_of pass.new objects_pass.new log.new object_log.new) reader.old len (seen_reading clock_pass.new.knows) result }
+        ensures looks { Looks clock_pass.old.knows.pass clock_pass.new.knows.pass }
+        ensures names { KeepsNames (caller_of pass.old objects_pass.old log.old object_log.old) (caller_of pass.new objects_pass.new log.new object_log.new) }
+        ensures reader { reader.new ≡ reader.old }
+        ensures room { (log.old.spare ≤ log.new.spare + most_noted self.now timers.now.about reader.old) × (object_log.old.spare ≤ object_log.new.spare + 1) }
+    {
+        if len < COUNT_LENGTH {
+            return BlockingRead::ShortBuffer;
+        }
+        let id = reader.id();
+        for _ in rt.forever() {
+            let tried = self.try_read(
+                rt, timers, pass, objects_pass, log, object_log, id, clock, clock_pass,
+            );
+            match tried {
+                Some(ended) => return answer_of(ended),
+                None => reader.wait(rt),
+            }
+        }
+        unreachable!()
+    }
+
+    /// Reads if there is something to read, and tries again while the timer can't be set yet.
+    fn try_read<R: Wait>(
+        &self,
+        rt: &R,
+        timers: &Timers,
+        pass: &mut Pass,
+        objects_pass: &mut RowPass<ObjectCell>,
+        log: &mut Log,
+        object_log: &mut ObjectLog,
+        id: u32,
+        clock: &SharedClock,
+        clock_pass: &mut ClockPass,
+    ) -> Option<Ended>
+        requires may { MayRead self.now timers.now pass.old objects_pass.old id }
+        requires clock { IsPassOfClock clock.now clock_pass.old }
+        requires room { (most_noted self.now timers.now.about id ≤ log.old.spare) × (1 ≤ object_log.old.spare) }
+        ensures leaves { LeavesPasses self.now timers.now pass.new objects_pass.new }
+        ensures clock { IsPassOfClock clock.now clock_pass.new }
+        ensures looks { Looks clock_pass.old.knows.pass clock_pass.new.knows.pass }
+        ensures reads { MatchOption result (HasWaited (caller_of pass.old objects_pass.old log.old object_log.old) (caller_of pass.new objects_pass.new log.new object_log.new)) (λ e. EndsRead self.now timers.now.about (caller_of pass.old objects_pass.old log.old object_log.old) (caller_of pass.new objects_pass.new log.new object_log.new) id (seen_reading clock_pass.new.knows) e) }
+        ensures again { IfNone result ((log.new ≡ log.old) × (object_log.new ≡ object_log.old)) }
+        ensures room { (log.old.spare ≤ log.new.spare + most_noted self.now timers.now.about id) × (object_log.old.spare ≤ object_log.new.spare + 1) }
+    {
+        for _ in Retries::new(rt) {
+            let turn = self.read_once(
+                rt, timers, pass, objects_pass, log, object_log, id, clock, clock_pass,
+            );
+            match turn {
+                ReadTurn::Ended(ended) => return Some(ended),
+                ReadTurn::NothingToRead => return None,
+                ReadTurn::Hindered => {}
+            }
+        }
+        unreachable!()
+    }
+
+    /// One turn, while the descriptor is locked.
+    fn read_once<R: Wait>(
+        &self,
+        rt: &R,
+        timers: &Timers,
+        pass: &mut Pass,
+        objects_pass: &mut RowPass<ObjectCell>,
+        log: &mut Log,
+        object_log: &mut ObjectLog,
+        id: u32,
+        clock: &SharedClock,
+        clock_pass: &mut ClockPass,
+    ) -> ReadTurn
+        requires may { MayRead self.now timers.now pass.old objects_pass.old id }
+        requires clock { IsPassOfClock clock.now clock_pass.old }
+        requires room { (most_noted self.now timers.now.about id ≤ log.old.spare) × (1 ≤ object_log.old.spare) }
+        ensures leaves { LeavesPasses self.now timers.now pass.new objects_pass.new }
+        ensures clock { IsPassOfClock clock.now clock_pass.new }
+        ensures looks { Looks clock_pass.old.knows.pass clock_pass.new.knows.pass }
+        ensures reads { ReadsOnce self.now timers.now.about (caller_of pass.old objects_pass.old log.old object_log.old) (caller_of pass.new objects_pass.new log.new object_log.new) id (seen_reading clock_pass.new.knows) result }
+        ensures again { GoesOn result → (log.new ≡ log.old) × (object_log.new ≡ object_log.old) }
+        ensures room { (log.old.spare ≤ log.new.spare + most_noted self.now timers.now.about id) × (object_log.old.spare ≤ object_log.new.spare + 1) }
+    {
+        let held = self.lock(rt, objects_pass, id);
+        let reading = clock.read(rt, clock_pass);
+        if self.is_full(&held) {
+            let stamp = self.release(objects_pass, held);
+            return ReadTurn::Ended(Ended::Full { stamp });
+        }
+        if !has_some(&held.state().object, reading) {
+            self.release(objects_pass, held);
+            return ReadTurn::NothingToRead;
+        }
+        let asked = EntryCall::Rearming(Rearming::Reading, reading);
+        let made = self.make_held(
+            rt,
+            timers,
+            pass,
+            objects_pass,
+            log,
+            object_log,
+            id,
+            &asked,
+            held,
+        );
+        match made {
+            Some(ended) => ReadTurn::Ended(ended),
+            None => ReadTurn::Hindered,
+        }
+    }
+}
+
+/// Whether an object is a descriptor that has something to read.
+fn has_some(object: &Object, reading: Reading) -> bool
+    ensures { result ≡ true → HasSome reading object.now }
+{
+    match object {
+        Object::Fd(timer) => timer.readable(reading),
+        Object::Raw | Object::Posix(_) => false,
+    }
+}
+
+/// The answer of a read that ended so.
+fn answer_of(ended: Ended) -> BlockingRead
+    requires read { EndedByRead ended }
+    ensures { AnswersBy ended result }
+{
+    match ended {
+        Ended::Full { stamp } => BlockingRead::Spent { stamp },
+        Ended::Made {
+            stamp: _,
+            reply: ObjectReply::Fd(timer_fd::Reply::Read(answer)),
+        } => match answer {
+            ReadAnswer::Count { total } => BlockingRead::Count { total },
+            ReadAnswer::Again => BlockingRead::Zero,
+            ReadAnswer::Canceled => BlockingRead::Canceled,
+            ReadAnswer::ShortBuffer | ReadAnswer::Spent { .. } => unreachable!(),
+        },
+        Ended::Made { .. } => unreachable!(),
+    }
+}

@@ -1,0 +1,99 @@
+//! Readers of descriptors that wait, and the bells that wake them.
+ghost use Rattle.std.specs.Prelude.{◌≡◌, ◌≤◌, ◌^◌, length, IfOk};
+ghost use Rattle.timer_objects.specs.BlockingReads.{descriptors_below};
+
+use crate::object::{Decl, Kind};
+use crossbeam_utils::sync::{Parker, Unparker};
+use std::alloc::{AllocError, Global};
+use std::marker::Model;
+use std::sync::Wait;
+
+/// The one reader of a descriptor that may wait. It isn't copied, so one thread at a time has it.
+#[derive(Drop)]
+pub struct Reader {
+    id: u32,
+    parker: Parker,
+}
+
+impl Model for Reader {
+    ghost use Rattle.std.specs.Prelude.{ℕ};
+
+    ghost Value = { ℕ };
+
+    ghost view = { λ r. r.id };
+}
+
+impl Reader {
+    /// The number of its descriptor.
+    pub fn id(&self) -> u32
+        ensures { result ≡ self.now }
+    {
+        self.id
+    }
+
+    /// Waits until there is a token for it, and takes that.
+    pub(crate) fn wait<R: Wait>(&mut self, rt: &R)
+        ensures { self.new ≡ self.old }
+    {
+        self.parker.park(rt);
+    }
+}
+
+/// The bells of objects: one of each descriptor that has a reader.
+#[derive(Drop)]
+pub struct Bells {
+    bells: Vec<Option<Unparker>>,
+}
+
+impl Bells {
+    /// None.
+    pub(crate) fn none(alloc: Global) -> Bells {
+        Bells {
+            bells: Vec::new(alloc),
+        }
+    }
+
+    /// One of each descriptor, and their readers in the order of the descriptors' numbers.
+    pub(crate) fn of_descriptors(
+        alloc: Global,
+        decls: &[Decl],
+    ) -> Result<(Bells, Vec<Reader>), AllocError>
+        requires few { length decls.now ≤ 2 ^ 32 }
+        ensures readers { IfOk result (λ r. r.1.items ≡ descriptors_below decls.now (length decls.now)) }
+    {
+        let mut bells = Vec::new(alloc);
+        let mut readers = Vec::new(alloc);
+        for id in 0..decls.len() {
+            let bell = match decls[id].kind {
+                Kind::Fd => {
+                    let parker = Parker::new(alloc)?;
+                    let bell = parker.unparker().clone()?;
+                    readers.push(Reader {
+                        id: id as u32,
+                        parker,
+                    })?;
+                    Some(bell)
+                }
+                Kind::Raw | Kind::Posix => None,
+            };
+            bells.push(bell)?;
+        }
+        Ok((Bells { bells }, readers))
+    }
+
+    /// Leaves a token for the reader of a descriptor, if it has one. It waits for nobody.
+    pub(crate) fn ring(&self, id: u32) {
+        if let Some(Some(bell)) = self.bells.get(id as usize) {
+            bell.unpark();
+        }
+    }
+
+    /// Leaves one for each reader.
+    pub(crate) fn ring_all(&self) {
+        for bell in &self.bells {
+            if let Some(bell) = bell {
+                bell.unpark();
+            }
+        }
+    }
+}
