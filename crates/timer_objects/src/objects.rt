@@ -103,12 +103,12 @@ impl Objects {
         Ok((objects, pass))
     }
 
-    /// Tells every reader that the clock was set: who makes a write of it calls this afterwards. It leaves a token for each, and waits for nobody.
+    /// Tells every reader that the clock was set: who makes a write of it calls this afterwards. It wakes each, and waits for nobody.
     pub fn clock_was_set<R: Wait>(&self, _rt: &R) {
         self.bells.ring_all();
     }
 
-    /// Leaves a token for the reader of a descriptor, if it has one.
+    /// Wakes the reader of a descriptor, if it has one.
     pub(crate) fn ring(&self, id: u32) {
         self.bells.ring(id);
     }

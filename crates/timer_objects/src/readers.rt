@@ -31,7 +31,7 @@ impl Reader {
         self.id
     }
 
-    /// Waits until there is a token for it, and takes that.
+    /// Waits until it is woken, or goes on if it was since it last waited.
     pub(crate) fn wait<R: Wait>(&mut self, rt: &R)
         ensures { self.new ≡ self.old }
     {
@@ -81,14 +81,14 @@ impl Bells {
         Ok((Bells { bells }, readers))
     }
 
-    /// Leaves a token for the reader of a descriptor, if it has one. It waits for nobody.
+    /// Wakes the reader of a descriptor, if it has one: now, or as soon as it waits.
     pub(crate) fn ring(&self, id: u32) {
         if let Some(Some(bell)) = self.bells.get(id as usize) {
             bell.unpark();
         }
     }
 
-    /// Leaves one for each reader.
+    /// Wakes each reader.
     pub(crate) fn ring_all(&self) {
         for bell in &self.bells {
             if let Some(bell) = bell {

@@ -1,0 +1,11 @@
+use Rattle.std.proofs.Common.{◌≡◌}
+use Rattle.object_uses.specs.Callers.{HasPasses, KeepsPasses}
+use Rattle.object_uses.specs.Stands.{KeepsClock}
+use Rattle.object_uses.proofs.tests.blocking.read_until.Given as goal
+
+abbrev pub invariant-loop-_turn : goal.invariant-loop-_turn
+invariant-loop-_turn l = record {
+  keeps : KeepsPasses l.fn.timers l.fn.objects l.fn.pass l.pass l.fn.objects_pass l.objects_pass;
+  clock : KeepsClock l.fn.clock l.fn.clock_pass l.clock_pass;
+  reader : l.reader ≡ l.fn.reader;
+}
