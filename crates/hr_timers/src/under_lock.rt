@@ -71,6 +71,7 @@ pub fn lock_timer<R: Wait>(rt: &R, row: &BaseRow, pass: &mut Pass, timer: u32) -
 }
 
 /// One try at the lock of the base that the timer's word names. It waits for nobody.
+#[inline(always)]
 fn try_lock_timer(row: &BaseRow, pass: &mut Pass, timer: u32) -> Option<HeldBase>
     requires rest { IsAtRest row.now pass.old }
     requires timer { timer < length row.now.about.timers }
