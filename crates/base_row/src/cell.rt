@@ -39,10 +39,11 @@ impl BaseCell {
         self.slot.take()
     }
 
-    /// Puts a base in.
-    pub fn put(&mut self, slot: BaseSlot)
-        ensures { self.new ≡ Some slot }
+    /// Puts a base in, and gives what was there.
+    pub fn put(&mut self, slot: BaseSlot) -> Option<BaseSlot>
+        ensures put { self.new ≡ Some slot }
+        ensures before { result ≡ self.old }
     {
-        self.slot = Some(slot);
+        self.slot.replace(slot)
     }
 }

@@ -32,6 +32,7 @@ impl BaseRow {
     }
 
     /// The same, with a receipt into a sink.
+    #[inline(always)]
     pub fn append_logged<S: ReceiptSink>(
         &self,
         pass: &mut Pass,
@@ -207,6 +208,7 @@ impl BaseRow {
     }
 
     /// Steps a timer that is on the held base.
+    #[inline(always)]
     fn step(&self, pass: &Pass, held: &mut HeldBase, timer: u32, event: &Event) -> Reply
         requires row { IsBasePassOf self.now pass.now }
         requires may { MayAppend self.now.about pass.now.knows held.old timer event.now }

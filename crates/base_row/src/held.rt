@@ -112,6 +112,7 @@ impl HeldBase {
     }
 
     /// Makes one entry of a timer that is on the base.
+    #[inline(always)]
     pub(crate) fn apply(&mut self, timer: u32, event: &Event) -> Reply
         requires below { timer < length self.old.content.states }
         requires needs { Needs (timer_at self.old.content.states timer) event.now }

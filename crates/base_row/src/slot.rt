@@ -107,6 +107,7 @@ impl BaseSlot {
     }
 
     /// Makes one entry of a timer that is on this base.
+    #[inline(always)]
     pub fn apply(&mut self, timer: u32, event: &Event) -> Reply
         requires below { timer < length self.old.states }
         requires needs { Needs (timer_at self.old.states timer) event.now }

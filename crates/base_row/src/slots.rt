@@ -31,7 +31,10 @@ pub fn put_back(cells: &BaseCells, seat: &mut BaseSeat, base: u32, slot: BaseSlo
     ensures same { seat.new.table_id ≡ seat.old.table_id }
     ensures full { seat.new.me ≡ (seat.old.me.0, (base, Some slot) ∷ []) }
 {
-    seat.slot_mut(cells, base as usize).put(slot);
+    match seat.slot_mut(cells, base as usize).put(slot) {
+        Some(_) => unreachable!(),
+        None => {}
+    }
 }
 
 /// Takes a lock whose word was met to be `first`, if it still is.

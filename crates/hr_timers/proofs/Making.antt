@@ -21,7 +21,7 @@ use Rattle.base_row.specs.Plays.{carried_by, carry_after}
 use Rattle.base_row.proofs.Calling.{extends_appended, looks_freed, seen_after}
 use Rattle.hr_timers.specs.Known.{AddsBehind, KnownOfTimers, Looks, MadeAt}
 use Rattle.hr_timers.specs.Calls.{entry_by}
-use Rattle.hr_timers.proofs.Locks.{locks_got, locks_refl, locks_seen, locks_trans}
+use Rattle.hr_timers.proofs.Locks.{locks_got, locks_missed, locks_refl, locks_seen, locks_trans}
 
 -- ---- looks
 
@@ -58,6 +58,18 @@ looks_locked base v w h l = record {
   carry = ap (λ (y : BaseView BaseContent). y.carry) l.rest;
   locks = locks_got base v w h l;
 }
+
+pub looks_missed : (base : ℕ) (v w : BaseView BaseContent) → rows.MissesBase base v w → Looks v w
+looks_missed base v w m =
+    let rest = m.waits.rest in
+    record {
+      seen = m.waits.seen;
+      mine = ap (λ (y : BaseView BaseContent). y.mine) rest;
+      id = ap (λ (y : BaseView BaseContent). y.id) rest;
+      claims = ap (λ (y : BaseView BaseContent). y.claims) rest;
+      carry = ap (λ (y : BaseView BaseContent). y.carry) rest;
+      locks = locks_missed base v w m;
+    }
 
 pub looks_on : (v w : BaseView BaseContent) → Looks v w → LooksOn (rows.known_of v) (rows.known_of w)
 looks_on v w l = record { seen = l.seen; mine = l.mine; id = l.id; claims = l.claims }

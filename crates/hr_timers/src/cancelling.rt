@@ -52,6 +52,7 @@ fn look_idle(row: &BaseRow, pass: &mut Pass, timer: u32) -> Option<u64>
 }
 
 /// Disarms a timer of a held base, and lets the base go.
+#[inline(always)]
 pub fn cancel_held<S: ReceiptSink>(
     row: &BaseRow,
     pass: &mut Pass,

@@ -1,5 +1,5 @@
 //! Steps under a base's lock.
-ghost use Rattle.std.specs.Prelude.{◌≡◌, ◌<◌, ◌≤◌, ◌+◌, ℕ, length, Some, None, [], ◌∷◌, false, IfNone, MatchBool, MatchOption};
+ghost use Rattle.std.specs.Prelude.{◌≡◌, ◌<◌, ◌≤◌, ◌+◌, ℕ, length, Some, None, [], ◌∷◌, false, IfNone, IfSome, MatchBool, MatchOption};
 ghost use Rattle.ktime.specs.Readings.{ClockReading};
 ghost use Rattle.ktime.specs.declared.clock_id.ClockId.{ClockId};
 ghost use Rattle.seq_timer.specs.declared.context.Context.{Context};
@@ -35,6 +35,19 @@ pub fn lock<R: Wait>(rt: &R, row: &BaseRow, pass: &mut Pass, base: u32) -> HeldB
     row.lock_base(rt, pass, base)
 }
 
+/// Takes a base's lock, if it is free.
+fn try_lock(row: &BaseRow, pass: &mut Pass, base: u32) -> Option<HeldBase>
+    requires row { IsBasePassOf row.now pass.old }
+    requires within { base < row.now.about.bases }
+    requires idle { pass.old.knows.held ≡ None }
+    ensures row { IsBasePassOf row.now pass.new }
+    ensures at { IfSome result (λ h. h.base ≡ base) }
+    ensures held { pass.new.knows.held ≡ result }
+    ensures looks { Looks pass.old.knows pass.new.knows }
+{
+    row.try_lock_base(pass, base)
+}
+
 /// The state of a timer that is on a held base.
 pub fn state_of<'a>(row: &BaseRow, pass: &Pass, held: &'a HeldBase, timer: u32) -> &'a TimerState
     requires holds { HoldsTimer row.now pass.now held.now timer }
@@ -43,8 +56,43 @@ pub fn state_of<'a>(row: &BaseRow, pass: &Pass, held: &'a HeldBase, timer: u32) 
     row.state(pass, held, timer)
 }
 
-/// Takes the lock of the base where a timer is, once the timer isn't on the move.
+/// Takes the lock of the base where a timer is, once the timer isn't on the move. It waits only where one try at the lock didn't get it.
+#[inline(always)]
 pub fn lock_timer<R: Wait>(rt: &R, row: &BaseRow, pass: &mut Pass, timer: u32) -> HeldBase
+    requires rest { IsAtRest row.now pass.old }
+    requires timer { timer < length row.now.about.timers }
+    ensures holds { HoldsTimer row.now pass.new result timer }
+    ensures looks { Looks pass.old.knows pass.new.knows }
+{
+    if let Some(held) = try_lock_timer(row, pass, timer) {
+        return held;
+    }
+    wait_for_timer(rt, row, pass, timer)
+}
+
+/// One try at the lock of the base that the timer's word names. It waits for nobody.
+#[inline(always)]
+fn try_lock_timer(row: &BaseRow, pass: &mut Pass, timer: u32) -> Option<HeldBase>
+    requires rest { IsAtRest row.now pass.old }
+    requires timer { timer < length row.now.about.timers }
+    ensures holds { MatchOption result (IsAtRest row.now pass.new) (λ h. HoldsTimer row.now pass.new h timer) }
+    ensures looks { Looks pass.old.knows pass.new.knows }
+{
+    let word = row.load_word(pass, timer);
+    if word.moving {
+        return None;
+    }
+    let held = try_lock(row, pass, word.base)?;
+    if !is_on(row.state(pass, &held, timer), word.base) {
+        leave(row, pass, held, timer);
+        return None;
+    }
+    Some(held)
+}
+
+/// Tries until it has the lock of the base where a timer is.
+#[inline(never)]
+fn wait_for_timer<R: Wait>(rt: &R, row: &BaseRow, pass: &mut Pass, timer: u32) -> HeldBase
     requires rest { IsAtRest row.now pass.old }
     requires timer { timer < length row.now.about.timers }
     ensures holds { HoldsTimer row.now pass.new result timer }
@@ -89,6 +137,7 @@ fn is_on(state: &TimerState, base: u32) -> bool
 }
 
 /// Adds an entry of a timer that stays on a held base, with its receipt, and lets the base go.
+#[inline(always)]
 pub fn enter_once<S: ReceiptSink>(
     row: &BaseRow,
     pass: &mut Pass,

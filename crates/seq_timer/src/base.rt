@@ -77,7 +77,7 @@ impl<Q: Queue> Base<Q> {
     }
 
     /// Makes one entry of a timer that is on this base: steps the timer, and the base with it.
-    #[inline]
+    #[inline(always)]
     pub fn apply(&mut self, id: u32, timer: &mut TimerState, event: &Event) -> Reply
         requires needs { Needs timer.old event.now }
         requires queued { IsQueuedAs id timer.old self.old.content }

@@ -77,7 +77,7 @@ impl<Q: Queue> Half<Q> {
     }
 
     /// Makes one entry of a timer of this base: steps the timer, and its queue and what runs here with it.
-    #[inline]
+    #[inline(always)]
     pub fn apply(&mut self, id: u32, timer: &mut TimerState, event: &Event) -> Reply
         requires needs { Needs timer.old event.now }
         requires queued { IsQueuedIn id timer.old.armed timer.old.clock self.old.half }

@@ -176,7 +176,7 @@ impl TimerState {
     }
 
     /// The same, and tells what the event does.
-    #[inline]
+    #[inline(always)]
     pub(crate) fn step(&mut self, event: &Event) -> (Reply, Effect)
         requires allowed { Needs self.old event.now }
         ensures state { self.new ≡ after self.old event.now }

@@ -1,5 +1,5 @@
 use Rattle.hr_timers.specs.Known.{IsAtRest, Looks}
-use Rattle.hr_timers.proofs.under_lock.lock_timer.Given as goal
+use Rattle.hr_timers.proofs.under_lock.wait_for_timer.Given as goal
 
 abbrev pub invariant-loop : goal.invariant-loop
 invariant-loop g l = record {
