@@ -1,5 +1,5 @@
 //! A thread that waits for a descriptor's expiries, beside another that moves the clock and runs the functions of timers.
-ghost use Rattle.std.specs.Prelude.{◌≡◌, ◌≤◌, ◌*◌};
+ghost use Rattle.std.specs.Prelude.{◌≡◌, ◌≤◌, ◌+◌, ◌*◌};
 ghost use Rattle.pass_names.specs.Passes.{Looks};
 ghost use Rattle.clock_cell.specs.Views.{IsPassOfClock, seen_reading};
 ghost use Rattle.timer_objects.specs.declared.object.Kind.TheVariants as kinds;
