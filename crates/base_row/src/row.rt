@@ -30,7 +30,7 @@ use std::alloc::{AllocError, Global};
 use std::marker::{Brand, Model};
 use std::snapshot::Snapshot;
 use std::sync::Wait;
-use timer_word::unpack;
+use timer_word::read;
 
 /// Bases and timers that many threads share.
 #[derive(Drop)]
@@ -179,10 +179,7 @@ impl BaseRow {
         let number = look(&self.table.shared, &mut pass.seat, index);
         pass.known();
         self.fresh();
-        match unpack(number) {
-            Some(word) => word,
-            None => unreachable!(),
-        }
+        read(number)
     }
 
     /// The timer whose function runs on a held base, with its generation.
