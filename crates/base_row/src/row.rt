@@ -142,6 +142,21 @@ impl BaseRow {
         ensures row { IsBasePassOf self.now pass.new }
         ensures locks { GetsBase base pass.old.knows pass.new.knows result }
     {
+        if let Some(held) = self.try_lock_base(pass, base) {
+            return held;
+        }
+        self.wait_for_base(rt, pass, base)
+    }
+
+    /// Tries until it has a base's lock.
+    #[inline(never)]
+    fn wait_for_base<R: Wait>(&self, rt: &R, pass: &mut Pass, base: u32) -> HeldBase
+        requires row { IsBasePassOf self.now pass.old }
+        requires within { base < self.now.about.bases }
+        requires idle { pass.old.knows.held ≡ None }
+        ensures row { IsBasePassOf self.now pass.new }
+        ensures locks { GetsBase base pass.old.knows pass.new.knows result }
+    {
         for _ in Retries::new(rt) {
             if let Some(held) = self.try_lock_base(pass, base) {
                 return held;
