@@ -132,9 +132,9 @@ module _ (o : Opening) (v : BaseView BaseContent) (fresh : AreFresh o.timers) (k
       record { stamp = stamp_fits (timer_seen o v t) left.left left.room; base = omega (arith, placed, few); apart = left.left.apart }
 
   -- a timer's number is read back as its word
-  pub reads_back : 0 < o.bases → o.bases ≤ 256 → (t number : ℕ) → number ≡ number_of (timer_seen o v t) → (r : Option Peek)
-      → ((w : Peek) → IsWord w → packed w ≡ number → r ≡ Some w)
-      → r ≡ Some (peek_of (timer_seen o v t))
+  pub reads_back : 0 < o.bases → o.bases ≤ 256 → (t number : ℕ) → number ≡ number_of (timer_seen o v t) → (r : Peek)
+      → ((w : Peek) → IsWord w → packed w ≡ number → r ≡ w)
+      → r ≡ peek_of (timer_seen o v t)
   unfolding number_of
   reads_back some few t number is r back = back (peek_of (timer_seen o v t)) (has_word some few t) (sym is)
 

@@ -30,7 +30,7 @@ use std::alloc::{AllocError, Global};
 use std::marker::{Brand, Model};
 use std::snapshot::Snapshot;
 use std::sync::Wait;
-use timer_word::unpack;
+use timer_word::read;
 
 /// Bases and timers that many threads share.
 #[derive(Drop)]
@@ -142,6 +142,21 @@ impl BaseRow {
         ensures row { IsBasePassOf self.now pass.new }
         ensures locks { GetsBase base pass.old.knows pass.new.knows result }
     {
+        if let Some(held) = self.try_lock_base(pass, base) {
+            return held;
+        }
+        self.wait_for_base(rt, pass, base)
+    }
+
+    /// Tries until it has a base's lock.
+    #[inline(never)]
+    fn wait_for_base<R: Wait>(&self, rt: &R, pass: &mut Pass, base: u32) -> HeldBase
+        requires row { IsBasePassOf self.now pass.old }
+        requires within { base < self.now.about.bases }
+        requires idle { pass.old.knows.held ≡ None }
+        ensures row { IsBasePassOf self.now pass.new }
+        ensures locks { GetsBase base pass.old.knows pass.new.knows result }
+    {
         for _ in Retries::new(rt) {
             if let Some(held) = self.try_lock_base(pass, base) {
                 return held;
@@ -179,10 +194,7 @@ impl BaseRow {
         let number = look(&self.table.shared, &mut pass.seat, index);
         pass.known();
         self.fresh();
-        match unpack(number) {
-            Some(word) => word,
-            None => unreachable!(),
-        }
+        read(number)
     }
 
     /// The timer whose function runs on a held base, with its generation.

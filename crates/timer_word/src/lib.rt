@@ -2,7 +2,7 @@
 #![tactic(auto)]
 
 pub use laws::one_word_one_number;
-pub use word::{pack, unpack, word_of};
+pub use word::{pack, read, unpack, word_of};
 
 mod laws;
 #[cfg(test)]

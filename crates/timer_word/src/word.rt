@@ -1,5 +1,5 @@
 //! Packing a state word, and reading it back.
-ghost use Rattle.std.specs.Prelude.{◌≡◌, ◌<◌, Some, IfSome, IfNone};
+ghost use Rattle.std.specs.Prelude.{◌≡◌, ◌<◌, ◌*◌, ◌^◌, Some, IfSome, IfNone};
 ghost use Rattle.seq_timer.specs.Histories.{peek_of};
 ghost use Rattle.seq_timer.specs.declared.observation.Peek as declared;
 ghost use Rattle.timer_word.specs.Words.{IsWord, packed};
@@ -33,14 +33,23 @@ pub fn unpack(number: u64) -> Option<Peek>
     ensures none { IfNone result ((w : declared.Peek) → IsWord w → packed w ≡ number → ⊥) }
 {
     let flags = number / STAMPS / BASES;
-    let word = Peek {
+    let word = read(number);
+    if flags <= 4 { Some(word) } else { None }
+}
+
+/// The word that packs to a number, where one does. Else it says nothing.
+pub fn read(number: u64) -> Peek
+    ensures back { (w : declared.Peek) → IsWord w → packed w ≡ number → result ≡ w }
+    ensures word { number < 5 * 2 ^ 56 → IsWord result × (packed result ≡ number) }
+{
+    let flags = number / STAMPS / BASES;
+    Peek {
         stamp: number % STAMPS,
         base: (number / STAMPS % BASES) as u32,
         enqueued: flags % 2 == 1,
         running: flags / 2 % 2 == 1,
-        moving: flags / 4 == 1,
-    };
-    if flags <= 4 { Some(word) } else { None }
+        moving: flags / 4 % 2 == 1,
+    }
 }
 
 /// Stamps are below this number.

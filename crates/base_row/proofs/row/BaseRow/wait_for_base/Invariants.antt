@@ -1,5 +1,5 @@
 use Rattle.base_row.specs.Calls.{IsBasePassOf, Waits}
-use Rattle.base_row.proofs.row.BaseRow.lock_base.Given as goal
+use Rattle.base_row.proofs.row.BaseRow.wait_for_base.Given as goal
 
 abbrev pub invariant-loop : goal.invariant-loop
 invariant-loop g l = record {
