@@ -80,38 +80,44 @@ module _ (x : ObjectsOf) (o : Opening) (v w : KnownOfTimers) (m : ObjectsPass) (
         → olog' ≡ olog ++ receipt_of h (spanned (call_asked d.kind asked arm) span) ∷ []
         → (made : MakesEntry x o begun done id asked reply) × FoundAs x o begun done id asked reply made h.state
     makes (entry_calls.Settime s) fits sets e noted =
-        let c = settime_with s arm in ((
-          subst IsSettimeReply (sym e.reply) (settime_replies d x.limit h.stamp h.state.object c holds_it fits.0),
-          λ a tells. made_by x o begun done id _ _ _ _ a
-              (settime_grants d x.limit h.stamp h.state.object c a holds_it fits.0 (subst (λ r. SettimeTells r a) e.reply tells))
-              (record {
-                arm = arm;
-                span = span;
-                reply = reply;
-                enters = enters_call x p m q id h (spanned (settime_call d.kind c) span) reply locks row isq e begun done refl refl room noted;
-                disarmed = sets.disarmed;
-                cancel_log = sets.cancel_log;
-                so_far = sets.so_far;
-                disarms = sets.disarms;
-                arms = sets.arms;
-                from = sets.from;
-                to = anew_end o v w id h.state.last d.base s.reading arm span log log' (start_by s.flags s.value) sets;
-                bears = subst (λ f. BearsStart o w id arm f) (sym (set_phase d x.limit h.stamp h.state.object c holds_it fits.0))
-                    (arms_bears o sets.disarmed w id d s.flags s.value d.base s.reading sets.cancel_log log' (suits.clocks id within) fits.1.value arm
-                    sets.arms);
-                answer = tells;
-              }),
-        ), tt)
-    makes (entry_calls.Rearming r reading) fits sets e noted = ((
-      record {
-        arm = arm;
-        span = span;
-        enters = enters_call x p m q id h _ reply locks row isq e begun done refl refl room noted;
-        rearms = sets;
-        bears = bears o v w id h.state.last d.base reading arm span log log' r h.state.object sets;
-      },
-      replies_to d x.limit h.stamp reading arm r h.state.object reply holds_it fits e.reply,
-    ), refl)
+        let c = settime_with s arm in (
+          (
+            subst IsSettimeReply (sym e.reply) (settime_replies d x.limit h.stamp h.state.object c holds_it fits.0),
+            λ a tells. made_by x o begun done id _ _ _ _ a
+                (settime_grants d x.limit h.stamp h.state.object c a holds_it fits.0 (subst (λ r. SettimeTells r a) e.reply tells))
+                (record {
+                  arm = arm;
+                  span = span;
+                  reply = reply;
+                  enters = enters_call x p m q id h (spanned (settime_call d.kind c) span) reply locks row isq e begun done refl refl room noted;
+                  disarmed = sets.disarmed;
+                  cancel_log = sets.cancel_log;
+                  so_far = sets.so_far;
+                  disarms = sets.disarms;
+                  arms = sets.arms;
+                  from = sets.from;
+                  to = anew_end o v w id h.state.last d.base s.reading arm span log log' (start_by s.flags s.value) sets;
+                  bears = subst (λ f. BearsStart o w id arm f) (sym (set_phase d x.limit h.stamp h.state.object c holds_it fits.0))
+                      (arms_bears o sets.disarmed w id d s.flags s.value d.base s.reading sets.cancel_log log' (suits.clocks id within) fits.1.value arm
+                      sets.arms);
+                  answer = tells;
+                }),
+          ),
+          tt,
+        )
+    makes (entry_calls.Rearming r reading) fits sets e noted = (
+      (
+        record {
+          arm = arm;
+          span = span;
+          enters = enters_call x p m q id h _ reply locks row isq e begun done refl refl room noted;
+          rearms = sets;
+          bears = bears o v w id h.state.last d.base reading arm span log log' r h.state.object sets;
+        },
+        replies_to d x.limit h.stamp reading arm r h.state.object reply holds_it fits e.reply,
+      ),
+      refl,
+    )
 
 pub sets_as : (o : Opening) (v w : KnownOfTimers) (id : ℕ) (asked : EntryCall) (arm : Arm) (span : Span) (log log' : List Receipt) (cell cell' : ObjectCell)
     (d d' : Decl) → cell ≡ cell' → d ≡ d' → Sets o v w id asked cell d.base arm span log log' → Sets o v w id asked cell' d'.base arm span log log'

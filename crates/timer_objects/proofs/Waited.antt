@@ -81,13 +81,19 @@ module _ (x : ObjectsOf) (o : Opening) (old new : Caller) (id : ℕ) (reading : 
   reads_blocking len long (ends.Made n (replies.Fd (fd_replies.Read reads.Again))) a ended is =
       let m = ended.0.0 in
       let t = ended.1.0 in
-      subst (ReadsBlocking x o old new id len reading) (sym is) (long, some_of reads.Again m ended.1,
-      none_left (is_canceled t reading) (nat_eq t.count 0) (nat_eq (total_in t reading) 0) (total_in t reading) refl ended.1.2 (told reads.Again m t ended.1.1))
+      subst (ReadsBlocking x o old new id len reading) (sym is) (
+        long,
+        some_of reads.Again m ended.1,
+        none_left (is_canceled t reading) (nat_eq t.count 0) (nat_eq (total_in t reading) 0) (total_in t reading) refl ended.1.2 (told reads.Again m t ended.1.1),
+      )
   reads_blocking len long (ends.Made n (replies.Fd (fd_replies.Read reads.Canceled))) a ended is =
       let m = ended.0.0 in
       let t = ended.1.0 in
-      subst (ReadsBlocking x o old new id len reading) (sym is) (long, some_of reads.Canceled m ended.1,
-      cancels (is_canceled t reading) (nat_eq t.count 0) (nat_eq (total_in t reading) 0) (total_in t reading) (told reads.Canceled m t ended.1.1))
+      subst (ReadsBlocking x o old new id len reading) (sym is) (
+        long,
+        some_of reads.Canceled m ended.1,
+        cancels (is_canceled t reading) (nat_eq t.count 0) (nat_eq (total_in t reading) 0) (total_in t reading) (told reads.Canceled m t ended.1.1),
+      )
   reads_blocking len long (ends.Made n (replies.Fd (fd_replies.Read reads.ShortBuffer))) a ended is = absurd is
   reads_blocking len long (ends.Made n (replies.Fd (fd_replies.Read (reads.Spent k)))) a ended is = absurd is
   reads_blocking len long (ends.Made n (replies.Fd (fd_replies.Settime r))) a ended is = absurd is

@@ -75,7 +75,15 @@ impl Objects {
         let id = reader.id();
         for _ in rt.forever() {
             let tried = self.try_read(
-                rt, timers, pass, objects_pass, log, object_log, id, clock, clock_pass,
+                rt,
+                timers,
+                pass,
+                objects_pass,
+                log,
+                object_log,
+                id,
+                clock,
+                clock_pass,
             );
             match tried {
                 Some(ended) => return answer_of(ended),
@@ -110,7 +118,15 @@ impl Objects {
     {
         for _ in Retries::new(rt) {
             let turn = self.read_once(
-                rt, timers, pass, objects_pass, log, object_log, id, clock, clock_pass,
+                rt,
+                timers,
+                pass,
+                objects_pass,
+                log,
+                object_log,
+                id,
+                clock,
+                clock_pass,
             );
             match turn {
                 ReadTurn::Ended(ended) => return Some(ended),

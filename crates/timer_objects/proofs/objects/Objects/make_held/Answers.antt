@@ -37,10 +37,10 @@ returns-clause-ends g c = λ begun took.
     let log = c.args.object_log.now.receipts in
     let named = c.call_of-call.ensures ∙ ap (λ (d : Decl). call_asked d.kind asked arm) c.decl-kind.ensures in
     let made = makes x _ _ _ _ c.args.id h arm c.in-Some.span _ _ holding.index holding.row holding.holds holding.room begun took.locks q log _ _ entry.pass
-        holding.suits holding.within asked holding.fits
-        (sets_as _ _ _ _ asked _ _ _ _ _ _ _ _ c.state-cell.ensures c.decl-kind.ensures c.in-Some.ensures.sets)
-        (subst (λ call. Enters c.args.objects_pass.now q h (spanned call c.in-Some.span) c.enter-reply.result) named entry.enters)
-        (entry.receipt ∙ ap (λ call. log ++ receipt_of h (spanned call c.in-Some.span) ∷ []) named) in
+    holding.suits holding.within asked holding.fits
+    (sets_as _ _ _ _ asked _ _ _ _ _ _ _ _ c.state-cell.ensures c.decl-kind.ensures c.in-Some.ensures.sets)
+    (subst (λ call. Enters c.args.objects_pass.now q h (spanned call c.in-Some.span) c.enter-reply.result) named entry.enters)
+    (entry.receipt ∙ ap (λ call. log ++ receipt_of h (spanned call c.in-Some.span) ∷ []) named) in
     (made.0, made.1, ap (λ n. n + 1) c.stamp-stamp.ensures ∙ (sym entry.enters.count ∙ ap (λ i. length (seen_of q i)) holding.index))
 
 pub returns-in_default-clause-ends : goal.returns-in_default-clause-ends
