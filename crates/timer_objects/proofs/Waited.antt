@@ -8,15 +8,13 @@ use Rattle.timer_fd.specs.declared.answers.ReadAnswer.{ReadAnswer}
 use Rattle.timer_fd.specs.declared.answers.ReadAnswer.TheVariants as reads
 use Rattle.timer_fd.specs.declared.calls.Call.TheVariants as fd_calls
 use Rattle.timer_fd.specs.declared.calls.Reply.TheVariants as fd_replies
-use Rattle.timer_fd.specs.States.{Descriptor, is_canceled, is_readable}
+use Rattle.timer_fd.specs.States.{Descriptor, is_canceled}
 use Rattle.timer_fd.specs.Steps.{count_length, fd_read_answer, total_in}
 use Rattle.timer_objects.specs.declared.answers.BlockingRead.{BlockingRead}
-use Rattle.timer_objects.specs.declared.answers.BlockingRead.TheVariants as blocking
 use Rattle.timer_objects.specs.declared.cell.ObjectCell.{ObjectCell}
 use Rattle.timer_objects.specs.declared.object.Object.{Object}
 use Rattle.timer_objects.specs.declared.object.Object.TheVariants as objects
 use Rattle.timer_objects.specs.declared.object.ObjectCall.TheVariants as calls
-use Rattle.timer_objects.specs.declared.object.ObjectReply.{ObjectReply}
 use Rattle.timer_objects.specs.declared.object.ObjectReply.TheVariants as replies
 use Rattle.timer_objects.specs.declared.wanting.Ended.{Ended}
 use Rattle.timer_objects.specs.declared.wanting.Ended.TheVariants as ends

@@ -1,5 +1,5 @@
 use Rattle.std.proofs.Common.{◌≡◌}
-use Rattle.object_uses.specs.Callers.{HasPasses, KeepsPasses}
+use Rattle.object_uses.specs.Callers.{KeepsPasses}
 use Rattle.object_uses.specs.Stands.{KeepsClock}
 use Rattle.object_uses.proofs.tests.blocking.read_until.Given as goal
 
