@@ -3,7 +3,7 @@ use Rattle.object_uses.specs.Stands.{KeepsClock}
 use Rattle.object_uses.proofs.tests.blocking.run_until.Given as goal
 
 abbrev pub invariant-loop-turn : goal.invariant-loop-turn
-invariant-loop-turn l = record {
+invariant-loop-turn g l = record {
   keeps : KeepsPasses l.fn.timers l.fn.objects l.fn.pass l.pass l.fn.objects_pass l.objects_pass;
   clock : KeepsClock l.fn.clock l.fn.clock_pass l.clock_pass;
 }
