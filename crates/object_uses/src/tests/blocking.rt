@@ -474,7 +474,9 @@ fn read_set_back<R: Wait>(
     requires passes { HasPasses timers.now objects.now pass.old objects_pass.old }
     requires one { IsAwaited timers.now objects.now reader.old }
     requires clock { IsPassOfClock clock.now clock_pass.old }
-    ensures keeps { KeepsPasses timers.now objects.now pass.old pass.new objects_pass.old objects_pass.new }
+    ensures passes { HasPasses timers.now objects.now pass.new objects_pass.new }
+    ensures names { (pass.new.known.id ≡ pass.old.known.id) × (objects_pass.new.knows.pass.id ≡ objects_pass.old.knows.pass.id) }
+    ensures unclaimed { pass.new.known.claims ≡ pass.old.known.claims }
     ensures clock { KeepsClock clock.now clock_pass.old clock_pass.new }
 {
     let _ = clock.set_real(rt, clock_pass, 1000);
@@ -493,8 +495,8 @@ fn read_set_back<R: Wait>(
     );
     let _ = clock.set_real(rt, clock_pass, 500);
     let (mut log, mut calls) = (Log::make(alloc), ObjectLog::make(alloc));
-    log.reserve(8).ok()?;
-    calls.reserve(2).ok()?;
+    log.reserve(4).ok()?;
+    calls.reserve(1).ok()?;
     let read = wait_for_count(
         rt,
         timers,
@@ -508,6 +510,8 @@ fn read_set_back<R: Wait>(
         clock_pass,
     );
     let back = clock.read(rt, clock_pass);
+    log.reserve(4).ok()?;
+    calls.reserve(1).ok()?;
     let left = objects.gettime(
         rt,
         timers,

@@ -19,8 +19,8 @@ join-requires-clause-answers g c =
     answers_split c.args.objects_main.now.knows.pass.id _ _ (told.reading.0.goes_on.id ∙ ap (λ (v : View _ _ _). v.pass.id) split.splitter)
     (told.running.0.goes_on.id ∙ ap (λ (v : View _ _ _). v.pass.id) split.new)
 
-pub join-2-requires-clause-answers : goal.join-2-requires-clause-answers
-join-2-requires-clause-answers g c =
+pub join-requires-2-clause-answers : goal.join-requires-2-clause-answers
+join-requires-2-clause-answers g c =
     let told = c.read_and_run-read.ensures in
     let split = c.split-clock_other.ensures in
     answers_split c.args.clock_main.now.knows.pass.id _ _ (told.reading.1.id ∙ ap (λ (v : ClockView). v.pass.id) split.splitter)
