@@ -111,19 +111,19 @@ class Spoils:
     """Which steps a move could spoil: steps that may come behind the move or before it, and that might find the bases otherwise than they need if it came
     before them. A move that spoils nothing that is left to come can be made at once."""
 
-    def __init__(self, histories, chains):
-        self.chains = chains.chains
+    def __init__(self, histories, chains, order):
+        self.chains = chains
         self.has_slack = any(it.soft != it.expires for states in histories.timers for it in states)
-        self.fronts = any(node.kind in ("front", "full") for node in chains.order)
-        self.claimed = {(node.runs[1][0], node.runs[1][1]) for node in chains.order if node.runs and node.runs[1]}
-        for node in chains.order:
+        self.fronts = any(node.kind in ("front", "full") for node in order)
+        for node in order:
             look_at_effects(histories, node)
-        self.look_behind(chains.order)
+        self.claimed = {node.runs[1] for node in order if node.runs and node.runs[1]}
+        self.look_behind(order)
         rounds = {}
-        for node in chains.order:
+        for node in order:
             if node.kind or node.joins:
                 rounds.setdefault(node.round, []).append(node)
-        for node in chains.order:
+        for node in order:
             self.look_for(node, rounds.get(node.round, ()))
 
     def look_behind(self, order):

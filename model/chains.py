@@ -33,7 +33,6 @@ class Chains:
         # How far each chain has come at the end of each round.
         self.ends = [[sum(node.round <= number for node in chain) for chain in self.chains] for number in range(script.rounds + 1)]
         self.tie_lists()
-        self.order = self.one_order()
 
     def add_call(self, call):
         """The steps of a branch stand behind the steps of their call that come first, and before its last one."""

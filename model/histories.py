@@ -50,6 +50,10 @@ class Line(NamedTuple):
         return f"entry {self.number} of {kind} {number}, {'an' if self.event[0] in 'ao' else 'a'} {self.event}"
 
 
+def many(number):
+    return f"{number} {'entry' if number == 1 else 'entries'}"
+
+
 def say_list(name):
     return "the clock" if name == ("clock",) else f"{name[0]} {name[1]}"
 

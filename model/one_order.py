@@ -30,7 +30,7 @@ class Moment:
 class Search:
     def __init__(self, histories, chains, most=MOST_MOMENTS):
         self.chains, self.ends, self.makes, self.most = chains.chains, chains.ends, chains.makes, most
-        Spoils(histories, chains)
+        Spoils(histories, self.chains, chains.one_order())
         self.seen, self.furthest = set(), None
 
     def order(self):

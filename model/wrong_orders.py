@@ -1,15 +1,16 @@
-"""Nine records that no order of all moves explains, each beside one of the same script that fits. Each timer's, object's and base's lines and the clock's are by
-themselves a right history in both, and each call by itself did what it says: the wrong ones show it only where lists are put beside each other."""
+"""Nine records that no order of all moves explains, each beside one of the same script that fits. In both each list by itself is a right history, and each call
+did what its words say: what is wrong shows only where the lists are put beside each other."""
 from typing import NamedTuple, Tuple
 
 
 class Pair(NamedTuple):
-    """A script, a record of it that fits, and which of its lines are others in the wrong one."""
+    """A script, a record of it that fits, which of its lines are others in the wrong one, and the calls that can't be placed beside each other then."""
 
     name: str
     script: str
     right: str
     changes: Tuple[Tuple[str, str], ...]
+    circle: Tuple[str, ...]
 
     def wrong(self):
         lines = self.right.split("\n")
@@ -39,6 +40,7 @@ PAIRS = [
             "call 0 0 started 1 0 0", "call 0 1 done 1 1 0", "call 1 0 peek 1 0 1 0 0", "call 1 1 clock 1",
         ),
         (("call 1 0 peek 1 0 1 0 0", "call 1 0 peek 2 0 0 1 0"),),
+        ("0 1", "1 0", "1 1"),
     ),
     Pair(
         "a start by a write that came after its lane had been seen to start",
@@ -48,6 +50,7 @@ PAIRS = [
             "call 0 0 started 1 0 0", "call 1 0 peek 1 0 1 0 0", "call 1 1 clock 1",
         ),
         (("timer 0 1 0 0 start rel 10 0 0 0 monotonic 10 0", "timer 0 1 0 0 start rel 10 1 0 0 monotonic 30 0"),),
+        ("0 0", "1 0", "1 1"),
     ),
     Pair(
         "a run is done by the reading before a write, behind a timer that was due after it",
@@ -57,6 +60,7 @@ PAIRS = [
             "call 0 0 clock 1", "call 0 1 started 1 0 0", "call 1 0 peek 0 0 0 0 0", "call 1 1 done 0 0",
         ),
         (("call 1 0 peek 0 0 0 0 0", "call 1 0 peek 1 0 1 0 0"),),
+        ("0 0", "0 1", "1 0", "1 1"),
     ),
     Pair(
         "an object is disarmed where its timer was seen armed before",
@@ -66,6 +70,7 @@ PAIRS = [
             "call 0 0 old 0 0", "call 1 0 peek 1 0 1 0 0", "call 1 1 left 50 0 0 1",
         ),
         (("call 1 1 left 50 0 0 1", "call 1 1 left 0 0 0 0"),),
+        ("0 0", "1 0", "1 1"),
     ),
     Pair(
         "each of two lanes sets an object, and sees the other's as it was before",
@@ -75,6 +80,7 @@ PAIRS = [
             "call 0 0 old 0 0", "call 0 1 readable 0 0 0", "call 1 0 old 0 0", "call 1 1 readable 0 0 1",
         ),
         (("call 1 1 readable 0 0 1", "call 1 1 readable 0 0 0"),),
+        ("0 0", "0 1", "1 0", "1 1"),
     ),
     Pair(
         "the entries of two objects are crossed",
@@ -88,6 +94,7 @@ PAIRS = [
             ("object 0 1 0 0 accept 0 none nosignal", "object 0 1 1 1 accept 0 none nosignal"),
             ("object 0 2 1 1 accept 0 none nosignal", "object 0 2 0 0 accept 0 none nosignal"),
         ),
+        ("0 0", "0 1", "1 0", "1 1"),
     ),
     Pair(
         "a read stands before the first of two expiries, and its lane saw the function of the second",
@@ -109,6 +116,7 @@ PAIRS = [
             ("object 0 3 0 3 settime 1 6 0 1 4 old 0 0", "object 0 3 0 2 trigger 1 1 counted"),
             ("object 0 4 1 1 read 1 none again", "object 0 4 0 3 settime 1 6 0 1 4 old 0 0"),
         ),
+        ("0 2", "0 4", "1 0", "1 1"),
     ),
     Pair(
         "an expiry is refused before the object was full",
@@ -120,6 +128,7 @@ PAIRS = [
             "call 0 0 clock 1", "call 0 1 old 0 0", "call 0 2 done 1 1 0", "call 1 0 peek 1 0 1 0 0", "call 1 1 nosignal",
         ),
         (("call 1 0 peek 1 0 1 0 0", "call 1 0 peek 3 0 0 0 0"),),
+        ("0 2", "1 0", "1 1"),
     ),
     Pair(
         "a read is canceled by a set that came later",
@@ -130,5 +139,6 @@ PAIRS = [
             "call 0 0 old 0 0", "call 0 1 canceled", "call 1 0 readable 0 0 1", "call 1 1 clock 1",
         ),
         (("call 1 0 readable 0 0 1", "call 1 0 readable 0 0 2"),),
+        ("0 1", "1 0", "1 1"),
     ),
 ]
