@@ -42,7 +42,7 @@ class CrowdedMaker(Maker):
     def round(self):
         """The calls of a round, of at least two lanes."""
         lanes = sorted(self.random.sample(range(self.lanes), self.random.randrange(2, self.lanes + 1)))
-        each = self.random.choice([1, 2, 3, 5, 8, 16])
+        each = self.random.choice([1, 2, 3, 5, 8, 16, 30])
         return [f"{lane} {self.call(lane)}" for _ in range(each) for lane in lanes]
 
     def lines(self):
