@@ -11,13 +11,18 @@ class CallSteps(ObjectSteps):
         getattr(self, "do_" + self.call.verb)(**self.call.args)
         if self.left:
             self.misfit(f"{self.left[0].says()} bears its label, and the call makes none")
-        steps = self.steps
         if self.ways:
-            begin = self.step("its first moment", needs=("way begins", self.label))
-            steps = [begin, *steps, self.step("its start, on an heir of a base that it saw off line", needs=("way", self.label, tuple(self.ways)))]
-        if self.reading is not None:
-            steps = [self.step(f"its reading {self.reading}", bounds=((("clock",), self.reading, self.reading),)), *steps]
-        return steps
+            self.look_for_heirs()
+        if self.reading is None:
+            return self.steps
+        return [self.step(f"its reading {self.reading}", bounds=((("clock",), self.reading, self.reading),)), *self.steps]
+
+    def look_for_heirs(self):
+        """A start that goes to another base goes by heirs that the call saw, of an object's call in its turn."""
+        ahead, behind = self.steps[:self.way_from], self.steps[self.way_from:]
+        begin = self.step("its first look for an heir", turn=behind[0].turn, needs=("way begins", self.label))
+        end = self.step("its start, by heirs of bases that it saw off line", needs=("way", self.label, tuple(self.ways)))
+        self.steps = [*ahead, begin, behind[0]._replace(turn=None), *behind[1:], end]
 
     # ---- timers
 

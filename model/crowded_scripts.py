@@ -23,9 +23,18 @@ class CrowdedMaker(Maker):
 
     def setting(self):
         """Value and interval, most of which expire soon."""
-        value = self.random.choice([(0, 0), (0, 1), (0, self.small()), (0, self.small() + 1)])
-        interval = self.random.choice([(0, 0), (0, 1), (0, self.small() + 1), (0, self.time())])
+        value = self.random.choice([(0, 0), (0, 1), (0, 1), (0, 2), (0, self.small() + 1)])
+        interval = self.random.choice([(0, 0), (0, 1), (0, 2), (0, self.time())])
         return " ".join(str(number) for number in value + interval)
+
+    def call_of(self, timer):
+        """As any script's, but objects are set and read more often, and by arguments that are right more often."""
+        kind, drawn = self.kinds[timer], self.random.random()
+        if kind not in ("posix", "fd") or drawn < 0.2:
+            return super().call_of(timer)
+        if drawn < 0.55:
+            return f"settime {timer} {self.random.choice([0, 1, 1] if kind == 'posix' else [0, 1, 3, 3])} {self.setting()}"
+        return f"accept {timer}" if kind == "posix" else f"read {timer} 8"
 
     def call(self, lane):
         """One call of a lane: what it does most is to expire, to write the clock, and to call one of the few timers."""
@@ -35,7 +44,7 @@ class CrowdedMaker(Maker):
         if drawn < 0.3:
             return self.expire()
         if drawn < 0.45:
-            return f"{self.random.choice(['advance', 'advance', 'set', 'suspend'])} {self.small() + 1}"
+            return f"{self.random.choice(['advance', 'advance', 'advance', 'set', 'suspend'])} {self.small() + 1}"
         timer = self.random.randrange(len(self.kinds))
         return f"peek {timer}" if drawn > 0.93 else self.call_of(timer)
 

@@ -69,6 +69,7 @@ class ObjectSteps(Steps):
             self.need(own.number - 1 in idle, f"{own.says()}, comes when the timer isn't idle")
             idle = [own.number - 1]
         self.look_among(f"timer {timer} idle before it is set", ("timer", timer), idle)
+        self.way_from = 1
 
     def rearm(self, number, event):
         line = self.made(number, event)

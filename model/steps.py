@@ -28,7 +28,9 @@ class Steps:
         self.answer = histories.answers[self.label]
         self.told = self.answer["answer"]
         self.left = list(histories.left[self.label])
-        self.steps, self.reading, self.turn, self.ways = [], None, None, []
+        self.steps, self.reading, self.turn = [], None, None
+        # The starts that went to another base than the one asked for, and behind how many steps the call looked for heirs.
+        self.ways, self.way_from = [], 0
 
     # ---- what is asked
 
