@@ -109,9 +109,8 @@ class Chains:
             node = self.chains[ahead.chain][places[ahead.chain]]
         circle = seen[seen.index(node):]
         first = min(range(len(circle)), key=lambda at: circle[at].label)
-        circle = circle[first:] + circle[:first]
         told = []
-        for one in circle:
+        for one in circle[first:] + circle[:first]:
             ahead = next(it for it in one.before if places[it.chain] <= it.place)
-            told.append(f"{one.says()} has to come behind {ahead.says()}")
-        raise Misfit(", ".join(told) + ", and so in a circle", circle[0].label)
+            told += [ahead.says(), *([it.says()] if (it := self.chains[ahead.chain][places[ahead.chain]]) is not ahead else [])]
+        raise Misfit(f"{circle[first].says()} comes behind {', and that behind '.join(told)}", circle[first].label)
