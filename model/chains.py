@@ -113,4 +113,4 @@ class Chains:
         for one in circle[first:] + circle[:first]:
             ahead = next(it for it in one.before if places[it.chain] <= it.place)
             told += [ahead.says(), *([it.says()] if (it := self.chains[ahead.chain][places[ahead.chain]]) is not ahead else [])]
-        raise Misfit(f"{circle[first].says()} comes behind {', and that behind '.join(told)}", circle[first].label)
+        raise Misfit(f"{circle[first].says()} has to come behind {', and that behind '.join(told)}", circle[first].label)
