@@ -1,0 +1,164 @@
+"""Walks along an order step by step, by plain rules: how many entries each list has so far, whose turn an object has, and each timer's own state say what may
+come next. Nothing of the search is in it, so an order that the search found is tried here once more, and few steps are tried here in all orders."""
+from timers import CLOCKS
+
+
+class Walk:
+    """What has come so far."""
+
+    def __init__(self, histories):
+        self.h = histories
+        self.counts, self.turns, self.armed_at, self.ways, self.moves, self.on_the_way = {}, {}, {}, {}, 0, {}
+
+    def copy(self):
+        other = Walk(self.h)
+        for name in ("counts", "turns", "armed_at", "ways", "on_the_way"):
+            setattr(other, name, dict(getattr(self, name)))
+        other.moves = self.moves
+        return other
+
+    def key(self):
+        """All that matters of what has come, beside which steps it was."""
+        return tuple(sorted(self.armed_at, key=self.armed_at.get)), tuple(sorted((label, frozenset(seen)) for label, seen in self.ways.items()))
+
+    def count(self, name):
+        return self.counts.get(name, 0)
+
+    def timer(self, number):
+        return self.h.timers[number][self.count(("timer", number))]
+
+    def heir(self, base):
+        return self.h.heirs[base][self.count(("base", base))]
+
+    # ---- whether a step may come next
+
+    def may_come(self, step):
+        name, number = step.move or (None, 0)
+        if name and number != self.count(name) + 1:
+            return False
+        if name and name[0] == "object" and not (step.turn or self.turns.get(name) == number):
+            return False
+        if step.turn and (step.turn[0] in self.turns or step.turn[1] != self.count(step.turn[0]) + 1):
+            return False
+        # What is told of an object is told between turns.
+        for of, low, high in step.bounds:
+            if not low <= self.count(of) <= high or of[0] == "object" and of in self.turns:
+                return False
+        return step.needs is None or self.gives(*step.needs)
+
+    def gives(self, kind, on, *rest):
+        if kind == "among":
+            return self.count(on) in rest[0]
+        if kind == "apart":
+            return not self.on_the_way.get(on)
+        if kind == "way begins":
+            return True
+        if kind == "way":
+            return all(self.leads(on, *way) for way in rest[0])
+        if kind == "online":
+            return self.heir(on) is None
+        if kind in ("claim", "done"):
+            soft, reading, *timer = rest
+            return not self.running(on, soft) and self.due(on, soft, reading) == (timer[0] if timer else None)
+        if kind == "first":
+            return not self.running(on, False)
+        if kind != "front" and (self.running(on, False) or self.running(on, True)):
+            return False
+        front = self.front(on)
+        return {"clear": front is None, "more": front is not None}.get(kind, front == (rest[0] if rest else None))
+
+    def leads(self, label, base, to, pairs):
+        """There is a way by heirs that were seen in the call."""
+        seen, reached = self.ways[label], [base]
+        for one in reached:
+            reached += [heir for off, heir in seen if off == one and heir not in reached]
+        return to in reached and all(pair in seen for pair in pairs)
+
+    def of_context(self, soft):
+        return [t for t, it in enumerate(self.h.script.declarations) if (it.kind == "soft") == soft]
+
+    def running(self, base, soft):
+        return [t for t in self.of_context(soft) if self.timer(t).running is not None and self.timer(t).base == base]
+
+    def leader(self, base, soft, clock):
+        """Of the timers that are armed on a base and kept on a clock the one of the earliest expiry, of equal ones the one that was armed first."""
+        kept = [t for t in self.of_context(soft) if self.timer(t).armed is not None and not self.timer(t).moving]
+        kept = [t for t in kept if (self.timer(t).base, self.timer(t).effective) == (base, clock)]
+        return min(kept, key=lambda t: (self.timer(t).expires, self.armed_at[t]), default=None)
+
+    def due(self, base, soft, reading):
+        leaders = [self.leader(base, soft, clock) for clock in CLOCKS]
+        return next((t for t in leaders if t is not None and self.timer(t).is_due(base, reading)), None)
+
+    def front(self, base):
+        leaders = [self.leader(base, soft, clock) for soft in (False, True) for clock in CLOCKS]
+        return next((t for t in leaders if t is not None), None)
+
+    # ---- a step that comes next
+
+    def take(self, step):
+        if step.turn:
+            self.turns[step.turn[0]] = step.turn[1]
+        if step.needs and step.needs[0] == "way begins":
+            self.ways[step.label] = {(base, self.heir(base)) for base in range(self.h.script.bases) if self.heir(base) is not None}
+        if step.needs and step.needs[0] == "way":
+            del self.ways[step.label]
+        if step.branch and step.move:
+            self.on_the_way[step.label] = not self.on_the_way.get(step.label)
+        if step.move:
+            self.move(*step.move)
+
+    def move(self, name, number):
+        self.counts[name], self.moves = number, self.moves + 1
+        if name[0] == "object":
+            del self.turns[name]
+        elif name[0] == "timer":
+            old, new = self.h.timers[name[1]][number - 1: number + 1]
+            if new.armed is None:
+                self.armed_at.pop(name[1], None)
+            elif new.armed != old.armed:
+                self.armed_at[name[1]] = self.moves
+        elif name[0] == "base" and self.heir(name[1]) is not None:
+            self.ways = {label: seen | {(name[1], self.heir(name[1]))} for label, seen in self.ways.items()}
+
+
+def stands_apart(node):
+    """What has to come before a node because several timers are moved by its call."""
+    return [it for it in node.before if it.step.branch or node.step.branch]
+
+
+def fault_of(histories, chains, order):
+    """What is wrong with an order that was found, if anything."""
+    walk, places, of_round = Walk(histories), [0] * len(chains), 0
+    for node in order:
+        if node is not chains[node.chain][places[node.chain]] or node.round < of_round:
+            return f"{node.says()} stands out of its chain"
+        if any(places[it.chain] <= it.place for it in stands_apart(node)):
+            return f"{node.says()} stands before a move of its call"
+        if not walk.may_come(node.step):
+            return f"{node.says()} can't come at its place"
+        walk.take(node.step)
+        places[node.chain], of_round = places[node.chain] + 1, node.round
+    return None if places == [len(chain) for chain in chains] else "a step is missing"
+
+
+def has_order(histories, chains):
+    """Whether there is an order, by a try of all of them."""
+    seen, open_moments = set(), [([0] * len(chains), Walk(histories))]
+    while open_moments:
+        places, walk = open_moments.pop()
+        waiting = [chain[place] for chain, place in zip(chains, places) if place < len(chain)]
+        if not waiting:
+            return True
+        key = tuple(places), walk.key()
+        if key in seen:
+            continue
+        seen.add(key)
+        of_round = min(node.round for node in waiting)
+        for node in waiting:
+            if node.round == of_round and walk.may_come(node.step) and all(places[it.chain] > it.place for it in stands_apart(node)):
+                then, after = walk.copy(), list(places)
+                then.take(node.step)
+                after[node.chain] += 1
+                open_moments.append((after, then))
+    return False

@@ -1,0 +1,144 @@
+"""Nine records that no order of all moves explains, each beside one of the same script that fits. In both each list by itself is a right history, and each call
+did what its words say: what is wrong shows only where the lists are put beside each other."""
+from typing import NamedTuple, Tuple
+
+
+class Pair(NamedTuple):
+    """A script, a record of it that fits, which of its lines are others in the wrong one, and the calls that can't be placed beside each other then."""
+
+    name: str
+    script: str
+    right: str
+    changes: Tuple[Tuple[str, str], ...]
+    circle: Tuple[str, ...]
+
+    def wrong(self):
+        lines = self.right.split("\n")
+        for old, new in self.changes:
+            lines[lines.index(old)] = new
+        return "\n".join(lines)
+
+
+def script(declarations, *rounds, limit=100):
+    lines = ["hrt 1", "bases 1", "lanes 2", f"limit {limit}", *declarations]
+    for calls in rounds:
+        lines += ["round", *calls]
+    return "\n".join([*lines, ""])
+
+
+def record(*lines):
+    return "\n".join(["record 1", *lines, "end", ""])
+
+
+PAIRS = [
+    Pair(
+        "a function is seen to run before the write that made its timer due",
+        script(["raw 0 monotonic once"], ["0 start 0 rel 10 0"], ["0 expire 0 4", "1 peek 0", "1 advance 20"]),
+        record(
+            "clock 1 1 1 advance 20 20 20 20 0",
+            "timer 0 1 0 0 start rel 10 0 0 0 monotonic 10 0", "timer 0 2 0 1 claim 0 1 1", "timer 0 3 0 1 finish stop 1 none",
+            "call 0 0 started 1 0 0", "call 0 1 done 1 1 0", "call 1 0 peek 1 0 1 0 0", "call 1 1 clock 1",
+        ),
+        (("call 1 0 peek 1 0 1 0 0", "call 1 0 peek 2 0 0 1 0"),),
+        ("0 1", "1 0", "1 1"),
+    ),
+    Pair(
+        "a start by a write that came after its lane had been seen to start",
+        script(["raw 0 monotonic once"], ["0 start 0 rel 10 0", "1 peek 0", "1 advance 20"]),
+        record(
+            "clock 1 1 1 advance 20 20 20 20 0", "timer 0 1 0 0 start rel 10 0 0 0 monotonic 10 0",
+            "call 0 0 started 1 0 0", "call 1 0 peek 1 0 1 0 0", "call 1 1 clock 1",
+        ),
+        (("timer 0 1 0 0 start rel 10 0 0 0 monotonic 10 0", "timer 0 1 0 0 start rel 10 1 0 0 monotonic 30 0"),),
+        ("0 0", "1 0", "1 1"),
+    ),
+    Pair(
+        "a run is done by the reading before a write, behind a timer that was due after it",
+        script(["raw 0 monotonic once"], ["0 advance 10", "0 start 0 abs 5 0", "1 peek 0", "1 expire 0 4"]),
+        record(
+            "clock 1 0 0 advance 10 10 10 10 0", "timer 0 1 0 1 start abs 5 1 0 0 monotonic 5 0",
+            "call 0 0 clock 1", "call 0 1 started 1 0 0", "call 1 0 peek 0 0 0 0 0", "call 1 1 done 0 0",
+        ),
+        (("call 1 0 peek 0 0 0 0 0", "call 1 0 peek 1 0 1 0 0"),),
+        ("0 0", "0 1", "1 0", "1 1"),
+    ),
+    Pair(
+        "an object is disarmed where its timer was seen armed before",
+        script(["posix 0 monotonic 0"], ["0 settime 0 0 0 50 0 0", "1 peek 0", "1 gettime 0"]),
+        record(
+            "timer 0 1 0 0 start rel 50 0 0 0 monotonic 50 0", "object 0 1 0 0 settime 0 50 0 0 1 old 0 0",
+            "call 0 0 old 0 0", "call 1 0 peek 1 0 1 0 0", "call 1 1 left 50 0 0 1",
+        ),
+        (("call 1 1 left 50 0 0 1", "call 1 1 left 0 0 0 0"),),
+        ("0 0", "1 0", "1 1"),
+    ),
+    Pair(
+        "each of two lanes sets an object, and sees the other's as it was before",
+        script(["fd 0 monotonic 0", "fd 1 monotonic 0"], ["0 settime 0 0 0 0 0 0", "0 readable 1", "1 settime 1 0 0 0 0 0", "1 readable 0"]),
+        record(
+            "object 0 1 0 0 settime 0 0 0 0 none old 0 0", "object 1 1 1 0 settime 0 0 0 0 none old 0 0",
+            "call 0 0 old 0 0", "call 0 1 readable 0 0 0", "call 1 0 old 0 0", "call 1 1 readable 0 0 1",
+        ),
+        (("call 1 1 readable 0 0 1", "call 1 1 readable 0 0 0"),),
+        ("0 0", "0 1", "1 0", "1 1"),
+    ),
+    Pair(
+        "the entries of two objects are crossed",
+        script(["posix 0 monotonic 0", "posix 1 monotonic 0"], ["0 accept 0", "0 accept 1", "1 accept 1", "1 accept 0"]),
+        record(
+            "object 0 1 0 0 accept 0 none nosignal", "object 0 2 1 1 accept 0 none nosignal",
+            "object 1 1 0 1 accept 0 none nosignal", "object 1 2 1 0 accept 0 none nosignal",
+            "call 0 0 nosignal", "call 0 1 nosignal", "call 1 0 nosignal", "call 1 1 nosignal",
+        ),
+        (
+            ("object 0 1 0 0 accept 0 none nosignal", "object 0 1 1 1 accept 0 none nosignal"),
+            ("object 0 2 1 1 accept 0 none nosignal", "object 0 2 0 0 accept 0 none nosignal"),
+        ),
+        ("0 0", "0 1", "1 0", "1 1"),
+    ),
+    Pair(
+        "a read stands before the first of two expiries, and its lane saw the function of the second",
+        script(
+            ["fd 0 monotonic 0"], ["0 advance 10"],
+            ["0 settime 0 1 0 5 0 0", "0 expire 0 4", "0 settime 0 1 0 6 0 0", "0 expire 0 4", "1 peek 0", "1 read 0 8"],
+        ),
+        record(
+            "clock 1 0 0 advance 10 10 10 10 0",
+            "timer 0 1 0 1 start abs 5 1 0 0 monotonic 5 0", "timer 0 2 0 2 claim 0 1 1", "timer 0 3 0 2 finish stop 1 none",
+            "timer 0 4 0 3 start abs 6 1 0 0 monotonic 6 0", "timer 0 5 0 4 claim 0 1 4", "timer 0 6 0 4 finish stop 4 none",
+            "object 0 1 0 1 settime 1 5 0 1 1 old 0 0", "object 0 2 0 2 trigger 1 1 counted", "object 0 3 0 3 settime 1 6 0 1 4 old 0 0",
+            "object 0 4 1 1 read 1 none again", "object 0 5 0 4 trigger 4 1 counted",
+            "call 0 0 clock 1", "call 0 1 old 0 0", "call 0 2 done 1 1 0", "call 0 3 old 0 0", "call 0 4 done 1 1 0",
+            "call 1 0 peek 5 0 0 1 0", "call 1 1 again",
+        ),
+        (
+            ("object 0 2 0 2 trigger 1 1 counted", "object 0 2 1 1 read 1 none again"),
+            ("object 0 3 0 3 settime 1 6 0 1 4 old 0 0", "object 0 3 0 2 trigger 1 1 counted"),
+            ("object 0 4 1 1 read 1 none again", "object 0 4 0 3 settime 1 6 0 1 4 old 0 0"),
+        ),
+        ("0 2", "0 4", "1 0", "1 1"),
+    ),
+    Pair(
+        "an expiry is refused before the object was full",
+        script(["posix 0 monotonic 0"], ["0 advance 10", "0 settime 0 1 0 5 0 0"], ["0 expire 0 4", "1 peek 0", "1 accept 0"], limit=2),
+        record(
+            "clock 1 0 0 advance 10 10 10 10 0",
+            "timer 0 1 0 1 start abs 5 1 0 0 monotonic 5 0", "timer 0 2 0 2 claim 0 1 1", "timer 0 3 0 2 finish stop 1 none",
+            "object 0 1 0 1 settime 1 5 0 1 1 old 0 0", "object 0 2 1 1 accept 1 none nosignal", "skip 0 2 0 2 1",
+            "call 0 0 clock 1", "call 0 1 old 0 0", "call 0 2 done 1 1 0", "call 1 0 peek 1 0 1 0 0", "call 1 1 nosignal",
+        ),
+        (("call 1 0 peek 1 0 1 0 0", "call 1 0 peek 3 0 0 0 0"),),
+        ("0 2", "1 0", "1 1"),
+    ),
+    Pair(
+        "a read is canceled by a set that came later",
+        script(["fd 0 realtime 0"], ["0 settime 0 3 0 50 0 0"], ["0 read 0 8", "1 readable 0", "1 set 100"]),
+        record(
+            "clock 1 1 1 set 100 0 100 0 1", "timer 0 1 0 0 start abs 50 0 0 0 realtime 50 0",
+            "object 0 1 0 0 settime 3 50 0 0 1 old 0 0", "object 0 2 0 1 read 1 none canceled",
+            "call 0 0 old 0 0", "call 0 1 canceled", "call 1 0 readable 0 0 1", "call 1 1 clock 1",
+        ),
+        (("call 1 0 readable 0 0 1", "call 1 0 readable 0 0 2"),),
+        ("0 1", "1 0", "1 1"),
+    ),
+]
