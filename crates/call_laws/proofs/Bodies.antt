@@ -1,12 +1,17 @@
 -- The callbacks of timers by themselves, behind the claims that they are run for.
-use Rattle.std.proofs.Common.{◌≡◌, ◌≤◌, ◌<◌, ℕ, ◌+◌, length, inl, inr, IsSome, Some, List, [], ◌∷◌, ◌++◌, arith, refl, sym, ap, ◌∙◌, subst}
+use Rattle.call_laws.proofs.Parts.{part_alone}
+use Rattle.call_laws.proofs.Stays.{saw_quiet}
+use Rattle.call_laws.proofs.Parts.{part_none}
+use Rattle.pass_names.specs.Passes.{Begins}
+use Rattle.std.proofs.Common.{◌++◌}
+use Rattle.std.proofs.Common.{◌≡◌, ◌≤◌, ◌<◌, ℕ, ◌+◌, length, inl, inr, IsSome, Some, List, [], ◌∷◌, arith, refl, sym, ap, ◌∙◌, subst}
 use Rattle.std.proofs.lemmas.List.{append-nil}
 use Rattle.ktime.specs.Readings.{ClockReading}
 use Rattle.seq_timer.specs.declared.context.Context.{Context}
 use Rattle.ktime.specs.declared.mode.Mode.TheVariants as modes
 use Rattle.seq_timer.specs.Histories as seq
 use Rattle.seq_timer.specs.Histories.{Holds}
-use Rattle.seq_timer.specs.Steps.{Timer, moved_by}
+use Rattle.seq_timer.specs.Steps.{moved_by}
 use Rattle.seq_timer.specs.Systems.{openings}
 use Rattle.seq_timer.specs.declared.event.EventBy.TheVariants as events
 use Rattle.seq_timer.specs.Events.{Asked, Event}
@@ -18,7 +23,6 @@ use Rattle.seq_timer.specs.declared.answer.ForwardAnswer.{ForwardAnswer}
 use Rattle.seq_timer.specs.declared.answer.ForwardAnswer.TheVariants as forwards
 use Rattle.base_row.specs.Calls.{opening_of}
 use Rattle.base_row.specs.declared.view.Opening.{Opening}
-use Rattle.hr_timers.proofs.Moments.{timer_after}
 use Rattle.hr_timers.specs.Calls.{Forwards, StartsTimer}
 use Rattle.hr_timers.specs.Known.{KnownOfTimers, MadeAt, timer_then}
 use Rattle.hr_timers.specs.Ways as ways
@@ -49,13 +53,11 @@ use Rattle.run_history.specs.Promises.{GoesOn}
 use Rattle.run_history.specs.Runs.{witness_of, Ending, IsJoined}
 use Rattle.run_history.specs.Truths.{WasOffLine}
 use Rattle.run_history.specs.Witnesses.{TimersList}
-use Rattle.run_history.proofs.PassState.{saw_from, state_seen}
-use Rattle.run_history.proofs.Promise.{seen_first}
 use Rattle.lane_world.proofs.Kept.{begins_same, count_begins}
 use Rattle.lane_world.specs.Worlds.{callback_of}
-use Rattle.call_laws.proofs.Entering.{enters_none, EntersNotes, stamp_counts}
+use Rattle.call_laws.proofs.Entering.{enters_none, stamp_counts}
 use Rattle.run_history.proofs.Stamped.{HasReading, entry_stamped}
-use Rattle.call_laws.proofs.Parts.{BodyKept, HasRead, IsClaimed, fired_of, part_at, part_claimed, part_entered, part_looked}
+use Rattle.call_laws.proofs.Parts.{BodyKept, HasRead, IsClaimed, fired_of, part_at, part_claimed, part_looked}
 use Rattle.timer_objects.specs.Firings.{Firing}
 use Rattle.call_laws.proofs.Entering.{looks_made}
 use Rattle.call_laws.proofs.SeenOff.{sent_seen, was_seen}
@@ -65,7 +67,7 @@ use Rattle.call_laws.proofs.Starts.{arming_of, is_arming, limit_within}
 
 module _ (s : Script) (o : Opening) (is : o ≡ opening_of s.bases (declareds_of s) (terms_of s)) (some : 1 ≤ s.limit)
     (label : Label) (c : ClaimNumbers) (reading : ClockReading) {base : ℕ} {k v : KnownOfTimers}
-    (claim : IsClaimed base c reading k v) (restart : Restart) (w : KnownOfTimers) (h h' : Firing)
+    (claim : IsClaimed s base c reading k v) (restart : Restart) (w : KnownOfTimers) (h h' : Firing)
     (same : h'.objects_pass.now ≡ h.objects_pass.now) (same_log : h'.object_log.receipts ≡ h.object_log.receipts) where
   on : o.timers ≡ openings (declareds_of s) (terms_of s)
   on = ap (λ (x : Opening). x.timers) is
@@ -92,8 +94,6 @@ module _ (s : Script) (o : Opening) (is : o ≡ opening_of s.bases (declareds_of
       let low = count_begins (TimersList c.timer) made.from in
       let high = count_begins (TimersList c.timer) made.seen in
       let looks = looks_made made in
-      let state : timer_then o at c.timer ≡ state_seen s w.seen c.timer =
-      sym (timer_after o v w c.timer at [] made) ∙ ap (λ (x : Opening). timer_then x w.seen c.timer) is in
       record {
         body = Looked c.timer number reply ∷ [];
         notes = [];
@@ -102,11 +102,10 @@ module _ (s : Script) (o : Opening) (is : o ≡ opening_of s.bases (declareds_of
         adds = logs;
         adds_objects = same_log ∙ sym (append-nil h.object_log.receipts);
         enters = enters_none looks.0 looks.1;
-        part = part_looked claim number event observation reply looks.0 looks.1 same noted (omega (arith, counted, low)) (omega (arith, counted, high));
+        part = part_alone same (part_looked claim number event observation reply looks.0 looks.1 noted (omega (arith, counted, low)) (omega (arith, counted, high)));
         kind = declared (Looked c.timer number reply ∷ []) kind does;
         holds = λ e joined goes before points. (
-          rw observes (saw_from (witness_of s e) w.seen goes.0 (seen_first w.seen joined goes) c.timer number observation
-              (ap (λ (u : Timer). u.stamp) (sym state) ∙ sym stamp) (rw (← state) holds)),
+          rw observes (saw_quiet is joined goes made number observation stamp holds),
           below,
         );
         span = λ e follows finish rearmed. tt;
@@ -118,18 +117,17 @@ module _ (s : Script) (o : Opening) (is : o ≡ opening_of s.bases (declareds_of
       → h'.log.receipts ≡ h.log.receipts ++ receipts_of c.timer (timer_then o at c.timer).stamp (e ∷ [])
       → Does callback (Entered c.timer ((timer_then o at c.timer).stamp + 1) (entry_stamped e) ∷ []) → BodyKept s label claim restart w h h'
   entered_kept {at = at} {e = e} kind made reads logs does =
-      let body = Entered c.timer ((timer_then o at c.timer).stamp + 1) (entry_stamped e) ∷ [] in
-      let its = part_at o (declareds_of s) (terms_of s) {actions = body} on made (λ clock has. (reads clock has, tt)) same (tt, tt) refl in
+      let its = part_at {IsSo = HasRead reading} {label = label} o {p = h.objects_pass.now} on made (λ clock has. (reads clock has, tt)) in
       record {
-        body = body;
+        body = Entered c.timer ((timer_then o at c.timer).stamp + 1) (entry_stamped e) ∷ [];
         notes = its.0;
         more = receipts_of c.timer (timer_then o at c.timer).stamp (e ∷ []);
         object_more = [];
         adds = logs;
         adds_objects = same_log ∙ sym (append-nil h.object_log.receipts);
-        enters = its.1.timers.enters;
-        part = part_claimed claim its.1;
-        kind = declared body kind does;
+        enters = its.1.enters;
+        part = part_alone same (part_claimed claim (receipts_of c.timer (timer_then o at c.timer).stamp (e ∷ [])) [] its.1);
+        kind = declared _ kind does;
         holds = λ e joined goes before points. tt;
         span = λ e follows finish restarted. tt;
       }
@@ -146,15 +144,15 @@ module _ (s : Script) (o : Opening) (is : o ≡ opening_of s.bases (declareds_of
         object_more = [];
         adds = run.1 ∙ sym (append-nil h.log.receipts);
         adds_objects = same_log ∙ sym (append-nil h.object_log.receipts);
-        enters = still;
-        part = part_claimed claim (part_entered still same tt refl refl refl);
+        enters = enters_none looks.0 looks.1;
+        part = part_alone same (part_claimed claim [] [] (part_none looks.0 looks.1));
         kind = declared [] kind (λ e joined goes finish restarted. (refl, ap asks run.2));
         holds = λ e joined goes before points. tt;
         span = λ e follows finish rearmed. tt;
       }
     where
-      still : EntersNotes (HasRead reading) v w []
-      still = enters_none (begins_same (ap (λ k. k.seen) run.0)) (ap (λ k. k.mine) run.0)
+      looks : Begins v.seen w.seen × (w.mine ≡ v.mine)
+      looks = (begins_same (ap (λ k. k.seen) run.0), ap (λ k. k.mine) run.0)
   callback_kept y (callbacks.Every interval) kind run = forwards_kept run.0.answer run.0.forwards run.0.receipts
     where
       forwards_kept : (answer : ForwardAnswer) (f : Forwards o v w c reading interval answer)

@@ -1,4 +1,10 @@
 -- Timers that a call moved off a base, one after the other, as a part of the call.
+use Rattle.call_laws.proofs.Parts.{part_as}
+use Rattle.hr_timers.specs.Moves.{IsFront as IsFrontOf}
+use Rattle.call_laws.proofs.Noted.{entered_on, notes_of}
+use Rattle.call_laws.proofs.Stays.{system_stays, timer_stays}
+use Rattle.call_laws.proofs.Parts.{part_logged}
+use Rattle.run_history.specs.Actions.{Action, Entered}
 use Rattle.std.proofs.Common.{◌≡◌, ◌<◌, ◌≤◌, ℕ, ◌+◌, ◌-◌, Bool, true, false, ◌&&◌, not, is_some, nat_eq, List, [], ◌∷◌, ◌++◌, length, take, map, arith, refl, sym, ap, ◌∙◌, subst}
 use Rattle.std.specs.List.{AllByRecursion}
 use Rattle.std.specs.Prelude.{flat_map, if◌then◌else◌}
@@ -17,7 +23,7 @@ use Rattle.record_text.specs.declared.record.Entry.{Entry}
 use Rattle.seq_timer.specs.Steps.{Timer, after, opening, placement_of, reply_to}
 use Rattle.seq_timer.specs.Calls.{asked_for, step_all}
 use Rattle.seq_timer.specs.Contents.{front_of}
-use Rattle.seq_timer.specs.Systems.{AreSystemSteps, System, after_one, entries_of, first_system, openings, system_after}
+use Rattle.seq_timer.specs.Systems.{AreSystemSteps, System, after_one, entries_of, first_system, openings}
 use Rattle.seq_timer.specs.Tables.{is_armed_on, no_declared, no_timer, timer_at}
 use Rattle.seq_timer.specs.declared.event.EventBy.TheVariants as events
 use Rattle.seq_timer.specs.declared.system.SystemEntry.{SystemEntry}
@@ -26,36 +32,28 @@ use Rattle.seq_timer.proofs.Agreement.{all_fresh}
 use Rattle.seq_timer.proofs.Systems.{entries_of-append}
 use Rattle.base_row.specs.Logs.{LogOf, kept, receipts_of}
 use Rattle.base_row.specs.declared.log.Receipt.{Receipt}
-use Rattle.base_row.specs.declared.view.Opening.{Opening}
 use Rattle.pass_names.proofs.Passes.{begins_length}
 use Rattle.base_row.proofs.Logging.{all_kept}
 use Rattle.hr_timers.specs.Known.{KnownOfTimers, timer_then}
-use Rattle.hr_timers.specs.Moves.{AreMoved, IsFront as IsFrontOf, MovesTimer, move_entries}
+use Rattle.hr_timers.specs.Moves.{AreMoved, MovesTimer, move_entries}
 use Rattle.hr_timers.proofs.Moments.{timer_own}
 use Rattle.script_text.specs.Declarations.{declared_of, declareds_of, terms_of}
 use Rattle.script_text.specs.declared.script.Call.{Call}
 use Rattle.script_text.specs.declared.script.Script.{Script}
-use Rattle.lane_notes.specs.Entries.{look_note, look_notes}
 use Rattle.run_history.specs.Calls.{KeepsExpiries, evacuates}
 use Rattle.run_history.specs.Histories.{history_of, lines_of_timer, timer_after}
 use Rattle.run_history.specs.Promises.{GoesOn}
 use Rattle.run_history.specs.Receipts.{PlacedEntry}
 use Rattle.run_history.specs.Runs.{Ending, IsJoined, witness_of}
-use Rattle.run_history.specs.Traces.{all_entered}
 use Rattle.run_history.specs.Truths.{IsFront, WasFront}
-use Rattle.run_history.specs.Witnesses.{Evacuation, OfTimer, Shown, TimersList, Witness, timer_along}
-use Rattle.run_history.proofs.Known.{numbered}
+use Rattle.run_history.specs.Witnesses.{Evacuation, TimersList, Witness}
 use Rattle.run_history.proofs.OwnHistories.{entries_on, history_shown, own_entry}
-use Rattle.run_history.proofs.PassState.{system_seen, timer_seen}
-use Rattle.run_history.proofs.Promise.{seen_first}
-use Rattle.run_history.proofs.Stamped.{entry_stamped}
 use Rattle.lane_world.specs.Called.{LaneOf}
 use Rattle.lane_world.specs.Worlds.{WorldOf}
 use Rattle.call_laws.proofs.CallKept.{opened_timers}
-use Rattle.call_laws.proofs.Entering.{receipts_of-no_looks, stamp_counts}
+use Rattle.call_laws.proofs.Entering.{stamp_counts}
 use Rattle.lane_world.proofs.Kept.{IsNextCall, begins_same, goes_before}
-use Rattle.lane_world.proofs.PartLists.{IsEntered, notes-append}
-use Rattle.call_laws.proofs.Parts.{HasRead, IsPart, part_at, part_none, part_then}
+use Rattle.call_laws.proofs.Parts.{HasRead, IsPart, part_at, part_none}
 use Rattle.timer_objects.specs.Known.{ObjectsPass}
 
 -- ---- timers that are there
@@ -125,27 +123,23 @@ abbrev pub evacuation : ℕ → ClockReading → ℕ → Timer → Evacuation
 evacuation heir reading t u =
     record { timer = t; before = u.stamp; ns = u.soft; slack = u.expires - u.soft; placement = placement_of (step_all u (move_events u heir reading)) }
 
--- its entries are those that the record shows
-move_shown : (heir : ℕ) (reading : ClockReading) (t : ℕ) (u : Timer) (armed : Bool) → is_some u.armed ≡ armed → armed ≡ true
-    → numbered t u.stamp (map entry_stamped (move_entries u heir reading)) ≡ all_entered (evacuates heir reading.stamp (evacuation heir reading t u))
-move_shown heir reading t u armed is on =
+-- its entries are what the call did
+move_shown : (heir : ℕ) (reading : ClockReading) (t : ℕ) (u : Timer) → is_some u.armed ≡ true
+    → entered_on t u.stamp (move_entries u heir reading) ≡ flat_map (evacuates heir reading.stamp) (evacuation heir reading t u ∷ [])
+move_shown heir reading t u on =
     let asked = asked_for modes.Keep u.soft (u.expires - u.soft) heir reading in
     let start : Entry = record { event = stamped (events.Start asked); reply = reply_to (after u (events.Out heir)) (events.Start asked) } in
-    let shown : Bool → ℕ → List (ℕ × Shown) = λ b n. (u.stamp + 1, OfTimer t (record { event = events.Out heir; reply = replies.Out b })) ∷ (n, OfTimer t start) ∷ [] in
-    ap (λ b. shown b (u.stamp + 1 + 1)) (is ∙ on) ∙ ap (shown true) (omega arith)
+    let shown : Bool → ℕ → List Action = λ b n.
+    Entered t (u.stamp + 1) (record { event = events.Out heir; reply = replies.Out b }) ∷ Entered t n start ∷ [] in
+    ap (λ b. shown b (u.stamp + 1 + 1)) on ∙ ap (shown true) (omega arith)
 
 -- ---- whose turn it was
 
-module _ {s : Script} {x : WorldOf} {l : LaneOf} {call : Call} (next : IsNextCall s x l call) (e : Ending) (joined : IsJoined s e) where
-  -- law: a timer that a pass saw to be the next one of a base is that in the run
-  pub front_seen : (seen : List SystemEntry) → GoesOn seen e → (base t : ℕ) → IsFrontOf x.timers.about seen base t
-      → IsFront (witness_of s e) base t (length seen)
-  front_seen seen goes base t front = (
-    front.0,
-    ap (λ (u : System). front_of (u.bases base).content)
-        (system_seen (witness_of s e) seen goes.0 (seen_first seen joined goes) ∙ sym (ap (λ (o : Opening). system_after o.timers seen) next.world.timers))
-        ∙ front.1,
-  )
+-- law: a timer that a pass saw to be the next one of a base is that in the run
+pub front_seen : {s : Script} {x : WorldOf} {l : LaneOf} {call : Call} (next : IsNextCall s x l call) (e : Ending) (joined : IsJoined s e)
+    (seen : List SystemEntry) → GoesOn seen e → (base t : ℕ) → IsFrontOf x.timers.about seen base t → IsFront (witness_of s e) base t (length seen)
+front_seen next e joined seen goes base t front =
+    (front.0, ap (λ (u : System). front_of (u.bases base).content) (system_stays next.world.timers joined seen goes) ∙ front.1)
 
 -- law: what was so between two moments was so between two that are further apart
 pub front_wider : (w : Witness) (base : ℕ) {low first last high : ℕ} → low ≤ first → last ≤ high → (ys : List Evacuation)
@@ -166,9 +160,7 @@ module _ {s : Script} {x : WorldOf} {l : LaneOf} {call : Call} (next : IsNextCal
   -- these timers were moved, as a part of a call with these receipts
   pub record MovedSo (v w : KnownOfTimers) (moved : List Evacuation) (log : List Receipt) : Type 0 where
     pub notes : List PlacedEntry
-    pub part : IsPart (HasRead reading) l.label v p w p (flat_map (evacuates heir reading.stamp) moved) notes log []
-    pub only : AllByRecursion IsEntered (flat_map (evacuates heir reading.stamp) moved)
-    pub no_looks : look_notes l.label log ≡ []
+    pub part : IsPart s (HasRead reading) l.label v p w p (flat_map (evacuates heir reading.stamp) moved) notes (notes_of l.label log [])
     pub keeps : (e : Ending) → IsJoined s e → GoesOn w.seen e
         → AllByRecursion (λ y. KeepsExpiries base (timer_after s e.run y.timer y.before) y) moved
     pub turns : (e : Ending) → IsJoined s e → GoesOn w.seen e → AllByRecursion (WasFront (witness_of s e) (length v.seen) (length w.seen) base) moved
@@ -188,9 +180,9 @@ module _ {s : Script} {x : WorldOf} {l : LaneOf} {call : Call} (next : IsNextCal
       let u = timer_then x.timers.about moves.at t in
       let es = move_entries u heir reading in
       let y = evacuation heir reading t u in
-      let shown = move_shown heir reading t u (is_some u.armed) refl (first_of (is_some u.armed) (not u.moving) (nat_eq u.base base) moves.armed) in
-      let part = part_at x.timers.about (declareds_of s) (terms_of s) (opened_timers next) moves.made
-      (λ clock has. (refl, (ap (λ r. events.Start (asked_for modes.Keep u.soft (u.expires - u.soft) heir r)) has, tt))) refl (tt, (tt, tt)) shown in
+      let shown = move_shown heir reading t u (first_of (is_some u.armed) (not u.moving) (nat_eq u.base base) moves.armed) in
+      let part = part_at {IsSo = HasRead reading} x.timers.about {p = p} (opened_timers next) moves.made
+      (λ clock has. (refl, (ap (λ r. events.Start (asked_for modes.Keep u.soft (u.expires - u.soft) heir r)) has, tt))) in
       record {
         moved = y ∷ [];
         many = refl;
@@ -198,9 +190,7 @@ module _ {s : Script} {x : WorldOf} {l : LaneOf} {call : Call} (next : IsNextCal
         adds = ap (λ (k : LogOf Receipt). k.receipts) moves.logged ∙ all_kept old (receipts_of t u.stamp es);
         so = record {
           notes = part.0;
-          part = part.1;
-          only = (tt, (tt, tt));
-          no_looks = receipts_of-no_looks l.label t u.stamp es;
+          part = part_as shown part.1;
           keeps = λ e joined goes.
               let on = goes_before moves.made.seen goes in
               let there = armed_there next e joined moves.at on base t moves.armed in
@@ -208,14 +198,12 @@ module _ {s : Script} {x : WorldOf} {l : LaneOf} {call : Call} (next : IsNextCal
               (subst (λ z. KeepsExpiries base z y) (sym same) (record { armed = moves.armed; soft = refl; slack = refl }), tt);
           turns = λ e joined goes.
               let on = goes_before moves.made.seen goes in
-              let same : timer_along (witness_of s e) (length moves.at) t ≡ u =
-              timer_seen (witness_of s e) moves.at on.0 (seen_first moves.at joined on) t
-              ∙ sym (ap (λ (o : Opening). timer_then o moves.at t) next.world.timers) in (
+              (
                 record {
                   at = length moves.at;
                   from = begins_length moves.made.from;
                   to = begins_length moves.made.seen;
-                  stamp = ap (λ (z : Timer). z.stamp) same;
+                  stamp = ap (λ (z : Timer). z.stamp) (timer_stays next.world.timers joined moves.at on t);
                   front = front_seen next e joined moves.at on base t moves.front;
                 },
                 tt,
@@ -234,8 +222,6 @@ module _ {s : Script} {x : WorldOf} {l : LaneOf} {call : Call} (next : IsNextCal
     so = record {
       notes = [];
       part = part_none (begins_same (ap (λ (k : KnownOfTimers). k.seen) moves.0)) (ap (λ (k : KnownOfTimers). k.mine) moves.0);
-      only = tt;
-      no_looks = refl;
       keeps = λ e joined goes. tt;
       turns = λ e joined goes. tt;
     };
@@ -256,14 +242,12 @@ module _ {s : Script} {x : WorldOf} {l : LaneOf} {call : Call} (next : IsNextCal
           → MovedSo v w (ys ++ zs) (log ++ more)
       both_moved {ys = ys} {zs = zs} {log = log} {more = more} one rest = record {
         notes = one.notes ++ rest.notes;
-        part = rw (flat_map-append (evacuates heir reading.stamp) ys zs) (part_then one.part rest.part);
-        only = rw (flat_map-append (evacuates heir reading.stamp) ys zs) (All-append IsEntered _ _ one.only rest.only);
-        no_looks = notes-append (look_note l.label) log more
-            ∙ ap (λ ns. ns ++ look_notes l.label more) one.no_looks ∙ rest.no_looks;
+        part = rw (flat_map-append (evacuates heir reading.stamp) ys zs)
+            (part_logged log more [] [] one.part rest.part);
         keeps = λ e joined goes. All-append _ ys zs
-            (one.keeps e joined (goes_before rest.part.timers.enters.seen goes)) (rest.keeps e joined goes);
+            (one.keeps e joined (goes_before rest.part.enters.seen goes)) (rest.keeps e joined goes);
         turns = λ e joined goes. All-append _ ys zs
-            (front_wider (witness_of s e) base (omega arith) (begins_length rest.part.timers.enters.seen) ys
-            (one.turns e joined (goes_before rest.part.timers.enters.seen goes)))
-            (front_wider (witness_of s e) base (begins_length one.part.timers.enters.seen) (omega arith) zs (rest.turns e joined goes));
+            (front_wider (witness_of s e) base (omega arith) (begins_length rest.part.enters.seen) ys
+            (one.turns e joined (goes_before rest.part.enters.seen goes)))
+            (front_wider (witness_of s e) base (begins_length one.part.enters.seen) (omega arith) zs (rest.turns e joined goes));
       }

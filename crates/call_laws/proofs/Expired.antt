@@ -1,4 +1,7 @@
 -- Expiry runs, as their lanes keep them.
+use Rattle.call_laws.proofs.Noted.{with_done-joins}
+use Rattle.call_laws.proofs.Parts.{part_looks}
+use Rattle.call_laws.proofs.Stays.{system_stays, timer_stays}
 use Rattle.std.proofs.Common.{◌≡◌, ◌≤◌, ℕ, List, [], ◌∷◌, ◌++◌, length, map, arith, refl, sym, ap, ◌∙◌, subst}
 use Rattle.std.specs.Prelude.{flat_map}
 use Rattle.std.proofs.lemmas.List.{append-nil}
@@ -11,7 +14,6 @@ use Rattle.seq_timer.specs.declared.context.Context.{Context}
 use Rattle.seq_timer.specs.Steps.{Timer}
 use Rattle.seq_timer.specs.Tables.{IsStopped, in_context, runs_on, seen_in}
 use Rattle.seq_timer.specs.declared.system.SystemEntry.{SystemEntry}
-use Rattle.base_row.specs.declared.view.Opening.{Opening}
 use Rattle.hr_timers.specs.Known.{KnownOfTimers, timer_then}
 use Rattle.expire_pass.specs.declared.expiry.ExpireAnswer.{ExpireAnswer}
 use Rattle.expire_pass.specs.declared.expiry.ExpireAnswer.TheVariants as expiries
@@ -23,7 +25,7 @@ use Rattle.timer_objects.specs.declared.log.ObjectReceipt.{ObjectReceipt}
 use Rattle.record_text.specs.declared.record.Answer.TheVariants as answers
 use Rattle.record_text.specs.declared.record.Answer.{Answer}
 use Rattle.record_text.specs.declared.record.Label.{Label}
-use Rattle.run_history.specs.Actions.{Action, numbers_of_object}
+use Rattle.run_history.specs.Actions.{Action}
 use Rattle.run_history.specs.Histories.{reading_at}
 use Rattle.run_history.specs.Order.{calls_of, IsLabel}
 use Rattle.script_text.specs.declared.script.Call.TheVariants as calls
@@ -36,15 +38,13 @@ use Rattle.run_history.specs.Receipts.{PlacedEntry}
 use Rattle.run_history.specs.Runs.{witness_of, Ending, IsJoined, moves_spans}
 use Rattle.run_history.proofs.Expires.{expire_busy, expire_done, expire_more, expiring, HaveRun}
 use Rattle.run_history.proofs.Kept.{IsKept}
-use Rattle.run_history.proofs.PassState.{system_seen, timer_seen}
-use Rattle.run_history.proofs.Promise.{object_point_from, seen_first}
+use Rattle.run_history.proofs.Promise.{object_point_from}
 use Rattle.lane_world.specs.Called.{CallsExpire, claimed_in, expire_told, LaneOf}
 use Rattle.lane_world.proofs.Kept.{Follows, IsNextCall, KeepsCall, seen_by, goes_before}
 use Rattle.lane_world.specs.Worlds.{WorldOf}
 use Rattle.pass_names.proofs.Passes.{begins_length}
-use Rattle.call_laws.proofs.CallKept.{clock_read, reading_followed, reading_goes_on}
+use Rattle.call_laws.proofs.CallKept.{clock_read, reading_goes_on}
 use Rattle.call_laws.proofs.PartKept.{keeps_part}
-use Rattle.call_laws.proofs.Parts.{part_none, part_then}
 use Rattle.call_laws.proofs.Fired.{RunKept, turns_kept}
 
 -- ---- a run that looked on
@@ -68,16 +68,12 @@ run_later : {s : Script} {label : Label} {context : Context} {base : ℕ} {readi
     → RunKept s label context base reading n v p w' q log callback_log object_log
 run_later {s = s} {label = label} {context = context} {base = base} {reading = reading} {v = v} {p = p} {w = w} {q = q} {w' = w'} {log = log} {callback_log = callback_log}
     {object_log = object_log} run looks =
-    let actions = flat_map (fires base reading.stamp) run.fired in
-    let all = log ++ callback_log in
-    let part = part_then run.part (part_none {w = w'} looks.seen looks.mine) in
     record {
       fired = run.fired;
       many = run.many;
       notes = run.notes;
-      no_looks = run.no_looks;
       claimed = run.claimed;
-      part = rw (append-nil actions, append-nil run.notes, append-nil all, append-nil object_log) at part;
+      part = part_looks run.part looks.seen looks.mine;
       have = λ e joined goes follows later behind points.
           have_later (witness_of s e) label e.order context base reading.stamp [] (length v.seen) run.fired run.notes (length w.seen) (length w'.seen)
           (begins_length looks.seen)
@@ -110,8 +106,8 @@ module _ {s : Script} {x : WorldOf} {l m : LaneOf} {a : Answer} {context : Conte
       let actions = flat_map (fires base c.reading.stamp) run.fired in
       let t = expiring base c.reading.stamp (length p.timers.known.seen) (length q.timers.known.seen) run.fired in
       let is : IsLabel s l.label = slice_get_within (calls_of s l.label.lane) l.label.call next.at next.there in
-      rw run.claimed (keeps_part next m answer t run.part (reading_goes_on p q c.reading c.reads) (clock_read c.reads.looks) c.notes refl c.reads.count
-      (λ i. rw (append-nil (numbers_of_object i actions)) (run.part.objects.steps i))
+      rw run.claimed (keeps_part next m answer t run.part (reading_goes_on p q c.reading c.reads) (clock_read c.reads.looks)
+      (c.notes ∙ with_done-joins l.notes l.label (c.log ++ c.callback_log) c.object_log) refl c.reads.count tt
       (λ e follows joined has kept low. fits e follows joined kept low
       (run.have e joined follows.timers follows.objects [] (λ i. tt)
       (λ i k before rest parts low high below behind. object_point_from joined is has i k before rest (sym (append-nil actions) ∙ parts) low high below
@@ -129,9 +125,7 @@ module _ {s : Script} {x : WorldOf} {l m : LaneOf} {a : Answer} {context : Conte
   -- a timer after what the lane has then seen
   state_is : (e : Ending) → Follows m.pass e → IsJoined s e → (t : ℕ)
       → witnesses.timer_along (witness_of s e) (length m.pass.timers.known.seen) t ≡ timer_then x.timers.about m.pass.timers.known.seen t
-  state_is e follows joined t =
-      timer_seen (witness_of s e) m.pass.timers.known.seen follows.timers.0 (seen_first m.pass.timers.known.seen joined follows.timers) t
-      ∙ sym (ap (λ (o : Opening). timer_then o m.pass.timers.known.seen t) next.world.timers)
+  state_is e follows joined t = timer_stays next.world.timers joined m.pass.timers.known.seen follows.timers t
 
   -- the timer that is next to expire on the base after what the lane has then seen
   next_is : (e : Ending) → Follows m.pass e → IsJoined s e
@@ -139,10 +133,9 @@ module _ {s : Script} {x : WorldOf} {l m : LaneOf} {a : Answer} {context : Conte
       ≡ next_on context ((system_after x.timers.about.timers m.pass.timers.known.seen).bases base) c.reading
   next_is e follows joined =
       ap (λ (u : System). next_on context (u.bases base) (reading_at e.run.clock c.reading.stamp))
-      (system_seen (witness_of s e) m.pass.timers.known.seen follows.timers.0 (seen_first m.pass.timers.known.seen joined follows.timers)
-      ∙ sym (ap (λ (o : Opening). system_after o.timers m.pass.timers.known.seen) next.world.timers))
+      (system_stays next.world.timers joined m.pass.timers.known.seen follows.timers)
       ∙ ap (λ r. next_on context ((system_after x.timers.about.timers m.pass.timers.known.seen).bases base) r)
-      (reading_followed l.pass m.pass c.reading c.reads e follows)
+      (reading_goes_on l.pass m.pass c.reading c.reads e follows.clock)
 
   -- by its answer
   answer_kept : (answer : ExpireAnswer)
@@ -162,7 +155,7 @@ module _ {s : Script} {x : WorldOf} {l m : LaneOf} {a : Answer} {context : Conte
         stopped = λ clock. subst (λ (k : ℕ → Timer). IsStopped (in_context context k) base (reading_at e.run.clock c.reading.stamp) clock)
             (λ i t. sym (state_is e follows joined t) i)
             (subst (λ r. IsStopped (in_context context (timer_then x.timers.about w.seen)) base r clock)
-            (sym (reading_followed l.pass m.pass c.reading c.reads e follows)) (none.none clock));
+            (sym (reading_goes_on l.pass m.pass c.reading c.reads e follows.clock)) (none.none clock));
       }))
   answer_kept (expiries.BaseBusy n t g) run =
       let ran = run_later (callbacks_kept n run.1.0 run.1.1) run.1.2.0 in

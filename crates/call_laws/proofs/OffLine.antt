@@ -1,9 +1,17 @@
 -- Calls that take a base off line or bring it on line again, as their lanes keep them.
+use Rattle.call_laws.proofs.Parts.{part_alone, part_as}
+use Rattle.call_laws.proofs.CallKept.{many_there}
+use Rattle.call_laws.proofs.Entering.{enters_shift}
+use Rattle.call_laws.proofs.Noted.{notes_of, one_noted, with_done-joins, with_shift-joins}
+use Rattle.call_laws.proofs.Parts.{part_one}
+use Rattle.call_laws.proofs.Sights.{keeps_sight}
+use Rattle.call_laws.proofs.Stays.{standing_stays, timer_stays}
+use Rattle.lane_notes.specs.Notes.{both_noted}
+use Rattle.lane_world.proofs.PartLists.{both_noted-assoc}
+use Rattle.pass_names.specs.Passes.{Begins}
 use Rattle.std.proofs.Common.{◌≡◌, ◌≤◌, ℕ, ◌+◌, ◌-◌, nat_lt, None, List, [], ◌∷◌, ◌++◌, length, arith, refl, sym, ap, ◌∙◌, subst, inl, inr, ⊎_elim}
-use Rattle.std.specs.List.{AllByRecursion}
 use Rattle.std.specs.Prelude.{IsSome, flat_map}
 use Rattle.std.proofs.lemmas.Bool.{ltb-true}
-use Rattle.std.proofs.lemmas.List.{append-nil}
 use Rattle.ktime.specs.Readings.{ClockReading}
 use Rattle.clock_cell.specs.Views.{writes}
 use Rattle.pass_names.specs.SharedHistory.{LooksOn}
@@ -34,7 +42,7 @@ use Rattle.script_text.specs.Declarations.{declareds_of, terms_of}
 use Rattle.script_text.specs.declared.script.Call.{Call}
 use Rattle.script_text.specs.declared.script.Call.TheVariants as calls
 use Rattle.script_text.specs.declared.script.Script.{Script}
-use Rattle.run_history.specs.Actions.{Action, Shifted}
+use Rattle.run_history.specs.Actions.{Shifted}
 use Rattle.run_history.specs.Receipts.{PlacedEntry}
 use Rattle.run_history.specs.Calls.{AllKeepExpiries, AllMoved, Does, evacuates}
 use Rattle.run_history.specs.Promises.{GoesOn}
@@ -43,29 +51,21 @@ use Rattle.run_history.specs.Truths.{AnswerHolds, RunsNone, WasFront, WasOffLine
 use Rattle.run_history.specs.Witnesses.{Evacuation, Trace, standing_along, timer_along}
 use Rattle.run_history.proofs.OffLineMade.{evacuating, offline_made, online_made, shift_by}
 use Rattle.run_history.proofs.OthersMade.{plain}
-use Rattle.run_history.proofs.PassState.{base_seen, timer_seen}
-use Rattle.run_history.proofs.Promise.{seen_first}
-use Rattle.script_text.proofs.Lists.{All-append}
 use Rattle.lane_world.specs.Called.{CallsOffline, CallsOnline, LaneOf, LeavesClock, ReadsClock, offline_told, online_told, with_done, with_offline_told, with_online_told}
 use Rattle.lane_world.specs.Worlds.{WorldOf}
 use Rattle.call_laws.proofs.CallKept.{LooksAtClock, clock_left, clock_read, opened_timers, reading_goes_on}
 use Rattle.call_laws.proofs.Evacuated.{MovedSo, all_moved, armed_there, front_seen, front_wider}
-use Rattle.lane_world.proofs.Kept.{Follows, IsNextCall, KeepsCall, begins_same}
+use Rattle.lane_world.proofs.Kept.{Follows, IsNextCall, KeepsCall}
 use Rattle.call_laws.proofs.PartKept.{keeps_part}
-use Rattle.lane_world.proofs.PartLists.{IsEntered, no_other}
 use Rattle.call_laws.proofs.Parts.{HasRead, IsPart, part_none, part_then}
-use Rattle.call_laws.proofs.ShiftKept.{keeps_shift}
-use Rattle.call_laws.proofs.Sights.{LooksOnly, keeps_quiet, looks_alone, no_object_steps, notes_alone}
+use Rattle.call_laws.proofs.Sights.{looks_alone, notes_alone}
 use Rattle.std.proofs.lemmas.List.{get_or-map}
 use Rattle.seq_timer.specs.Steps.{opening}
 use Rattle.seq_timer.specs.declared.context.Terms.{Terms}
 use Rattle.std.proofs.Common.{false}
 use Rattle.std.proofs.lemmas.Bool.Decides.{nat_tests}
-use Rattle.std.proofs.lemmas.List.Sorted.{IsPermutation-refl}
 use Rattle.lane_notes.specs.Notes.{NotesOf}
 use Rattle.lane_world.specs.Called.{with_shift}
-use Rattle.call_laws.proofs.CallKept.{with_done-joins}
-use Rattle.call_laws.proofs.Entering.{enters_none}
 use Rattle.lane_world.proofs.Kept.{goes_before}
 use Rattle.lane_world.proofs.PartLists.{no_notes-joins}
 
@@ -84,15 +84,7 @@ module _ {s : Script} {x : WorldOf} {l : LaneOf} {call : Call} (next : IsNextCal
 
   -- each timer is, when the call ends, as the call had seen it then
   timer_last : (t : ℕ) → timer_along (witness_of s e) (length seen) t ≡ timer_then x.timers.about seen t
-  timer_last t =
-      timer_seen (witness_of s e) seen follows.timers.0 (seen_first seen joined follows.timers) t
-      ∙ sym (ap (λ (o : Opening). timer_then o seen t) next.world.timers)
-
-  -- and each base
-  standing_last : (b : ℕ) → standing_along (witness_of s e) (length seen) b ≡ standing_then x.timers.about seen b
-  standing_last b =
-      base_seen (witness_of s e) seen follows.timers.0 (seen_first seen joined follows.timers) b
-      ∙ sym (ap (λ (o : Opening). standing_then o seen b) next.world.timers)
+  timer_last t = timer_stays next.world.timers joined seen follows.timers t
 
   runs_none : (base : ℕ) → ((u : ℕ) → runs_on base (timer_then x.timers.about seen u) ≡ false) → RunsNone (witness_of s e) base (length seen)
   runs_none base none = λ u. ap (runs_on base) (timer_last u) ∙ none u
@@ -100,14 +92,10 @@ module _ {s : Script} {x : WorldOf} {l : LaneOf} {call : Call} (next : IsNextCal
   -- a base of which nothing more was seen stands, when the call ends, as it did before
   stands_so : (b : ℕ) → shifts_of b seen ≡ shifts_of b l.pass.timers.known.seen
       → standing_along (witness_of s e) (length seen) b ≡ standing_then x.timers.about l.pass.timers.known.seen b
-  stands_so b same = standing_last b ∙ standing_same x.timers.about l.pass.timers.known m.pass.timers.known b same
+  stands_so b same =
+      standing_stays next.world.timers joined seen follows.timers b ∙ standing_same x.timers.about l.pass.timers.known m.pass.timers.known b same
 
 -- ---- calls that changed nothing
-
--- a call of the first pass that only looked
-looked_only : {l m : LaneOf} → LooksOn l.pass.timers.known m.pass.timers.known → m.pass.objects ≡ l.pass.objects → LooksAtClock l.pass m.pass
-    → m.notes ≡ l.notes → LooksOnly l m
-looked_only looks objects clock notes = looks_alone looks.seen looks.mine objects clock notes
 
 module _ {s : Script} {x : WorldOf} {l m : LaneOf} {base heir budget : ℕ} (next : IsNextCall s x l (calls.Offline base heir budget))
     (first : l.pass.timers.known.id.name ≡ []) {A : Type 0} {old new : A} (only : OnlyLooks l.pass.timers.known m.pass.timers.known old new)
@@ -116,7 +104,7 @@ module _ {s : Script} {x : WorldOf} {l m : LaneOf} {base heir budget : ℕ} (nex
   pub already_offline : IsSome (standing_then x.timers.about l.pass.timers.known.seen base).heir
       → KeepsCall s l (calls.Offline base heir budget) (answers.Already (standing_then x.timers.about l.pass.timers.known.seen base).stamp) m
   already_offline off =
-      keeps_quiet next _ (looked_only only.looks objects clock notes) refl (λ e. refl) (λ e follows joined.
+      keeps_sight next _ (looks_alone only.looks.seen only.looks.mine objects clock notes) tt (λ e. refl) (λ e follows joined has.
       let now = stands_so next m e follows joined base (only.keeps first base) in
       (ap (λ (y : Standing). y.stamp) now, subst (λ (y : Standing). IsSome y.heir) (sym now) off))
 
@@ -124,7 +112,7 @@ module _ {s : Script} {x : WorldOf} {l m : LaneOf} {base heir budget : ℕ} (nex
   pub heir_offline : IsSome (standing_then x.timers.about l.pass.timers.known.seen heir).heir
       → KeepsCall s l (calls.Offline base heir budget) (answers.HeirOffline (standing_then x.timers.about l.pass.timers.known.seen heir).stamp) m
   heir_offline off =
-      keeps_quiet next _ (looked_only only.looks objects clock notes) refl (λ e. refl) (λ e follows joined.
+      keeps_sight next _ (looks_alone only.looks.seen only.looks.mine objects clock notes) tt (λ e. refl) (λ e follows joined has.
       let now = stands_so next m e follows joined heir (only.keeps first heir) in
       (ap (λ (y : Standing). y.stamp) now, subst (λ (y : Standing). IsSome y.heir) (sym now) off))
 
@@ -133,7 +121,7 @@ module _ {s : Script} {x : WorldOf} {l m : LaneOf} {base heir budget : ℕ} (nex
       → last_standing ≤ (standing_then x.timers.about l.pass.timers.known.seen base).stamp
       → KeepsCall s l (calls.Offline base heir budget) (answers.BaseSpent (standing_then x.timers.about l.pass.timers.known.seen base).stamp) m
   base_spent on full =
-      keeps_quiet next _ (looked_only only.looks objects clock notes) refl (λ e. refl) (λ e follows joined.
+      keeps_sight next _ (looks_alone only.looks.seen only.looks.mine objects clock notes) tt (λ e. refl) (λ e follows joined has.
       let now = stands_so next m e follows joined base (only.keeps first base) in
       (ap (λ (y : Standing). y.stamp) now, ap (λ (y : Standing). y.heir) now ∙ on, full))
 
@@ -160,8 +148,6 @@ moves_off {s = s} {l = l} next base heir reading {fresh = fresh} empty g =
       so = subst (MovedSo next base heir reading l.pass.objects l.pass.timers.known g.evacuates.mid all.moved) same (record {
         notes = so.notes;
         part = part_then (part_none g.looks.seen g.looks.mine) so.part;
-        only = so.only;
-        no_looks = so.no_looks;
         keeps = so.keeps;
         turns = λ e joined goes. front_wider (witness_of s e) base (begins_length g.looks.seen) (omega arith) all.moved (so.turns e joined goes);
       });
@@ -192,37 +178,35 @@ module _ {s : Script} {x : WorldOf} {l : LaneOf} (m : LaneOf) {base heir budget 
       (length m.pass.timers.known.seen)) (calls.Offline base heir budget) off.moved
   moved_so e joined goes more = (off.so.keeps e joined goes, front_wider (witness_of s e) base (omega arith) more off.moved (off.so.turns e joined goes))
 
-  -- law: so the call ended without an entry of the base
+  -- law: so the call ended, with this part
+  ended : (a : Answer) {notes : List PlacedEntry} {added : NotesOf}
+      → IsPart s (HasRead reading) l.label l.pass.timers.known l.pass.objects m.pass.timers.known l.pass.objects (trace_of a).actions notes added
+      → m.notes ≡ both_noted l.notes added → Begins mid.seen m.pass.timers.known.seen → DoesSo a → HoldsSo a
+      → KeepsCall s l (calls.Offline base heir budget) a m
+  ended a part joins more does holds =
+      keeps_part next m a (trace_of a) (part_alone objects part) (reading_goes_on l.pass m.pass reading reads)
+      (clock_read reads.looks) joins refl reads.count tt
+      (λ e follows joined has kept low. offline_made base heir budget off.moved a kept low (does e)
+      (moved_so e joined (goes_before more follows.timers) (begins_length more)) (holds e follows joined))
+
+  -- law: without an entry of the base
   pub ended_by_look : (a : Answer) → shift_by base heir a ≡ [] → LooksOn mid m.pass.timers.known → m.notes ≡ with_done l.notes l.label log [] → DoesSo a
       → HoldsSo a → KeepsCall s l (calls.Offline base heir budget) a m
-  ended_by_look a none looks notes does holds =
-      let t = trace_of a in
-      let acts = flat_map (evacuates heir reading.stamp) off.moved in
-      let Parts = λ (ds : List Action) (ns : List PlacedEntry) (rs : List Receipt).
-      IsPart (HasRead reading) l.label l.pass.timers.known l.pass.objects m.pass.timers.known l.pass.objects ds ns rs [] in
-      let only = subst (λ es. AllByRecursion IsEntered (acts ++ es)) (sym none) (subst (AllByRecursion IsEntered) (sym (append-nil acts)) off.so.only) in
-      let mine = subst (λ es. Parts (acts ++ es) off.so.notes log) (sym none) (subst (λ ns. Parts (acts ++ []) ns log) (append-nil off.so.notes)
-      (subst (λ rs. Parts (acts ++ []) (off.so.notes ++ []) rs) (append-nil log) (part_then off.so.part (part_none looks.seen looks.mine)))) in
-      let whole : IsPart (HasRead reading) l.label l.pass.timers.known l.pass.objects m.pass.timers.known m.pass.objects t.actions off.so.notes log [] =
-      subst (λ q. IsPart (HasRead reading) l.label l.pass.timers.known l.pass.objects m.pass.timers.known q t.actions off.so.notes log []) (sym objects) mine in
-      keeps_part next m a t whole (reading_goes_on l.pass m.pass reading reads) (clock_read reads.looks) notes refl reads.count
-      (no_object_steps l.pass m.pass (calls.Offline base heir budget) a t.actions (no_other t.actions only).numbers refl whole.objects.goes_on)
-      (λ e follows joined has kept low. offline_made base heir budget off.moved a kept low (does e)
-      (moved_so e joined (goes_before looks.seen follows.timers) (begins_length looks.seen)) (holds e follows joined))
+  ended_by_look a none looks notes =
+      ended a (part_as (ap (λ es. flat_map (evacuates heir reading.stamp) off.moved ++ es) (sym none))
+      (part_then off.so.part (part_none looks.seen looks.mine)))
+      (notes ∙ with_done-joins l.notes l.label log [] ∙ ap (both_noted l.notes) (no_notes-joins (notes_of l.label log []))) looks.seen
 
   -- law: or with one, by which the base went off line
   pub ended_by_shift : (number stamp : ℕ) → ShiftsBase x.timers.about mid m.pass.timers.known base (shifts.Offline heir)
       → stamp ≡ length (shifts_of base mid.seen) + 1
       → m.notes ≡ with_shift (with_done l.notes l.label log []) l.label base stamp (shifts.Offline heir) → DoesSo (answers.Offline number stamp)
       → HoldsSo (answers.Offline number stamp) → KeepsCall s l (calls.Offline base heir budget) (answers.Offline number stamp) m
-  ended_by_shift number stamp shift counted notes does holds =
-      let a = answers.Offline number stamp in
-      let part = off.so.part.timers in
-      keeps_shift (HasRead reading) log next m a (trace_of a) part.enters part.told off.so.no_looks (flat_map (evacuates heir reading.stamp) off.moved)
-      part.are refl (All-append IsEntered _ _ off.so.only (tt, tt)) shift counted (reading_goes_on l.pass m.pass reading reads) (clock_read reads.looks)
-      objects notes refl reads.count refl
-      (λ e follows joined has kept low. offline_made base heir budget off.moved a kept low (does e)
-      (moved_so e joined (goes_before shift.seen follows.timers) (begins_length shift.seen)) (holds e follows joined))
+  ended_by_shift number stamp shift counted notes =
+      ended (answers.Offline number stamp) (part_then off.so.part (part_one _ (enters_shift (many_there next) shift counted)))
+      (notes ∙ ap (λ ns. with_shift ns l.label base stamp (shifts.Offline heir)) (with_done-joins l.notes l.label log [])
+      ∙ with_shift-joins (both_noted l.notes (notes_of l.label log [])) l.label base stamp (shifts.Offline heir)
+      ∙ both_noted-assoc l.notes (notes_of l.label log []) (one_noted l.label (Shifted base stamp (shifts.Offline heir)))) shift.seen
 
 -- ---- each answer
 
@@ -320,15 +304,14 @@ online_kept : {s : Script} {x : WorldOf} {l m : LaneOf} {base : ℕ} (next : IsN
     → m.pass.objects ≡ l.pass.objects → m.notes ≡ with_online_told l.notes l.label base answer → KeepsCall s l (calls.Online base) (online_told answer) m
 online_kept {s} {x} {l} {m} {base} next first clock (ons.AlreadyOnline n) fits objects notes =
     subst (λ k. KeepsCall s l (calls.Online base) (answers.Already k) m) (sym fits.3)
-    (keeps_quiet next _ (looked_only fits.0 objects (clock_left clock) notes) refl (λ e. refl) (λ e follows joined.
+    (keeps_sight next _ (looks_alone fits.0.seen fits.0.mine objects (clock_left clock) notes) tt (λ e. refl) (λ e follows joined has.
     let now = stands_so next m e follows joined base (fits.1 first base) in
     (ap (λ (y : Standing). y.stamp) now, ap (λ (y : Standing). y.heir) now ∙ fits.2)))
 online_kept {s} {x} {l} {m} {base} next first clock (ons.Online n) fits objects notes =
-    keeps_shift (λ c. Unit) [] next m (answers.Online n)
+    keeps_part next m (answers.Online n)
     (plain (length (writes m.pass.clock.knows)) (length l.pass.timers.known.seen) (length m.pass.timers.known.seen) (Shifted base n shifts.Online ∷ []))
-    (enters_none (begins_same refl) refl) (IsPermutation-refl []) refl [] refl refl (tt, tt) fits.0 fits.1 (λ e goes. tt) (clock_left clock) objects
-    (notes ∙ ap (λ (ns : NotesOf). with_shift ns l.label base n shifts.Online)
-    (no_notes-joins l.notes ∙ sym (with_done-joins l.notes l.label [] []))) refl refl refl
+    (part_alone {IsSo = λ c. Unit} objects (part_one _ (enters_shift (many_there next) fits.0 fits.1))) (λ e goes. tt)
+    (clock_left clock) (notes ∙ with_shift-joins l.notes l.label base n shifts.Online) refl refl tt
     (λ e follows joined has kept low. online_made base n kept low)
 
 -- law: a lane keeps a call that brings a base on line again

@@ -1,6 +1,7 @@
 -- What a start of a timer tells: its entries as the record has them, and its answer.
+use Rattle.call_laws.proofs.Noted.{entered_on}
+use Rattle.run_history.specs.Actions.{Entered}
 use Rattle.std.proofs.Common.{◌≡◌, ◌≤◌, ◌<◌, ℕ, ◌+◌, is_some, List, [], ◌∷◌, map, arith, refl, sym, ap, ◌∙◌, subst, zero, suc}
-use Rattle.std.specs.List.{AllByRecursion}
 use Rattle.ktime.specs.Readings.{ClockReading}
 use Rattle.seq_timer.specs.Calls.{entries_along, step_all}
 use Rattle.seq_timer.specs.Events.{Asked, Event}
@@ -28,12 +29,8 @@ use Rattle.record_text.specs.declared.record.ClockLine.{ClockLine}
 use Rattle.script_text.specs.declared.script.StartRequest.{StartRequest}
 use Rattle.run_history.specs.Histories.{reading_at}
 use Rattle.run_history.specs.Starts.{Arming, arming_actions, first_number, IsArming, IsJustBefore, IsSentBy, SentTo, was_armed_before}
-use Rattle.run_history.specs.Traces.{all_entered}
-use Rattle.run_history.specs.Witnesses.{OfTimer}
-use Rattle.run_history.proofs.Known.{numbered}
-use Rattle.run_history.proofs.Stamped.{HaveReadings, entry_stamped}
+use Rattle.run_history.proofs.Stamped.{HaveReadings}
 use Rattle.lane_world.specs.Called.{asked_in, start_told}
-use Rattle.lane_world.proofs.PartLists.{IsEntered}
 
 -- ---- limits
 
@@ -118,25 +115,18 @@ module _ (timer : ℕ) (request : StartRequest) (reading : ClockReading) where
 
   -- a start that was made: its entries, as the record has them, and its answer
   pub record StartsAs (s : Timer) (sent : List ℕ) (last : ℕ) (answer : StartAnswer) : Type 0 where
-    pub entries : numbered timer s.stamp (map entry_stamped (entries_along s (start_on asked sent last)))
-        ≡ all_entered (arming_actions timer request reading.stamp (arming_of s asked sent last))
+    pub entries : arming_actions timer request reading.stamp (arming_of s asked sent last)
+        ≡ entered_on timer s.stamp (entries_along s (start_on asked sent last))
     pub told : start_told answer
         ≡ answers.Started (arming_of s asked sent last).number (arming_of s asked sent last).placement.base
         (was_armed_before (arming_of s asked sent last).outs (arming_of s asked sent last).was_armed)
-    pub only : AllByRecursion IsEntered (arming_actions timer request reading.stamp (arming_of s asked sent last))
 
-  entries_so : (s : Timer) (sent : List ℕ) (last : ℕ)
-      → numbered timer s.stamp (map entry_stamped (entries_along s (start_on asked sent last)))
-      ≡ all_entered (arming_actions timer request reading.stamp (arming_of s asked sent last))
+  entries_so : (s : Timer) (sent : List ℕ) (last : ℕ) → arming_actions timer request reading.stamp (arming_of s asked sent last)
+      ≡ entered_on timer s.stamp (entries_along s (start_on asked sent last))
   entries_so s [] last = refl
   entries_so s (b ∷ bs) last =
-      ap (λ xs. (s.stamp + 1, OfTimer timer (record { event = events.Out b; reply = replies.Out (is_some s.armed) })) ∷ xs)
+      ap (λ xs. Entered timer (s.stamp + 1) (record { event = events.Out b; reply = replies.Out (is_some s.armed) }) ∷ xs)
       (entries_so (after s (events.Out b)) bs last)
-
-  only_entries : (s : Timer) (sent : List ℕ) (last : ℕ)
-      → AllByRecursion IsEntered (arming_actions timer request reading.stamp (arming_of s asked sent last))
-  only_entries s [] last = (tt, tt)
-  only_entries s (b ∷ bs) last = (tt, only_entries (after s (events.Out b)) bs last)
 
   told_so : (s : Timer) (sent : List ℕ) (last : ℕ)
       → start_told (start_answer s (step_all s (start_on asked sent last)) sent last)
@@ -150,7 +140,7 @@ module _ (timer : ℕ) (request : StartRequest) (reading : ClockReading) where
   pub started_so : (s : Timer) (sent : List ℕ) (last : ℕ) (answer : StartAnswer)
       → answer ≡ start_answer s (step_all s (start_on asked sent last)) sent last → StartsAs s sent last answer
   started_so s sent last answer is =
-      record { entries = entries_so s sent last; told = ap start_told is ∙ told_so s sent last; only = only_entries s sent last }
+      record { entries = entries_so s sent last; told = ap start_told is ∙ told_so s sent last }
 
   -- law: a record's clock has the readings of a start's events where it has that of the start
   pub start_reads : (s : Timer) (sent : List ℕ) (last : ℕ) (clock : List ClockLine) → reading_at clock reading.stamp ≡ reading

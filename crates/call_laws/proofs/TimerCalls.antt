@@ -28,7 +28,10 @@ use Rattle.lane_world.specs.Called.{asked_in, CallsCancel, CallsStart, cancel_to
 use Rattle.lane_world.proofs.Kept.{IsNextCall, KeepsCall}
 use Rattle.lane_world.specs.Worlds.{WorldOf}
 use Rattle.call_laws.proofs.CallKept.{clock_left, clock_read, reading_goes_on}
-use Rattle.call_laws.proofs.Sights.{keeps_entered, keeps_quiet, looks_at, notes_alone, saw_quiet, still_quiet}
+use Rattle.call_laws.proofs.Sights.{keeps_entered, keeps_sight, looks_at, notes_alone}
+use Rattle.call_laws.proofs.Stays.{saw_quiet, timer_quiet}
+use Rattle.seq_timer.specs.Steps.{Timer}
+use Rattle.std.proofs.Common.{ap, ◌∙◌}
 use Rattle.call_laws.proofs.SeenOff.{sent_seen, was_seen}
 use Rattle.call_laws.proofs.Starts.{arming_of, is_arming, limit_within, started_so, start_reads}
 
@@ -39,17 +42,17 @@ cancel_kept : {s : Script} {x : WorldOf} {l m : LaneOf} {timer : ℕ} → IsNext
     → m.notes ≡ with_done l.notes l.label (receipts_of timer (timer_then x.timers.about c.at timer).stamp (cancel_entries answer)) []
     → KeepsCall s l (calls.Cancel timer) (cancel_told answer) m
 cancel_kept {l = l} {m = m} next clock (cancels.Idle n) c objects notes =
-    keeps_quiet next (answers.Idle n) (looks_at c.made objects (clock_left clock) (notes_alone l m refl refl notes)) refl (λ e. refl)
-    (saw_quiet next m.pass c.made n observations.Idle c.fits.1 c.fits.0)
+    keeps_sight next (answers.Idle n) (looks_at c.made objects (clock_left clock) (notes_alone l m refl refl notes)) tt (λ e. refl)
+    (λ e follows joined has. saw_quiet next.world.timers joined follows.timers c.made n observations.Idle c.fits.1 c.fits.0)
 cancel_kept {l = l} {m = m} next clock (cancels.Running g n) c objects notes =
-    keeps_quiet next (answers.Running g n) (looks_at c.made objects (clock_left clock) (notes_alone l m refl refl notes)) refl (λ e. refl)
-    (saw_quiet next m.pass c.made n (observations.Running g) c.fits.1 c.fits.0)
+    keeps_sight next (answers.Running g n) (looks_at c.made objects (clock_left clock) (notes_alone l m refl refl notes)) tt (λ e. refl)
+    (λ e follows joined has. saw_quiet next.world.timers joined follows.timers c.made n (observations.Running g) c.fits.1 c.fits.0)
 cancel_kept {x = x} {l = l} {m = m} {timer = timer} next clock (cancels.Cancelled g n) c objects notes =
     let number = (timer_then x.timers.about c.at timer).stamp + 1 in
     let entry : Entry = record { event = events.Cancel; reply = replies.Cancel g } in
     keeps_entered (λ clock. Unit) next m (answers.Cancelled g)
     (plain (length (writes m.pass.clock.knows)) (length l.pass.timers.known.seen) (length m.pass.timers.known.seen) (Entered timer number entry ∷ []))
-    c.made (λ clock so. (refl, tt)) (λ e goes. tt) (clock_left clock) objects notes (tt, tt) refl refl refl refl
+    c.made (λ clock so. (refl, tt)) (λ e goes. tt) (clock_left clock) objects notes refl refl refl tt
     (λ its e follows joined has kept low. cancelled_made timer number g kept low)
 
 -- law: a lane keeps a cancel
@@ -67,10 +70,10 @@ start_kept : {s : Script} {x : WorldOf} {l m : LaneOf} {timer : ℕ} {request : 
     (start_entries (timer_then x.timers.about c.at timer) (asked_in request reading) c.sent c.last answer)) []
     → KeepsCall s l (calls.Start timer request) (start_told answer) m
 start_kept {l = l} {m = m} next reading reads (starts.Spent n) c objects notes =
-    keeps_quiet next (answers.Spent n) (looks_at c.made objects (clock_read reads.looks) (notes_alone l m refl refl notes)) refl (λ e. refl)
-    (λ e follows joined. (
-      saw_quiet next m.pass c.made n observations.Spent c.fits.2 c.fits.1 e follows joined,
-      still_quiet next m.pass c.made c.fits.0 e follows joined,
+    keeps_sight next (answers.Spent n) (looks_at c.made objects (clock_read reads.looks) (notes_alone l m refl refl notes)) tt (λ e. refl)
+    (λ e follows joined has. (
+      saw_quiet next.world.timers joined follows.timers c.made n observations.Spent c.fits.2 c.fits.1,
+      ap (λ (u : Timer). u.moving) (timer_quiet next.world.timers joined follows.timers c.made) ∙ c.fits.0,
     ))
 start_kept {s = s} {x = x} {l = l} {m = m} {timer = timer} {request = request} next reading reads
     (starts.Started was generation last outs placed) c objects notes =
@@ -87,7 +90,7 @@ start_kept {s = s} {x = x} {l = l} {m = m} {timer = timer} {request = request} n
     (answers.Started arming.number arming.placement.base (was_armed_before arming.outs arming.was_armed))
     (plain reading.stamp (length v) (length w) actions) c.made
     (λ clock has. start_reads timer request reading u c.sent c.last clock has) (reading_goes_on l.pass m.pass reading reads) (clock_read reads.looks)
-    objects notes so.only so.entries refl reads.count refl (λ its e follows joined has kept low.
+    objects notes so.entries refl reads.count tt (λ its e follows joined has kept low.
     let Reached = WasOffLine (witness_of s e) (length v) (length w) in
     started_made timer request arming kept low (is_arming Reached s.limit request.base u (asked_in request reading) c.sent c.last few
     (sent_seen x.timers.about v w Reached (was_seen s x.timers.about next.world.timers e joined v w follows.timers) request.base c.sent c.last c.on_way))))

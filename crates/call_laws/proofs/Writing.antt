@@ -1,4 +1,6 @@
 -- Writes of the clock, as their lanes keep them.
+use Rattle.call_laws.proofs.Sights.{keeps_sight}
+use Rattle.std.proofs.lemmas.List.{take_all}
 use Rattle.std.proofs.Common.{◌≡◌, ℕ, ◌+◌, ◌≤◌, List, [], ◌∷◌, length, length-append, take, Ok, Err, Result, Some, arith, refl, sym, ap, ◌∙◌, subst}
 use Rattle.std.specs.List.{slice_get}
 use Rattle.std.proofs.lemmas.List.{append-nil, length-map}
@@ -30,9 +32,8 @@ use Rattle.lane_world.proofs.Kept.{IsNoteSeen, label_of, list_of, EntryNotes, Lo
 use Rattle.lane_world.specs.Worlds.{WorldOf}
 use Rattle.call_laws.proofs.Entering.{enters_none}
 use Rattle.pass_names.proofs.Passes.{begins_length}
-use Rattle.call_laws.proofs.CallKept.{clock_read, no_places, promised_from, same_objects, stand_from, take_whole, reading_of_seen}
+use Rattle.call_laws.proofs.CallKept.{clock_read, no_places, promised_from, same_objects, stand_from, reading_of_seen}
 use Rattle.lane_world.proofs.PartLists.{notes_same, same_order}
-use Rattle.call_laws.proofs.Sights.{keeps_quiet, no_object_steps}
 use Rattle.call_laws.proofs.Sights.{LooksOnly, looks_alone, keeps_looking}
 use Rattle.call_laws.proofs.Entering.{EntersNotes}
 
@@ -49,8 +50,8 @@ write_joins notes stamp line =
 writes_within : (e : Ending) (ws : List Write) → GoesOnClock ws e → length ws ≤ length e.run.clock
 writes_within e ws on = omega (arith, length-map e.run.clock (λ (line : ClockLine). line.write), ap length on.1, length-append ws on.0)
 
-refused : (l m : LaneOf) → Looks l.pass.clock.knows.pass m.pass.clock.knows.pass → m.pass.timers ≡ l.pass.timers → m.pass.objects ≡ l.pass.objects
-    → m.notes ≡ l.notes → LooksOnly l m
+refused : {s : Script} (l m : LaneOf) → Looks l.pass.clock.knows.pass m.pass.clock.knows.pass → m.pass.timers ≡ l.pass.timers → m.pass.objects ≡ l.pass.objects
+    → m.notes ≡ l.notes → LooksOnly s l m
 refused l m looks timers objects notes =
     looks_alone (begins_same (ap (λ t. t.known.seen) timers)) (ap (λ t. t.known.mine) timers) objects (clock_read looks) notes
 
@@ -60,7 +61,7 @@ write_kept : {s : Script} {x : WorldOf} {l m : LaneOf} {write : Write} (next : I
 write_kept {l = l} {m = m} {write = write} next (Err (faults.ClockRange would_be)) w timers objects notes =
     let ws = writes m.pass.clock.knows in
     let cause = (w.err.cause.range would_be).0 refl in
-    keeps_quiet next (answers.Range would_be) (refused l m w.err.looks timers objects notes) refl (λ e. refl) (λ e follows joined. record {
+    keeps_sight next (answers.Range would_be) (refused l m w.err.looks timers objects notes) tt (λ e. refl) (λ e follows joined has. record {
       counted = omega (arith, writes_within e ws follows.clock, follows.few);
       late = cause.1;
       greatest = cause.2 ∙ ap (λ r. greatest (after_write r write)) (sym (reading_of_seen e ws follows.clock));
@@ -68,8 +69,7 @@ write_kept {l = l} {m = m} {write = write} next (Err (faults.ClockRange would_be
 write_kept {l = l} {m = m} {write = write} next (Err faults.ClockSpent) w timers objects notes =
     let ws = writes m.pass.clock.knows in
     let full : last_stamp ≤ (seen_reading m.pass.clock.knows).stamp = w.err.cause.spent.0 refl in
-    let only = refused l m w.err.looks timers objects notes in
-    keeps_looking next answers.ClockSpent only (no_object_steps l.pass m.pass (calls.Clock write) answers.ClockSpent [] (λ i. refl) refl only.objects)
+    keeps_looking next answers.ClockSpent (refused l m w.err.looks timers objects notes) tt
     (λ e follows joined has kept low. absurd (omega (arith, full, stamp_after ws, writes_within e ws follows.clock, follows.few)))
 write_kept {s = s} {l = l} {m = m} {write = write} next (Ok r) w timers objects notes =
     let p = l.pass in
@@ -83,7 +83,7 @@ write_kept {s = s} {l = l} {m = m} {write = write} next (Ok r) w timers objects 
     let number : many + 1 ≡ r.stamp = omega (arith, w.ok.count, ap length adds.last, length-append adds.before (write ∷ [])) in
     let behind : length (writes p.clock.knows) ≤ many = begins_length adds.begins in
     let same_seen : q.timers.known.seen ≡ p.timers.known.seen = ap (λ t. t.known.seen) timers in
-    let enters : EntersNotes (λ clock. Unit) p.timers.known q.timers.known [] =
+    let enters : EntersNotes s (λ clock. Unit) p.timers.known q.timers.known [] =
     enters_none (begins_same same_seen) (ap (λ t. t.known.mine) timers) in
     let sees : SeesOn p q = record {
       timers = enters.seen;
@@ -104,7 +104,7 @@ write_kept {s = s} {l = l} {m = m} {write = write} next (Ok r) w timers objects 
       object_steps = λ i. begins_length (sees.objects.each i);
     } in
     let whole : reading_after (take r.stamp ws) ≡ r =
-    ap (λ n. reading_after (take n ws)) w.ok.count ∙ ap reading_after (take_whole ws) ∙ sym w.ok.shows in
+    ap (λ n. reading_after (take n ws)) w.ok.count ∙ ap reading_after (take_all _ ws (omega arith)) ∙ sym w.ok.shows in
     record {
       notes = [];
       trace = t;

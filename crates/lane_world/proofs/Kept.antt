@@ -5,7 +5,8 @@ use Rattle.std.specs.List.Sorted.{IsPermutation}
 use Rattle.std.proofs.Common.{ℕ, ◌≡◌, ◌≤◌, ◌<◌, ◌+◌, nat_eq, Some, List, [], ◌∷◌, length, map, take, arith, refl, sym, ap, ◌∙◌, subst, ◌++◌, filter}
 use Rattle.clock_cell.specs.Views.{reading_after, writes}
 use Rattle.clock_model.specs.Clocks.{last_stamp}
-use Rattle.lane_notes.specs.Notes.{NotesOf, both_noted}
+use Rattle.lane_notes.specs.Notes.{NotesOf, both_noted, no_notes}
+use Rattle.record_text.proofs.Lists.{All-append}
 use Rattle.lane_notes.specs.declared.notes.BaseNote.{BaseNote}
 use Rattle.lane_notes.specs.declared.notes.EntryNote.{EntryNote}
 use Rattle.lane_notes.specs.declared.notes.LookNote.{LookNote}
@@ -111,6 +112,20 @@ list_of ObjectNotes notes = notes.objects
 list_of SkipNotes notes = notes.skips
 list_of BaseNotes notes = notes.bases
 list_of WriteNotes notes = notes.writes
+
+-- law: nothing holds of each of none, and what holds of each of both holds of each of both together
+pub each_none : (k : NoteKind) (P : NoteOf k → Type 0) → AllByRecursion P (list_of k no_notes)
+each_none EntryNotes P = tt
+each_none k P = tt
+
+pub each_both : (k : NoteKind) (P : NoteOf k → Type 0) (a b : NotesOf) → AllByRecursion P (list_of k a) → AllByRecursion P (list_of k b)
+    → AllByRecursion P (list_of k (both_noted a b))
+each_both EntryNotes P a b = All-append P a.entries b.entries
+each_both LookNotes P a b = All-append P a.looks b.looks
+each_both ObjectNotes P a b = All-append P a.objects b.objects
+each_both SkipNotes P a b = All-append P a.skips b.skips
+each_both BaseNotes P a b = All-append P a.bases b.bases
+each_both WriteNotes P a b = All-append P a.writes b.writes
 
 abbrev pub label_of : (k : NoteKind) → NoteOf k → Label
 label_of EntryNotes n = n.label

@@ -74,27 +74,10 @@ are_later {notes = notes} more are = record {
 pub none_noted : {p : WorldPass} {Of : Label → CallLog → Type 0} → ((c : Label) (g : CallLog) → Of c g → ⊥) → AreOf p no_notes Of
 none_noted {p} {Of} never = record {
   tell = λ c g of. absurd (never c g of);
-  seen = λ k. elim k as (λ j. AllByRecursion (λ n. (g : CallLog) × Of (label_of j n) g × IsNoteSeen j p g n) (list_of j no_notes)) [
-    | EntryNotes ↦ tt
-    | LookNotes ↦ tt
-    | ObjectNotes ↦ tt
-    | SkipNotes ↦ tt
-    | BaseNotes ↦ tt
-    | WriteNotes ↦ tt
-  ];
+  seen = λ k. each_none k _;
 }
 
 -- ---- some notes and others
-
--- what holds of each of both holds of each of both together
-each_both : (k : NoteKind) (P : NoteOf k → Type 0) (a b : NotesOf) → AllByRecursion P (list_of k a) → AllByRecursion P (list_of k b)
-    → AllByRecursion P (list_of k (both_noted a b))
-each_both EntryNotes P a b = All-append P a.entries b.entries
-each_both LookNotes P a b = All-append P a.looks b.looks
-each_both ObjectNotes P a b = All-append P a.objects b.objects
-each_both SkipNotes P a b = All-append P a.skips b.skips
-each_both BaseNotes P a b = All-append P a.bases b.bases
-each_both WriteNotes P a b = All-append P a.writes b.writes
 
 module _ {p : WorldPass} {a b : NotesOf} {Of Also Both : Label → CallLog → Type 0} (one : AreOf p a Of) (two : AreOf p b Also)
     (apart : (c : Label) (g h : CallLog) → Of c g → Also c h → ⊥)
