@@ -197,8 +197,7 @@ module _ {s : Script} {x : WorldOf} {l : LaneOf} {call : Call} (next : IsNextCal
               let same = own_timer next e joined moves.at on t there in
               (subst (λ z. KeepsExpiries base z y) (sym same) (record { armed = moves.armed; soft = refl; slack = refl }), tt);
           turns = λ e joined goes.
-              let on = goes_before moves.made.seen goes in
-              (
+              let on = goes_before moves.made.seen goes in (
                 record {
                   at = length moves.at;
                   from = begins_length moves.made.from;

@@ -8,7 +8,6 @@ use Rattle.seq_timer.specs.Histories as seq
 use Rattle.base_row.specs.Logs.{receipts_of}
 use Rattle.base_row.specs.declared.log.Receipt.{Receipt}
 use Rattle.timer_objects.specs.declared.log.ObjectReceipt.{ObjectReceipt}
-use Rattle.record_text.specs.declared.record.Entry.{Entry}
 use Rattle.record_text.specs.declared.record.Label.{Label}
 use Rattle.run_history.specs.Actions.{Action, Entered, Looked, Made, Shifted, Skipped, Wrote, also, looked, made, numbers_of_object, skipped}
 use Rattle.run_history.specs.Traces.{all_entered}

@@ -4,7 +4,7 @@ use Rattle.call_laws.proofs.Noted.{with_done-joins}
 use Rattle.call_laws.proofs.Parts.{part_seen}
 use Rattle.timer_objects.specs.Known.{seen_of}
 use Rattle.run_history.specs.Told.{object_called, object_stamp_in}
-use Rattle.std.proofs.Common.{◌≡◌, ℕ, List, [], ◌∷◌, length, refl, sym, ap, ◌∙◌, subst}
+use Rattle.std.proofs.Common.{◌≡◌, ℕ, List, [], length, refl, sym, ap, ◌∙◌, subst}
 use Rattle.clock_cell.specs.Views.{writes}
 use Rattle.counted_row.specs.Views.{StateAfter}
 use Rattle.posix_timer.specs.States.{PosixTimer, setting_of}

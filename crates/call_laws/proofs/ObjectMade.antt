@@ -5,7 +5,7 @@ use Rattle.call_laws.proofs.Noted.{notes_of, notes_of-append, with_done-joins}
 use Rattle.call_laws.proofs.Parts.{part_made, part_none, part_then}
 use Rattle.call_laws.proofs.Stays.{timer_stays}
 use Rattle.lane_notes.specs.Notes.{both_noted}
-use Rattle.std.proofs.Common.{◌≤◌, ◌≡◌, ℕ, ◌+◌, Option, Some, List, [], ◌++◌, length, arith, refl, sym, ap, ◌∙◌, subst, Bool, ◌∷◌}
+use Rattle.std.proofs.Common.{◌≤◌, ◌≡◌, ℕ, ◌+◌, Option, Some, List, [], length, arith, refl, sym, ap, ◌∙◌, subst, Bool, ◌∷◌}
 use Rattle.ktime.specs.Readings.{ClockReading}
 use Rattle.seq_timer.specs.Steps.{Timer}
 use Rattle.base_row.specs.declared.log.Receipt.{Receipt}
@@ -165,8 +165,8 @@ module _ {s : Script} {x : WorldOf} {l : LaneOf} (m : LaneOf) {call : Call} (nex
         let this = receipt_of step.reply ∷ [] in
         let log_is : object_log ≡ this = enters.object_log ∙ ap (λ r. receipt_of r ∷ []) enters.reply in
         let as_told = subst (λ r. IsNotedAs (HasRead reading) made.call r entry) enters.reply noted in
-        let entered = part_made {s = s} {label = l.label} {v = w} {step = step} enters.commits.adds enters.commits.opening as_told in
-        let whole = rw (append-nil k.part.0) at (part_then (part_none {p = p.objects} k.seen k.mine) (part_then k.part.1 entered)) in
+        let entered = part_made {s = s} {label = l.label} {v = w} {q = q.objects} {step = step} enters.commits.adds enters.commits.opening as_told in
+        let whole = rw (append-nil k.part.0) at (part_then (part_none {v = p.timers.known} {p = p.objects} {w = begin} k.seen k.mine) (part_then k.part.1 entered)) in
         keeps_part next m a trace whole (reading_goes_on p q reading reads) (clock_read reads.looks)
         (notes ∙ with_done-joins l.notes l.label log object_log ∙ ap (both_noted l.notes) (ap (notes_of l.label log) log_is
         ∙ ap (λ rs. notes_of l.label rs this) (sym (append-nil log)) ∙ notes_of-append l.label log [] [] this)) refl reads.count stamp

@@ -1,6 +1,6 @@
 -- What a lane keeps of a call that is a part: of any call but a write of the clock.
 use Rattle.lane_world.proofs.Kept.{WriteNotes}
-use Rattle.std.proofs.Common.{◌≡◌, ◌+◌, List, length, map, arith, refl, sym, ap, ◌∙◌, subst}
+use Rattle.std.proofs.Common.{◌≡◌, List, length, map, arith, refl, sym, ap, ◌∙◌, subst}
 use Rattle.clock_cell.specs.Views.{writes}
 use Rattle.pass_names.specs.Counts.{count, one_if}
 use Rattle.pass_names.specs.Passes.{is_place}
@@ -8,7 +8,6 @@ use Rattle.pass_names.proofs.Counts.{total-append}
 use Rattle.timer_objects.specs.Known.{seen_of}
 use Rattle.record_text.specs.declared.record.Answer.{Answer}
 use Rattle.record_text.specs.declared.record.ClockLine.{ClockLine}
-use Rattle.run_history.specs.Actions.{made}
 use Rattle.script_text.specs.declared.script.Call.{Call}
 use Rattle.script_text.specs.declared.script.Script.{Script}
 use Rattle.run_history.specs.Witnesses.{Trace}
@@ -34,7 +33,7 @@ use Rattle.record_text.specs.declared.record.Label.{Label}
 use Rattle.lane_world.specs.declared.WorldPass.{WorldPass}
 use Rattle.run_history.specs.Receipts.{receipt}
 use Rattle.lane_world.proofs.Kept.{each_both, each_none, entries_told, looks_on, made_on, NoteKind, skips_on}
-use Rattle.std.proofs.Common.{[], ◌∷◌, ◌++◌, ◌<◌, ◌≤◌}
+use Rattle.std.proofs.Common.{[], ◌∷◌, ◌++◌}
 use Rattle.call_laws.proofs.Parts.{IsDone, IsPart, object_place}
 use Rattle.run_history.proofs.Known.{rises_lower}
 

@@ -1,6 +1,6 @@
 -- Calls on objects that make no entry: a lane keeps a call that looked at timers and objects only, and one that found its object's history full.
 use Rattle.call_laws.proofs.Parts.{part_alone, part_as}
-use Rattle.std.proofs.Common.{◌≡◌, ◌≤◌, ℕ, if◌then◌else◌, List, [], ◌∷◌, ◌++◌, length, arith, refl, sym, ap, ◌∙◌, subst}
+use Rattle.std.proofs.Common.{◌≡◌, ◌≤◌, ℕ, List, [], length, arith, refl, sym, ap, ◌∙◌, subst}
 use Rattle.std.proofs.lemmas.Option.{slice_get_within}
 use Rattle.clock_cell.specs.Views.{writes}
 use Rattle.pass_names.specs.Passes.{Begins}
@@ -153,10 +153,10 @@ pub keeps_entered : {s : Script} {x : WorldOf} {l : LaneOf} {call : Call} (IsSo 
     → t.actions ≡ entered_on timer (timer_then x.timers.about at timer).stamp es → t.last ≡ length m.pass.timers.known.seen
     → t.at ≡ length (writes m.pass.clock.knows) → IsStamp m.pass.objects (object_called call) (object_stamp_in a)
     → ((notes : List PlacedEntry) → FitsOn s l m call a notes t) → KeepsCall s l call a m
-keeps_entered {s = s} {x = x} {l = l} IsSo {timer} {at} {es} next m a t made reads so clock objects joins are last at stamp fits =
+keeps_entered {s = s} {x = x} {l = l} IsSo {timer = timer} {at = moment} {es = es} next m a t made reads so clock objects joins are last at stamp fits =
     let part = part_at {s = s} {IsSo = IsSo} {label = l.label} x.timers.about {p = l.pass.objects} (opened_timers next) made reads in
     keeps_part next m a t (part_as (sym are) (part_alone objects part.1)) so clock
-    (joins ∙ with_done-joins l.notes l.label (receipts_of timer (timer_then x.timers.about at timer).stamp es) []) last at stamp (fits part.0)
+    (joins ∙ with_done-joins l.notes l.label (receipts_of timer (timer_then x.timers.about moment timer).stamp es) []) last at stamp (fits part.0)
 
 -- ---- peek
 

@@ -1,4 +1,5 @@
 -- Notes of some calls and of others, joined: each call's own notes are among its own, and each note is still of something that passes have seen.
+use Rattle.lane_world.proofs.Kept.{each_both, each_none}
 use Rattle.std.proofs.Common.{◌≡◌, ◌⊎◌, filter, List, [], ◌∷◌, refl, sym, ap, ◌∙◌, subst, ⊎_elim}
 use Rattle.std.specs.List.{AllByRecursion}
 use Rattle.std.proofs.lemmas.Bool.{cond-false, cond-true}
@@ -12,10 +13,9 @@ use Rattle.run_history.specs.Order.{is_label}
 use Rattle.script_text.specs.declared.script.Call.{Call}
 use Rattle.script_text.specs.declared.script.Script.{Script}
 use Rattle.lane_world.specs.Called.{LaneOf}
-use Rattle.lane_world.proofs.Kept.{KeepsCall, log_of, label_of, list_of, IsNoteSeen, TellLog, BaseNotes, SkipNotes, ObjectNotes, LookNotes, EntryNotes, NoteOf, NoteKind, WriteNotes, SeesMore, seen_later, own_notes}
+use Rattle.lane_world.proofs.Kept.{KeepsCall, log_of, label_of, list_of, IsNoteSeen, TellLog, BaseNotes, SkipNotes, ObjectNotes, LookNotes, EntryNotes, NoteKind, WriteNotes, SeesMore, seen_later, own_notes}
 use Rattle.lane_world.specs.declared.WorldPass.{WorldPass}
 use Rattle.lane_world.proofs.PartLists.{no_notes-joins, notes_same, each_weaker}
-use Rattle.record_text.proofs.Lists.{All-append}
 use Rattle.run_history.specs.Actions.{also}
 
 -- notes of calls, with what was kept of each, and of something that the passes have seen; which calls, and what was kept of them, is `Of`
@@ -74,7 +74,7 @@ are_later {notes = notes} more are = record {
 pub none_noted : {p : WorldPass} {Of : Label → CallLog → Type 0} → ((c : Label) (g : CallLog) → Of c g → ⊥) → AreOf p no_notes Of
 none_noted {p} {Of} never = record {
   tell = λ c g of. absurd (never c g of);
-  seen = λ k. each_none k _;
+  seen = λ k. each_none k (λ n. (g : CallLog) × Of (label_of k n) g × IsNoteSeen k p g n);
 }
 
 -- ---- some notes and others
