@@ -1,8 +1,8 @@
 -- What a call on an object does to the object's timer, as parts of the call: its disarming, a start, the receipts of both, and the timer after them.
+use Rattle.call_laws.proofs.Starts.{entries_so, told_so}
 use Rattle.call_laws.proofs.Noted.{entered_on, notes_of}
 use Rattle.call_laws.proofs.Parts.{HasRead, part_logged}
 use Rattle.std.proofs.Common.{Bool, false, ◌≡◌, ◌≤◌, ◌<◌, ℕ, ◌+◌, Some, List, [], ◌++◌, length, arith, refl, sym, ap, ◌∙◌, subst}
-use Rattle.std.specs.List.{AllByRecursion}
 use Rattle.std.proofs.lemmas.List.{append-nil}
 use Rattle.ktime.specs.Readings.{ClockReading}
 use Rattle.ktime.specs.declared.mode.Mode.{Mode}
@@ -39,14 +39,13 @@ use Rattle.run_history.specs.Promises.{GoesOn}
 use Rattle.run_history.specs.Runs.{witness_of, Ending, IsJoined}
 use Rattle.run_history.specs.Truths.{IsTrueStart, WasOffLine}
 use Rattle.run_history.proofs.Reached.{was_wider}
-use Rattle.lane_world.proofs.Kept.{begins_same, IsNextCall}
-use Rattle.call_laws.proofs.CallKept.{inside_of}
-use Rattle.call_laws.proofs.Entering.{EntersNotes}
+use Rattle.lane_world.proofs.Kept.{IsNextCall}
+use Rattle.lane_world.proofs.SeenMore.{begins_same}
 use Rattle.run_history.proofs.Stamped.{HaveReadings}
 use Rattle.call_laws.proofs.Parts.{IsPart, part_at, part_none}
 use Rattle.call_laws.proofs.Entering.{looks_made}
 use Rattle.call_laws.proofs.SeenOff.{sent_seen, was_seen}
-use Rattle.call_laws.proofs.Starts.{arming_of, is_arming, limit_within, start_reads, started_so}
+use Rattle.call_laws.proofs.Starts.{arming_of, is_arming, limit_within, start_reads}
 use Rattle.pass_names.proofs.Passes.{begins_length}
 use Rattle.std.proofs.Common.{Option, None}
 use Rattle.seq_timer.specs.Histories.{IsIdle}
@@ -68,12 +67,6 @@ use Rattle.timer_setting.specs.Arguments.{mode_by}
 use Rattle.timer_objects.specs.Arming.{ArmsFor}
 
 -- ---- entries of a timer
-
--- law: the receipts of a part stand between what was seen before and behind it
-pub places_inside : {s : Script} {IsSo : List ClockLine → Type 0} {v w : KnownOfTimers} {notes : List PlacedEntry} → EntersNotes s IsSo v w notes
-    → AllByRecursion (λ x. (length v.seen ≤ x.place) × (x.place < length w.seen)) notes
-places_inside {v = v} {w = w} {notes = notes} enters =
-    inside_of (length v.seen) (length v.seen) (length w.seen) notes (omega arith) enters.made.rise enters.made.below
 
 -- what a part of a call did to timers alone: its notes, and that they are a part
 abbrev pub TimersPart : Script → LaneOf → ClockReading → KnownOfTimers → KnownOfTimers → List Action → List Receipt → Type 0
@@ -161,14 +154,12 @@ module _ {s : Script} {x : WorldOf} {l : LaneOf} {call : Call} (next : IsNextCal
       let request = without_slack mode ns base in
       let asked = asked_for mode ns 0 base reading in
       let events = start_on asked c.sent c.last in
-      let as_told = started_so t request reading u c.sent c.last (starts.Started was generation last outs placed) c.fits.2 in
       let arming = arming_of u asked c.sent c.last in
-      let told = as_told.told in
+      let told = told_so t request reading u c.sent c.last (starts.Started was generation last outs placed) c.fits.2 in
       let number : generation ≡ arming.number = cc in
       let fits = c.fits.2 in
       let stamp : (step_all u events).stamp ≡ generation = cc in
-      let most = limit_within s o next.world.timers next.range.limit.0 c.at t in
-      let few : u.stamp < s.limit = omega (arith, c.fits.1, most) in
+      let few : u.stamp < s.limit = omega (arith, c.fits.1, (limit_within s o next.world.timers next.range.limit.0 c.at t)) in
       started (arming_actions t request reading.stamp arming) _ adds (λ e joined goes.
       let Reached = WasOffLine (witness_of s e) (length begin.seen) (length w.seen) in
       let off : (b heir : ℕ) → WasOff o v.seen w.seen b heir → Reached b heir =
@@ -179,7 +170,7 @@ module _ {s : Script} {x : WorldOf} {l : LaneOf} {call : Call} (next : IsNextCal
         number,
         is_arming Reached s.limit base u asked c.sent c.last few (sent_seen o v.seen w.seen Reached off base c.sent c.last c.on_way),
       ))
-      (part_of next t reading c.made (λ clock has. start_reads t request reading u c.sent c.last clock has) as_told.entries)
+      (part_of next t reading c.made (λ clock has. start_reads t request reading u c.sent c.last clock has) (entries_so t request reading u c.sent c.last))
       (ap (λ (y : Timer). y.stamp) (timer_after o v w t c.at (entries_along u events) c.made ∙ along u events) ∙ stamp)
 
   -- law: a start that was wanted

@@ -1,4 +1,5 @@
 -- What a lane keeps of a call, by its passes before and after it: the parts that are the same for each kind of call.
+use Rattle.call_laws.proofs.Entering.{made_inside}
 use Rattle.script_text.specs.Declarations.{declared_as, declareds_of, terms_of}
 use Rattle.std.proofs.lemmas.List.{length-map}
 use Rattle.std.proofs.Common.{◌≡◌, ◌≤◌, ◌<◌, ℕ, ◌+◌, Bool, Option, Some, None, List, [], ◌∷◌, ◌++◌, length, map, arith, refl, sym, ap, ◌∙◌, subst}
@@ -24,14 +25,15 @@ use Rattle.lane_notes.specs.Notes.{NotesOf}
 use Rattle.run_history.specs.Witnesses.{Trace}
 use Rattle.run_history.specs.Fits.{FitsCall}
 use Rattle.run_history.specs.Promises.{GoesOnClock, HasLog, IsRightLog, IsPromised}
-use Rattle.run_history.specs.Receipts.{PlacedEntry, receipt, Rises}
+use Rattle.run_history.specs.Receipts.{PlacedEntry, receipt}
 use Rattle.run_history.specs.Runs.{CallLog, witness_of, Ending, IsJoined, moves_spans}
 use Rattle.run_history.specs.Traces.{all_entered}
 use Rattle.run_history.proofs.Kept.{IsKept}
 use Rattle.run_history.proofs.Known.{AreMade}
 use Rattle.run_history.proofs.Promise.{kept_from, reading_seen}
 use Rattle.lane_world.specs.Called.{LaneOf, LeavesClock, ReadsClock}
-use Rattle.lane_world.proofs.Kept.{base_note_place, entries_told, note_place, places_noted, told_in, of_base, of_entry, Follows, IsNextCall, log_of, seen_by, SeesOn, StandAt, begins_same}
+use Rattle.lane_world.proofs.Kept.{base_note_place, entries_told, note_place, places_noted, told_in, of_base, of_entry, Follows, IsNextCall, log_of, seen_by, SeesOn, StandAt}
+use Rattle.lane_world.proofs.SeenMore.{begins_same}
 use Rattle.lane_world.specs.Worlds.{WorldOf}
 use Rattle.lane_world.specs.declared.WorldPass.{WorldPass}
 use Rattle.lane_world.proofs.Kept.{told_notes}
@@ -108,8 +110,7 @@ same_objects p q is = record { each = λ i. begins_same (ap (λ o. seen_of o i) 
 pub reading_goes_on : (p q : WorldPass) (r : ClockReading) → ReadsClock p q r → (e : Ending) → GoesOnClock (writes q.clock.knows) e
     → reading_at e.run.clock r.stamp ≡ r
 reading_goes_on p q r reads e goes =
-    let many = length (writes q.clock.knows) in
-    ap (reading_at e.run.clock) reads.count ∙ reading_seen e (writes q.clock.knows) many goes (omega arith)
+    ap (reading_at e.run.clock) reads.count ∙ reading_seen e (writes q.clock.knows) (length (writes q.clock.knows)) goes (omega arith)
     ∙ ap (clock_after (at_stamp 0)) (take_all _ (writes q.clock.knows) (omega arith)) ∙ sym reads.shows
 
 -- law: the receipts stand in what was seen
@@ -140,19 +141,13 @@ stamp_falls q low i ns on stamps fall is = falls_on low ns _ _ _ fall (by_object
 
     by_object : (on : Option ℕ) (stamps : List ℕ) → IsStamp q on stamps → NeverFall (length (seen_of q i)) (stamps_on i on stamps) (length (seen_of q i))
     by_object None stamps is = omega arith
-    by_object (Some j) stamps is = elim (nat_eq j i) as (λ b. nat_eq j i ≡ b → NeverFall (length (seen_of q i)) (if b then stamps else []) (length (seen_of q i))) [
-      | true ↦ λ same. stands _ stamps (subst (λ k. IsStamp q (Some k) stamps) (eqb-true j i same) is) refl
-      | false ↦ λ other. omega arith
-    ] refl
+    by_object (Some j) stamps is = elim (nat_eq j i) as (λ b. nat_eq j i ≡ b → NeverFall (length (seen_of q i)) (if b then stamps else [])
+        (length (seen_of q i))) [
+          | true ↦ λ same. stands _ stamps (subst (λ k. IsStamp q (Some k) stamps) (eqb-true j i same) is) refl
+          | false ↦ λ other. omega arith
+        ] refl
 
 -- ---- the log
-
--- rising places below a number stand between it and where they rise from
-pub inside_of : (low k high : ℕ) (notes : List PlacedEntry) → low ≤ k → Rises k (map (λ x. x.place) notes) → AllByRecursion (λ x. x.place < high) notes
-    → AllByRecursion (λ x. (low ≤ x.place) × (x.place < high)) notes
-inside_of low k high [] le rise below = tt
-inside_of low k high (x ∷ notes) le rise below =
-    ((omega (arith, le, rise.0), below.0), inside_of low (x.place + 1) high notes (omega (arith, le, rise.0)) rise.1 below.1)
 
 -- law: what a lane keeps of a call that wrote nothing is right in itself
 pub logged_from : (p q : WorldPass) (notes : List PlacedEntry) (t : Trace) (call : Call) (a : Answer) → SeesOn p q → t.last ≡ length q.timers.known.seen
@@ -167,7 +162,7 @@ logged_from p q notes t call a sees last made are at none objects stamp =
       forward = omega (arith, forward, last);
       last = omega (arith, last);
       inside = subst (λ n. AllByRecursion (λ x. (length p.timers.known.seen ≤ x.place) × (x.place < n)) notes) (sym last)
-          (inside_of (length p.timers.known.seen) (length p.timers.known.seen) (length q.timers.known.seen) notes (omega arith) made.rise made.below);
+          (made_inside made);
       entered = are;
       reading = (omega (arith, at, clock), omega (arith, at));
       writes = subst (λ ws. AllByRecursion (λ x. t.at < x.0) ws) (sym none) tt;

@@ -1,4 +1,8 @@
 -- Entries that a call makes of a timer, as receipts: where they stand in what its pass has seen, and the record's entries that show them.
+use Rattle.hr_timers.proofs.Moments.{stamp_then}
+use Rattle.run_history.proofs.Lists.{all_at, each}
+use Rattle.run_history.proofs.Known.{behind_all}
+use Rattle.std.proofs.Common.{◌<◌, ◌≤◌}
 use Rattle.std.proofs.Common.{◌≡◌, ℕ, ◌+◌, List, [], ◌∷◌, ◌++◌, length, map, arith, refl, sym, ap, ◌∙◌, subst}
 use Rattle.std.specs.List.{AllByRecursion}
 use Rattle.std.proofs.lemmas.List.{append_assoc, append-nil, length-map, map-append}
@@ -14,14 +18,11 @@ use Rattle.seq_timer.specs.declared.context.Declared.{Declared}
 use Rattle.pass_names.specs.Passes.{Begins, places}
 use Rattle.seq_timer.specs.Histories as seq
 use Rattle.seq_timer.specs.declared.system.SystemEntry.{SystemEntry}
-use Rattle.seq_timer.specs.Steps.{Timer}
 use Rattle.seq_timer.specs.Systems.{entries_of, openings}
 use Rattle.seq_timer.specs.Tables.{timer_at}
 use Rattle.seq_timer.proofs.Agreement.{first_stamp}
 use Rattle.base_row.specs.declared.view.Opening.{Opening}
 use Rattle.hr_timers.specs.Known.{KnownOfTimers, MadeAt, timer_then}
-use Rattle.hr_timers.proofs.Moments.{timer_own}
-use Rattle.seq_timer.proofs.Limits.{stamp-after_all}
 use Rattle.record_text.specs.declared.record.ClockLine.{ClockLine}
 use Rattle.record_text.specs.declared.record.RunRecord.{RunRecord}
 use Rattle.run_history.proofs.Stamped.{all_stamped_shown, entry_stamped, HasReading, HaveReadings}
@@ -75,44 +76,39 @@ made_places : (s : Script) (t k : ℕ) (es : List seq.Entry) → places t k es �
 made_places s t k [] = refl
 made_places s t k (e ∷ es) = ap (λ ps. (t, k + 1) ∷ ps) (made_places s t (k + 1) es)
 
--- what a call made of a timer at a moment, behind so many entries, as receipts
-pub record EntersAt (s : Script) (IsSo : List ClockLine → Type 0) (v w : KnownOfTimers) (t n : ℕ) (es : List seq.Entry) : Type 0 where
-  pub notes : List PlacedEntry
-  pub enters : EntersNotes s IsSo v w notes
-  pub are : map receipt notes ≡ numbered t n (map entry_stamped es)
-
 -- a timer's stamp is the number of its entries
 pub stamp_counts : (o : Opening) (clocks : List Declared) (terms : Terms) (x : List SystemEntry) (t : ℕ) → o.timers ≡ openings clocks terms
     → (timer_then o x t).stamp ≡ count (TimersList t) x
-stamp_counts o clocks terms x t is =
-    let first : (timer_at o.timers t).stamp ≡ 0 = ap (λ ts. (timer_at ts t).stamp) is ∙ first_stamp clocks terms t in
-    let its : (timer_then o x t).stamp ≡ (timer_at o.timers t).stamp + length (entries_of t x) =
-    ap (λ (s : Timer). s.stamp) (timer_own o x t) ∙ stamp-after_all (timer_at o.timers t) (entries_of t x) in omega (arith, its, first)
+stamp_counts o clocks terms x t is = omega (arith, stamp_then o x t, ap (λ ts. (timer_at ts t).stamp) is ∙ first_stamp clocks terms t)
 
 -- law: the entries that a call made of a timer at a moment are receipts that stand in what its pass has seen, behind what it had seen before
 pub enters_at : (s : Script) (IsSo : List ClockLine → Type 0) (o : Opening) {v w : KnownOfTimers} {t : ℕ} {x : List SystemEntry} {es : List seq.Entry}
     → o.timers ≡ openings (declareds_of s) (terms_of s) → MadeAt v w t x es → ((clock : List ClockLine) → IsSo clock → HaveReadings clock es)
-    → EntersAt s IsSo v w t (timer_then o x t).stamp es
+    → (notes : List PlacedEntry) × EntersNotes s IsSo v w notes × (map receipt notes ≡ numbered t (timer_then o x t).stamp (map entry_stamped es))
 enters_at s IsSo o {v = v} {w = w} {t = t} {x = x} {es = es} is made reads =
-    let more = made.seen.rest in
     let stamp : count (TimersList t) x ≡ (timer_then o x t).stamp = sym (stamp_counts o (declareds_of s) (terms_of s) x t is) in
     let shown = map entry_stamped es in
-    let adds = adds_made x more t es shown (ap (entries_of t) (sym made.seen.whole) ∙ made.own) (length-map es entry_stamped) in
+    let adds = adds_made x made.seen.rest t es shown (ap (entries_of t) (sym made.seen.whole) ∙ made.own) (length-map es entry_stamped) in
     let there : AreMade w.seen (length x) (length w.seen) adds.0 =
     subst (λ xs. AreMade xs (length x) (length xs) adds.0) (sym made.seen.whole) adds.1 in
-    let are : map receipt adds.0 ≡ numbered t (timer_then o x t).stamp shown = adds.2 ∙ ap (λ n. numbered t n shown) stamp in
-    record {
-      notes = adds.0;
-      enters = record {
+    let are : map receipt adds.0 ≡ numbered t (timer_then o x t).stamp shown = adds.2 ∙ ap (λ n. numbered t n shown) stamp in (
+      adds.0,
+      record {
         seen = begins_trans made.from made.seen;
         made = made_wider w.seen (length v.seen) (length x) (length w.seen) (length w.seen) adds.0 (begins_length made.from) (omega arith) there;
         mine = made.mine ∙ ap (λ ps. v.mine ++ ps) (made_places s t (count (TimersList t) x) es ∙ ap (map (place_told s)) (sym adds.2)
             ∙ map-map (place_told s) receipt adds.0);
         shows = λ r order later whole so. shows_made r order w.seen later t (timer_then o x t).stamp adds.0 es shown whole
             (subst (λ xs. AreEntries xs adds.0 (map (timers_entry t) es)) (sym made.seen.whole) adds.3) are (all_stamped_shown r.clock es (reads r.clock so));
-      };
-      are = are;
-    }
+      },
+      are,
+    )
+
+-- law: receipts between two lengths of what was seen stand between them
+pub made_inside : {order : List SystemEntry} {low high : ℕ} {notes : List PlacedEntry} → AreMade order low high notes
+    → AllByRecursion (λ x. (low ≤ x.place) × (x.place < high)) notes
+made_inside {low = low} {notes = notes} made =
+    each _ notes (λ j x at. (all_at _ notes j x (behind_all low low notes (omega arith) made.rise) at, all_at _ notes j x made.below at))
 
 -- a receipt by itself
 single : (notes : List PlacedEntry) (y : ℕ × Shown) → map receipt notes ≡ y ∷ [] → (n : PlacedEntry) × (notes ≡ n ∷ []) × (receipt n ≡ y)
@@ -130,7 +126,7 @@ pub enters_once : (s : Script) (IsSo : List ClockLine → Type 0) (o : Opening) 
     → number ≡ (timer_then o x t).stamp + 1 → EntersOne s IsSo v w (number, OfTimer t (entry_stamped e))
 enters_once s IsSo o {t = t} {e = e} {number = number} is made reads counted =
     let at = enters_at s IsSo o is made (λ clock so. (reads clock so, tt)) in
-    let one = single at.notes (number, OfTimer t (entry_stamped e)) (rw counted at.are) in (one.0, rw one.1 at at.enters, one.2)
+    let one = single at.0 (number, OfTimer t (entry_stamped e)) (rw counted at.2) in (one.0, rw one.1 at at.1, one.2)
 
 -- law: so is an entry of a base
 pub enters_shift : {s : Script} {IsSo : List ClockLine → Type 0} {o : Opening} {v w : KnownOfTimers} {base number : ℕ} {event : BaseEvent}

@@ -1,20 +1,20 @@
 -- Expiry runs, as their lanes keep them.
+use Rattle.call_laws.proofs.Stays.{stays}
+use Rattle.std.proofs.Common.{None, Some, false}
+use Rattle.ktime.specs.Readings.{ClockReading}
 use Rattle.call_laws.proofs.Noted.{with_done-joins}
 use Rattle.call_laws.proofs.Parts.{part_looks}
-use Rattle.call_laws.proofs.Stays.{system_stays, timer_stays}
-use Rattle.std.proofs.Common.{◌≡◌, ◌≤◌, ℕ, List, [], ◌∷◌, ◌++◌, length, map, arith, refl, sym, ap, ◌∙◌, subst}
+use Rattle.std.proofs.Common.{◌≡◌, ◌≤◌, ℕ, List, [], ◌∷◌, ◌++◌, length, map, arith, refl, sym, ◌∙◌, subst}
 use Rattle.std.specs.Prelude.{flat_map}
 use Rattle.std.proofs.lemmas.List.{append-nil}
 use Rattle.std.proofs.lemmas.Option.{slice_get_within}
-use Rattle.ktime.specs.Readings.{ClockReading}
 use Rattle.pass_names.specs.SharedHistory.{LooksOn}
 use Rattle.seq_timer.specs.Halves.{running_on}
 use Rattle.seq_timer.specs.Systems.{System, next_on, system_after}
 use Rattle.seq_timer.specs.declared.context.Context.{Context}
-use Rattle.seq_timer.specs.Steps.{Timer}
 use Rattle.seq_timer.specs.Tables.{IsStopped, in_context, runs_on, seen_in}
 use Rattle.seq_timer.specs.declared.system.SystemEntry.{SystemEntry}
-use Rattle.hr_timers.specs.Known.{KnownOfTimers, timer_then}
+use Rattle.hr_timers.specs.Known.{KnownOfTimers}
 use Rattle.expire_pass.specs.declared.expiry.ExpireAnswer.{ExpireAnswer}
 use Rattle.expire_pass.specs.declared.expiry.ExpireAnswer.TheVariants as expiries
 use Rattle.expire_pass.specs.Expiring.{Expires, Turns}
@@ -40,7 +40,8 @@ use Rattle.run_history.proofs.Expires.{expire_busy, expire_done, expire_more, ex
 use Rattle.run_history.proofs.Kept.{IsKept}
 use Rattle.run_history.proofs.Promise.{object_point_from}
 use Rattle.lane_world.specs.Called.{CallsExpire, claimed_in, expire_told, LaneOf}
-use Rattle.lane_world.proofs.Kept.{Follows, IsNextCall, KeepsCall, seen_by, goes_before}
+use Rattle.lane_world.proofs.Kept.{Follows, IsNextCall, KeepsCall, seen_by}
+use Rattle.lane_world.proofs.SeenMore.{goes_before}
 use Rattle.lane_world.specs.Worlds.{WorldOf}
 use Rattle.pass_names.proofs.Passes.{begins_length}
 use Rattle.call_laws.proofs.CallKept.{clock_read, reading_goes_on}
@@ -100,17 +101,14 @@ module _ {s : Script} {x : WorldOf} {l m : LaneOf} {a : Answer} {context : Conte
       → FitsCall (witness_of s e) l.label (calls.Expire context base budget) (told (map (λ f. f.timer) run.fired)) (seen_by l.pass) (seen_by m.pass))
       → KeepsCall s l (calls.Expire context base budget) (told (claimed_in c.log)) m
   keeps_run told run fits =
-      let p = l.pass in
-      let q = m.pass in
-      let answer = told (map (λ f. f.timer) run.fired) in
-      let actions = flat_map (fires base c.reading.stamp) run.fired in
-      let t = expiring base c.reading.stamp (length p.timers.known.seen) (length q.timers.known.seen) run.fired in
       let is : IsLabel s l.label = slice_get_within (calls_of s l.label.lane) l.label.call next.at next.there in
-      rw run.claimed (keeps_part next m answer t run.part (reading_goes_on p q c.reading c.reads) (clock_read c.reads.looks)
-      (c.notes ∙ with_done-joins l.notes l.label (c.log ++ c.callback_log) c.object_log) refl c.reads.count tt
+      rw run.claimed (keeps_part next m (told (map (λ f. f.timer) run.fired))
+      (expiring base c.reading.stamp (length l.pass.timers.known.seen) (length m.pass.timers.known.seen) run.fired) run.part (reading_goes_on l.pass m.pass c.reading c.reads)
+      (clock_read c.reads.looks) (c.notes ∙ with_done-joins l.notes l.label (c.log ++ c.callback_log) c.object_log) refl c.reads.count tt
       (λ e follows joined has kept low. fits e follows joined kept low
       (run.have e joined follows.timers follows.objects [] (λ i. tt)
-      (λ i k before rest parts low high below behind. object_point_from joined is has i k before rest (sym (append-nil actions) ∙ parts) low high below
+      (λ i k before rest parts low high below behind. object_point_from joined is has i k before rest
+      (sym (append-nil (flat_map (fires base c.reading.stamp) run.fired)) ∙ parts) low high below
       behind))))
 
   -- the callbacks
@@ -122,20 +120,12 @@ module _ {s : Script} {x : WorldOf} {l m : LaneOf} {a : Answer} {context : Conte
       r.before r.after l.pass.timers.known w c.log r.objects r.callbacks r.fresh.0 r.fresh.1 turns in
       rw (← r.pass, ← r.back, ← r.logs.0, ← r.logs.1) run.0
 
-  -- a timer after what the lane has then seen
-  state_is : (e : Ending) → Follows m.pass e → IsJoined s e → (t : ℕ)
-      → witnesses.timer_along (witness_of s e) (length m.pass.timers.known.seen) t ≡ timer_then x.timers.about m.pass.timers.known.seen t
-  state_is e follows joined t = timer_stays next.world.timers joined m.pass.timers.known.seen follows.timers t
-
-  -- the timer that is next to expire on the base after what the lane has then seen
-  next_is : (e : Ending) → Follows m.pass e → IsJoined s e
-      → next_on context ((witnesses.system_along (witness_of s e) (length m.pass.timers.known.seen)).bases base) (reading_at e.run.clock c.reading.stamp)
-      ≡ next_on context ((system_after x.timers.about.timers m.pass.timers.known.seen).bases base) c.reading
-  next_is e follows joined =
-      ap (λ (u : System). next_on context (u.bases base) (reading_at e.run.clock c.reading.stamp))
-      (system_stays next.world.timers joined m.pass.timers.known.seen follows.timers)
-      ∙ ap (λ r. next_on context ((system_after x.timers.about.timers m.pass.timers.known.seen).bases base) r)
-      (reading_goes_on l.pass m.pass c.reading c.reads e follows.clock)
+  -- what held of all timers and bases by the reading, after what the lane has then seen, holds in the run
+  held : (e : Ending) → Follows m.pass e → IsJoined s e → (P : System → ClockReading → Type 0)
+      → P (system_after x.timers.about.timers m.pass.timers.known.seen) c.reading
+      → P (witnesses.system_along (witness_of s e) (length m.pass.timers.known.seen)) (reading_at e.run.clock c.reading.stamp)
+  held e follows joined P now = subst (P _) (sym (reading_goes_on l.pass m.pass c.reading c.reads e follows.clock))
+      (stays next.world.timers joined m.pass.timers.known.seen follows.timers (λ u. P u c.reading) now)
 
   -- by its answer
   answer_kept : (answer : ExpireAnswer)
@@ -145,23 +135,19 @@ module _ {s : Script} {x : WorldOf} {l m : LaneOf} {a : Answer} {context : Conte
       let ran = callbacks_kept n m.pass.timers.known run.1 in
       keeps_run (λ ts. answers.More c.reading.stamp ts) ran (λ e follows joined kept low have. expire_more e.order kept low have (ran.many ∙ run.0))
   answer_kept (expiries.Done n) run =
-      let w = m.pass.timers.known in
       let ran = run_later (callbacks_kept n run.1.0 run.1.1) run.1.2.0 in
       let none = run.1.2.1 in
       keeps_run (λ ts. answers.Done c.reading.stamp ts) ran
       (λ e follows joined kept low have. expire_done e.order kept low have (omega (arith, ran.many, run.0)) (record {
-        free = λ t. ap (λ u. runs_on base (seen_in context u)) (state_is e follows joined t) ∙ none.idle t;
-        first = next_is e follows joined ∙ none.first;
-        stopped = λ clock. subst (λ (k : ℕ → Timer). IsStopped (in_context context k) base (reading_at e.run.clock c.reading.stamp) clock)
-            (λ i t. sym (state_is e follows joined t) i)
-            (subst (λ r. IsStopped (in_context context (timer_then x.timers.about w.seen)) base r clock)
-            (sym (reading_goes_on l.pass m.pass c.reading c.reads e follows.clock)) (none.none clock));
+        free = λ t. held e follows joined (λ u r. runs_on base (seen_in context (u.timers t)) ≡ false) (none.idle t);
+        first = held e follows joined (λ u r. next_on context (u.bases base) r ≡ None) none.first;
+        stopped = λ clock. held e follows joined (λ u r. IsStopped (in_context context u.timers) base r clock) (none.none clock);
       }))
   answer_kept (expiries.BaseBusy n t g) run =
       let ran = run_later (callbacks_kept n run.1.0 run.1.1) run.1.2.0 in
       keeps_run (λ ts. answers.Busy c.reading.stamp ts t g) ran
       (λ e follows joined kept low have. expire_busy e.order kept low have (omega (arith, ran.many, run.0))
-      (ap (λ u. running_on base (seen_in context u)) (state_is e follows joined t) ∙ run.1.2.1))
+      (held e follows joined (λ u r. running_on base (seen_in context (u.timers t)) ≡ Some g) run.1.2.1))
 
   -- law: a lane keeps an expiry run
   pub keeps_expire : KeepsCall s l (calls.Expire context base budget) a m

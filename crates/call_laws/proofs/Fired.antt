@@ -1,4 +1,7 @@
 -- The callbacks of an expiry run: one with its claim and its finish, and all of them one behind the other.
+use Rattle.std.proofs.lemmas.List.Sorted.{IsPermutation-middle}
+use Rattle.hr_timers.proofs.Moments.{declared_kept}
+use Rattle.lane_world.proofs.SeenMore.{follows_object}
 use Rattle.call_laws.proofs.Entering.{EntersOne}
 use Rattle.call_laws.proofs.Noted.{notes_of, one_noted, same-trans, same_notes, SameNotes}
 use Rattle.call_laws.proofs.Parts.{part_noted, part_one, part_then}
@@ -10,7 +13,7 @@ use Rattle.std.proofs.Common.{◌≡◌, ◌≤◌, ◌<◌, ℕ, ◌+◌, unwra
 use Rattle.std.specs.List.{AllByRecursion}
 use Rattle.std.specs.List.Sorted.{IsPermutation}
 use Rattle.std.proofs.lemmas.List.{append_assoc, append-nil, map-append}
-use Rattle.std.proofs.lemmas.List.Sorted.{IsPermutation-cons, IsPermutation-to_front, IsPermutation-append_comm, IsPermutation-append_left, IsPermutation-append_right}
+use Rattle.std.proofs.lemmas.List.Sorted.{IsPermutation-cons, IsPermutation-to_front, IsPermutation-append_right}
 use Rattle.ktime.specs.Readings.{ClockReading}
 use Rattle.pass_names.specs.Passes.{GoesOn}
 use Rattle.seq_timer.specs.declared.context.Context.{Context}
@@ -18,8 +21,6 @@ use Rattle.seq_timer.specs.declared.context.Declared.{Declared}
 use Rattle.seq_timer.specs.declared.context.Terms.{Terms}
 use Rattle.seq_timer.specs.declared.system.SystemEntry.{SystemEntry}
 use Rattle.seq_timer.specs.Tables.{no_declared, timer_at}
-use Rattle.seq_timer.proofs.Contents.{declared-after_all}
-use Rattle.hr_timers.proofs.Moments.{timer_own}
 use Rattle.seq_timer.specs.Steps.{Timer, reply_to, restarted_by}
 use Rattle.seq_timer.specs.Systems.{entries_of, openings}
 use Rattle.base_row.specs.declared.view.Opening.{Opening}
@@ -52,10 +53,11 @@ use Rattle.run_history.proofs.Expires.{claim_of, finish_of, with_claim, HaveRun,
 use Rattle.run_history.proofs.Known.{made_goes_on}
 use Rattle.run_history.proofs.Reached.{body_wider, was_wider}
 use Rattle.lane_world.specs.Called.{claimed_in}
-use Rattle.lane_world.proofs.Kept.{FollowsObject, count_begins, goes_before, begins_same}
+use Rattle.lane_world.proofs.Kept.{FollowsObject}
+use Rattle.lane_world.proofs.SeenMore.{count_begins, goes_before, begins_same}
 use Rattle.lane_world.specs.Worlds.{callback_of, IsWorldOf, WorldOf}
 use Rattle.lane_world.proofs.Declared.{declared_callback, declared_over, over_of}
-use Rattle.pass_names.proofs.Passes.{begins_length, begins_trans}
+use Rattle.pass_names.proofs.Passes.{begins_length}
 use Rattle.call_laws.proofs.Triggered.{fd_noted, posix_noted, trigger_kept}
 use Rattle.std.specs.Prelude.{flat_map}
 use Rattle.std.proofs.lemmas.List.Concat.{flat_map-append}
@@ -77,17 +79,11 @@ use Rattle.run_history.proofs.Expires as expires
 
 -- ---- lists
 
--- the middle two of four parts change places
-middle_swapped : {A : Type 0} (a b c d : List A) → IsPermutation ((a ++ b) ++ (c ++ d)) ((a ++ c) ++ (b ++ d))
-middle_swapped a b c d =
-    rw (append_assoc a b (c ++ d), append_assoc a c (b ++ d)) (IsPermutation-append_right a (b ++ (c ++ d)) (c ++ (b ++ d))
-    (rw (← append_assoc b c d, ← append_assoc c b d) (IsPermutation-append_left d (b ++ c) (c ++ b) (IsPermutation-append_comm b c))))
-
 -- two items around a list, and both before it
 woven : {A : Type 0} (l m b : List A) (c f : A) → IsPermutation ((l ++ c ∷ f ∷ []) ++ (m ++ b)) ((l ++ m) ++ (c ∷ b ++ f ∷ []))
-woven l m b c f = IsPermutation-trans _ _ _ (middle_swapped l (c ∷ f ∷ []) m b)
-    (IsPermutation-append_right (l ++ m) (c ∷ f ∷ b) (c ∷ b ++ f ∷ []) (IsPermutation-cons c (f ∷ b) (b ++ f ∷ [])
-    (IsPermutation-sym _ _ (IsPermutation-to_front b f))))
+woven l m b c f = rw (append_assoc l (c ∷ f ∷ []) (m ++ b), append_assoc l m (c ∷ b ++ f ∷ [])) (IsPermutation-append_right l _ _
+    (IsPermutation-trans _ (c ∷ ((m ++ b) ++ f ∷ [])) _ (IsPermutation-cons c _ _ (IsPermutation-sym _ _ (IsPermutation-to_front (m ++ b) f)))
+    (rw (append_assoc m b (f ∷ [])) (IsPermutation-sym _ _ (IsPermutation-middle m c (b ++ f ∷ []))))))
 
 -- the notes of four logs
 four : {R N : Type 0} (note : R → Option N) (a b c d : List R) → present (map note ((a ++ b) ++ (c ++ d)))
@@ -115,12 +111,6 @@ pub record RunKept (s : Script) (label : Label) (context : Context) (base : ℕ)
       → HasPoints s e label p p' (flat_map (fires base reading.stamp) fired ++ later)
       → HaveRun (witness_of s e) label e.order context base reading.stamp [] (length k.seen) fired notes (length k'.seen)
 
--- a run goes on from what was seen of objects before
-follows_before : (p q : ObjectsPass) (e : Ending) → GoesOn p.knows.pass.seen q.knows.pass.seen → ((i : ℕ) → FollowsObject e i (seen_of q i)) → (i : ℕ)
-    → FollowsObject e i (seen_of p i)
-follows_before p q e goes_on follows i =
-    let its = follows i in record { history = its.history; goes_on = begins_trans (goes_on.each i) its.goes_on; lines = its.lines }
-
 -- as what a timer was opened
 declared-opened : (list : List Declared) (terms : Terms) (t : ℕ) → (timer_at (openings list terms) t).declared ≡ get_or list t no_declared
 declared-opened [] terms t = refl
@@ -139,26 +129,24 @@ module _ (s : Script) (x : WorldOf) (is : IsWorldOf s x) (some : 1 ≤ s.limit) 
   -- a timer is declared as the script says, at all times
   declared_seen : (at : List SystemEntry) (t : ℕ) → (timer_then o at t).declared ≡ declared_of s t
   declared_seen at t =
-      ap (λ (u : Timer). u.declared) (timer_own o at t) ∙ declared-after_all (timer_at o.timers t) (entries_of t at)
-      ∙ ap (λ (ts : List Timer). (timer_at ts t).declared) on ∙ declared-opened (declareds_of s) (terms_of s) t
+      declared_kept o at t ∙ ap (λ (ts : List Timer). (timer_at ts t).declared) on ∙ declared-opened (declareds_of s) (terms_of s) t
 
   -- a claim
   claim_made : {k v : KnownOfTimers} {c : ClaimNumbers} → ClaimsNextDue o k v context base reading c → IsClaimed s base c reading k v
   claim_made {c = c} claims =
       let event = events.Claim base reading in
-      let u = timer_then o claims.at c.timer in
       let one = enters_once s (HasRead reading) o on claims.made (λ clock has. ap (events.Claim base) has) claims.number in
-      let le = count_begins (TimersList c.timer) claims.made.from in
-      let own = length-append (entries_of c.timer claims.at) (record { event = event; reply = reply_to u event } ∷ []) in
+      let own = length-append (entries_of c.timer claims.at) (record { event = event; reply = reply_to (timer_then o claims.at c.timer) event } ∷ []) in
       record {
         entered = (
           one.0,
           one.1,
-          one.2 ∙ ap (λ g. (c.number, OfTimer c.timer (record { event = events.Claim base reading.stamp; reply = replies.Claim (unwrap_or g 0) }))) claims.armed,
+          one.2 ∙ ap (λ g. (c.number, OfTimer c.timer (record { event = events.Claim base reading.stamp; reply = replies.Claim (unwrap_or g 0) })))
+              claims.armed,
         );
         there = claims.there;
         some = omega (arith, claims.number);
-        more = omega (arith, le, ap length claims.made.own, own);
+        more = omega (arith, (count_begins (TimersList c.timer) claims.made.from), ap length claims.made.own, own);
       }
 
   -- the function of a claim, by the handler's meaning
@@ -194,7 +182,8 @@ module _ (s : Script) (x : WorldOf) (is : IsWorldOf s x) (some : 1 ≤ s.limit) 
       (b : BodyKept s label claim restart w h h') (number : ℕ) (restarted : Restarted)
       (own : (declared_of s c.timer).context ≡ context)
       (finish : EntersOne s (HasRead reading) w k'
-      (number, OfTimer c.timer (record { event = events.Finish (asks restart); reply = replies.Finish c.generation restarted }))) (e : Ending) → IsJoined s e → promises.GoesOn k'.seen e
+      (number, OfTimer c.timer (record { event = events.Finish (asks restart); reply = replies.Finish c.generation restarted }))) (e : Ending)
+      → IsJoined s e → promises.GoesOn k'.seen e
       → ((i : ℕ) → FollowsObject e i (seen_of h'.objects_pass.now i)) → (before : List Action)
       → ((i : ℕ) → ((j : ℕ) → made j b.body ≡ []) → IsObjectPoint (witness_of s e) label
       (with_claim base reading.stamp (fired_of c b.body number (asks restart) restarted) before) i (length (seen_of h'.objects_pass.now i)))
@@ -202,6 +191,7 @@ module _ (s : Script) (x : WorldOf) (is : IsWorldOf s x) (some : 1 ≤ s.limit) 
       (length k'.seen)) × (claim.entered.0 ∷ b.notes ++ finish.0 ∷ [] ≡ expires.notes_of ran)
   turn_ran {k = k} {v = v} {w = w} {k' = k'} {c = c} {restart = restart} claim b number restarted own finish e joined goes follows before points =
       let acted = goes_before finish.1.seen goes in
+      let ran = b.ran e joined acted follows number restarted in
       let claimed = goes_before b.enters.seen acted in (
         record {
           claimed = length v.seen;
@@ -221,9 +211,9 @@ module _ (s : Script) (x : WorldOf) (is : IsWorldOf s x) (some : 1 ≤ s.limit) 
           own = own;
           kind = body_wider (WasOffLine (witness_of s e) (length v.seen) (length w.seen)) (WasOffLine (witness_of s e) (length k.seen) (length k'.seen))
               (was_wider (witness_of s e) (begins_length claim.entered.1.seen) (begins_length finish.1.seen)) s.limit (kind_of s c.timer) reading.stamp
-              (fired_of c b.body number (asks restart) restarted) (b.kind e joined acted number restarted);
-          holds = b.holds e joined acted (with_claim base reading.stamp (fired_of c b.body number (asks restart) restarted) before) points;
-          span = b.span e follows number restarted;
+              (fired_of c b.body number (asks restart) restarted) ran.0;
+          holds = ran.1 (with_claim base reading.stamp (fired_of c b.body number (asks restart) restarted) before) points;
+          span = ran.2;
         },
         refl,
       )
@@ -252,7 +242,6 @@ module _ (s : Script) (x : WorldOf) (is : IsWorldOf s x) (some : 1 ≤ s.limit) 
         one.2 ∙ ap (λ g. (u.stamp + 1, OfTimer c.timer (record { event = events.Finish restart; reply = replies.Finish (unwrap_or g 0) restarted }))) ran.finishes.runs,
       ) in
       let first = claim_receipt reading c in
-      let last = finish_receipt c ran.restart u in
       let p1 = h.objects_pass.now in
       let p' = h'.objects_pass.now in
       let at = reading.stamp in
@@ -266,7 +255,7 @@ module _ (s : Script) (x : WorldOf) (is : IsWorldOf s x) (some : 1 ≤ s.limit) 
       part_then b.part (part_one _ finish) in
       let all : flat_map (fires base at) (run.fired ++ f ∷ []) ≡ done ++ one = rw (flat_map-append (fires base at) run.fired (f ∷ []), append-nil one) refl in
       let cb = h.log.receipts in
-      let more = first ∷ last ∷ [] in
+      let more = first ∷ (finish_receipt c ran.restart u) ∷ [] in
       let looks = look_notes label in
       let order : SameNotes (notes_of label ((log ++ more) ++ (cb ++ b.more)) (h.object_log.receipts ++ b.object_more))
       (both_noted (notes_of label (log ++ cb) h.object_log.receipts) _) = record {
@@ -280,8 +269,8 @@ module _ (s : Script) (x : WorldOf) (is : IsWorldOf s x) (some : 1 ≤ s.limit) 
       let logs : notes_of label (log' ++ h'.log.receipts) h'.object_log.receipts
       ≡ notes_of label ((log ++ more) ++ (cb ++ b.more)) (h.object_log.receipts ++ b.object_more) =
       ap (λ rs. notes_of label (rs ++ h'.log.receipts) h'.object_log.receipts) turn.receipts
-      ∙ ap (λ rs. notes_of label ((log ++ more) ++ rs) h'.object_log.receipts) b.adds
-      ∙ ap (notes_of label ((log ++ more) ++ (cb ++ b.more))) b.adds_objects in
+      ∙ ap (λ rs. notes_of label ((log ++ more) ++ rs) h'.object_log.receipts) b.adds.0
+      ∙ ap (notes_of label ((log ++ more) ++ (cb ++ b.more))) b.adds.1 in
       record {
         fired = run.fired ++ f ∷ [];
         many = omega (arith, run.many, length-append run.fired (f ∷ []));
@@ -291,7 +280,7 @@ module _ (s : Script) (x : WorldOf) (is : IsWorldOf s x) (some : 1 ≤ s.limit) 
         have = λ e joined goes follows later behind points.
             let whole : flat_map (fires base at) (run.fired ++ f ∷ []) ++ later ≡ done ++ (one ++ later) = rw (all, append_assoc done one later) refl in
             let grows = objects_grow p1 p' part.goes_on in
-            let before_run = run.have e joined (goes_before part.enters.seen goes) (follows_before p1 p' e part.goes_on follows) (one ++ later)
+            let before_run = run.have e joined (goes_before part.enters.seen goes) (λ i. follows_object (part.goes_on.each i) (follows i)) (one ++ later)
             (λ i. rw (made-append i one later)
             (each_joined (made i one) (made i later) (λ x le. omega (arith, le)) (λ x less. let le = grows i in omega (arith, less, le))
             (part.rise i).above (behind i)))

@@ -162,7 +162,8 @@ with_shift-joins notes label base number event =
 pub notes_of-append : (label : Label) (log more : List Receipt) (object_log object_more : List ObjectReceipt)
     → notes_of label (log ++ more) (object_log ++ object_more) ≡ both_noted (notes_of label log object_log) (notes_of label more object_more)
 notes_of-append label log more object_log object_more =
-    notes_same _ _ (notes-append (entry_note label) log more) (notes-append (look_note label) log more) (notes-append (object_note label) object_log object_more)
+    notes_same _ _ (notes-append (entry_note label) log more) (notes-append (look_note label) log more)
+    (notes-append (object_note label) object_log object_more)
     (notes-append (skip_note label) object_log object_more) refl refl
 
 -- ---- entries of a timer

@@ -32,7 +32,8 @@ use Rattle.run_history.specs.Truths.{WasOffLine}
 use Rattle.run_history.specs.Runs.{witness_of, Ending}
 use Rattle.run_history.specs.Truths.{IsObjectPoint}
 use Rattle.lane_world.specs.Called.{Called, lane_caller, CallsOverrun, gettime_told, LaneOf, with_done}
-use Rattle.lane_world.proofs.Kept.{Follows, IsNextCall, KeepsCall, begins_same}
+use Rattle.lane_world.proofs.Kept.{Follows, IsNextCall, KeepsCall}
+use Rattle.lane_world.proofs.SeenMore.{begins_same}
 use Rattle.lane_world.specs.Worlds.{WorldOf}
 use Rattle.call_laws.proofs.CallKept.{clock_left, clock_read, LooksAtClock}
 use Rattle.lane_world.proofs.PartLists.{no_notes-joins}

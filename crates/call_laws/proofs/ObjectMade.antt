@@ -25,7 +25,8 @@ use Rattle.run_history.specs.Truths.{IsSpan, IsSpanBy, IsTrueStart}
 use Rattle.run_history.proofs.ObjectsMade.{settime_actions}
 use Rattle.run_history.proofs.OthersMade.{plain}
 use Rattle.lane_world.specs.Called.{lane_caller, LaneOf, ReadsClock, with_done}
-use Rattle.lane_world.proofs.Kept.{Follows, IsNextCall, KeepsCall, seen_by, goes_before}
+use Rattle.lane_world.proofs.Kept.{Follows, IsNextCall, KeepsCall, seen_by}
+use Rattle.lane_world.proofs.SeenMore.{goes_before}
 use Rattle.lane_world.specs.Worlds.{WorldOf}
 use Rattle.pass_names.proofs.Passes.{begins_length}
 use Rattle.timer_setting.specs.declared.arming.Arm.{Arm}
@@ -160,14 +161,15 @@ module _ {s : Script} {x : WorldOf} {l : LaneOf} (m : LaneOf) {call : Call} (nex
     keeps_made a stamp fits =
         let p = l.pass in
         let q = m.pass in
-        let trace = plain reading.stamp (length begin.seen) (length w.seen) (settime_actions timer cancel k.start number entry) in
         let receipt_of : ObjectReply → ObjectReceipt = λ r. record { object = timer; number = number; call = made; reply = r } in
         let this = receipt_of step.reply ∷ [] in
         let log_is : object_log ≡ this = enters.object_log ∙ ap (λ r. receipt_of r ∷ []) enters.reply in
-        let as_told = subst (λ r. IsNotedAs (HasRead reading) made.call r entry) enters.reply noted in
-        let entered = part_made {s = s} {label = l.label} {v = w} {q = q.objects} {step = step} enters.commits.adds enters.commits.opening as_told in
-        let whole = rw (append-nil k.part.0) at (part_then (part_none {v = p.timers.known} {p = p.objects} {w = begin} k.seen k.mine) (part_then k.part.1 entered)) in
-        keeps_part next m a trace whole (reading_goes_on p q reading reads) (clock_read reads.looks)
+        let entered = part_made {s = s} {label = l.label} {v = w} {q = q.objects} {step = step} enters.commits.adds enters.commits.opening
+        (subst (λ r. IsNotedAs (HasRead reading) made.call r entry) enters.reply noted) in
+        let whole = rw (append-nil k.part.0) at (part_then (part_none {v = p.timers.known} {p = p.objects} {w = begin} k.seen k.mine)
+        (part_then k.part.1 entered)) in
+        keeps_part next m a (plain reading.stamp (length begin.seen) (length w.seen) (settime_actions timer cancel k.start number entry)) whole
+        (reading_goes_on p q reading reads) (clock_read reads.looks)
         (notes ∙ with_done-joins l.notes l.label log object_log ∙ ap (both_noted l.notes) (ap (notes_of l.label log) log_is
         ∙ ap (λ rs. notes_of l.label rs this) (sym (append-nil log)) ∙ notes_of-append l.label log [] [] this)) refl reads.count stamp
         (λ e follows joined has kept low. let le = begins_length k.seen in fits e follows joined kept (omega (arith, le, low)))

@@ -58,7 +58,7 @@ noted_seen IsSo p q notes t label so k (d ∷ ds) each =
     one : (k : NoteKind) (d : Action) → IsDone IsSo p.objects q.timers.known q.objects d
         → AllByRecursion (IsNoteSeen k q (log_of p q notes t)) (list_of k (one_noted label d))
     one EntryNotes (Entered timer number entry) is = (tt, tt)
-    one LookNotes (Looked timer number reply) is = (record { some = is.0; seen = is.1 }, tt)
+    one LookNotes (Looked timer number reply) is = (is, tt)
     one ObjectNotes (Made i number entry) is = (
       record {
         before = is.before;
@@ -70,7 +70,7 @@ noted_seen IsSo p q notes t label so k (d ∷ ds) each =
       },
       tt,
     )
-    one SkipNotes (Skipped i number generation) is = (record { some = is.0; seen = is.1 }, tt)
+    one SkipNotes (Skipped i number generation) is = (is, tt)
     one BaseNotes (Shifted base number event) is = (tt, tt)
     one WriteNotes (Wrote number write) is = tt
     one k d is = tt
@@ -118,7 +118,9 @@ keeps_part {s = s} {l = l} {call = call} {IsSo = IsSo} {notes = notes} {added = 
         timers = places_told s p.timers.known.mine q.timers.known.mine notes added part.enters.mine told;
         objects = λ i k. ap (count (is_place i k)) (part.mine ∙ ap (λ (n : NotesOf). p.objects.knows.pass.mine ++ map object_place n.objects) (sym others))
             ∙ total-append (λ u. one_if (is_place i k u)) p.objects.knows.pass.mine (map object_place added.objects);
-        clock = λ k. omega (arith, ap (count (is_place 0 k)) clock.mine, ap (λ (ws : List WriteNote). count (is_place 0 k) (map (λ e. (0, e.stamp)) ws)) no_writes);
+        clock = λ k.
+            let none = ap (λ (ws : List WriteNote). count (is_place 0 k) (map (λ e. (0, e.stamp)) ws)) no_writes in
+            omega (arith, ap (count (is_place 0 k)) clock.mine, none);
       };
       seen = λ k. each_same part.told k _ (noted_seen IsSo p q notes t label so k t.actions part.each);
       stand = stand_from IsSo p q notes part.enters t (λ e follows. so e follows.clock);

@@ -26,7 +26,8 @@ use Rattle.run_history.specs.Traces.{all_entered}
 use Rattle.run_history.proofs.Actions.{all_entered-append, made-append}
 use Rattle.run_history.proofs.Lists.{at_seam}
 use Rattle.lane_world.specs.Runs.{ObjectMove, ShowsObjectCall}
-use Rattle.lane_world.proofs.Kept.{begins_same, count_begins, FollowsObject}
+use Rattle.lane_world.proofs.Kept.{FollowsObject}
+use Rattle.lane_world.proofs.SeenMore.{begins_same, count_begins}
 use Rattle.call_laws.proofs.Entering.{enters-append, enters_at, enters_none, EntersNotes, EntersOne}
 use Rattle.call_laws.proofs.Noted.{entered_all, entered_noted, entered_on, entered_only, noted, noted-append, notes_of, notes_of-append, one_noted, same-both, same_notes, SameNotes}
 use Rattle.lane_notes.specs.Notes.{both_noted, no_notes, NotesOf}
@@ -34,7 +35,7 @@ use Rattle.script_text.specs.Declarations.{declareds_of, terms_of}
 use Rattle.run_history.specs.Actions.{Shifted, Skipped, Wrote}
 use Rattle.run_history.specs.Witnesses.{OfBase}
 use Rattle.lane_world.proofs.PartLists.{no_notes-joins}
-use Rattle.lane_world.proofs.Kept.{stands_on}
+use Rattle.lane_world.proofs.SeenMore.{stands_on}
 use Rattle.run_history.proofs.Stamped.{HaveReadings}
 use Rattle.pass_names.proofs.Passes.{begins_length, begins_trans}
 use Rattle.record_text.specs.declared.record.ObjectEntry.{ObjectEntry}
@@ -168,7 +169,8 @@ module _ {s : Script} {IsSo : List ClockLine → Type 0} {label : Label} where
   }
 
   -- law: the same where objects were left alone
-  pub part_none : {v : KnownOfTimers} {p : ObjectsPass} {w : KnownOfTimers} → Begins v.seen w.seen → w.mine ≡ v.mine → IsPart s IsSo label v p w p [] [] no_notes
+  pub part_none : {v : KnownOfTimers} {p : ObjectsPass} {w : KnownOfTimers} → Begins v.seen w.seen → w.mine ≡ v.mine
+      → IsPart s IsSo label v p w p [] [] no_notes
   part_none seen mine = part_seen seen mine (record { each = λ i. begins_same refl }) refl refl
 
   -- a part that made entries of timers and bases, and nothing else
@@ -198,8 +200,8 @@ module _ {s : Script} {IsSo : List ClockLine → Type 0} {label : Label} where
       let k = (timer_then o at t).stamp in
       let its = enters_at s IsSo o is made reads in
       let told = entered_noted label t k es in (
-        its.notes,
-        timers_only its.enters (its.are ∙ entered_all t k es) told (ap (λ (n : NotesOf). n.objects) (sym told)) (all_done k es)
+        its.0,
+        timers_only its.1 (its.2 ∙ entered_all t k es) told (ap (λ (n : NotesOf). n.objects) (sym told)) (all_done k es)
             (λ i. entered_only t k i es),
       )
     where
@@ -329,19 +331,16 @@ pub record BodyKept (s : Script) (label : Label) {base : ℕ} {c : ClaimNumbers}
   pub notes : List PlacedEntry
   pub more : List Receipt
   pub object_more : List ObjectReceipt
-  pub adds : h'.log.receipts ≡ h.log.receipts ++ more
-  pub adds_objects : h'.object_log.receipts ≡ h.object_log.receipts ++ object_more
+  pub adds : (h'.log.receipts ≡ h.log.receipts ++ more) × (h'.object_log.receipts ≡ h.object_log.receipts ++ object_more)
   pub enters : EntersNotes s (HasRead reading) v w notes
   pub part : IsPart s (HasRead reading) label k h.objects_pass.now w h'.objects_pass.now
       (Entered c.timer c.number (claim_in base reading.stamp c) ∷ body) (claim.entered.0 ∷ notes) (notes_of label (claim_receipt reading c ∷ more) object_more)
-  pub kind : (e : Ending) → IsJoined s e → promises.GoesOn w.seen e → (finish : ℕ) (restarted : Restarted)
-      → IsBody (WasOffLine (witness_of s e) (length v.seen) (length w.seen)) s.limit (kind_of s c.timer) reading.stamp
-      (fired_of c body finish (asks restart) restarted)
-  pub holds : (e : Ending) → IsJoined s e → promises.GoesOn w.seen e → (before : List Action)
+  pub ran : (e : Ending) → IsJoined s e → promises.GoesOn w.seen e → ((i : ℕ) → FollowsObject e i (seen_of h'.objects_pass.now i)) → (finish : ℕ)
+      (restarted : Restarted) → let f = fired_of c body finish (asks restart) restarted in
+      IsBody (WasOffLine (witness_of s e) (length v.seen) (length w.seen)) s.limit (kind_of s c.timer) reading.stamp f
+      × ((before : List Action)
       → ((i : ℕ) → ((j : ℕ) → made j body ≡ []) → IsObjectPoint (witness_of s e) label before i (length (seen_of h'.objects_pass.now i)))
-      → ReplyHolds (witness_of s e) label before (length w.seen) body
-  pub span : (e : Ending) → ((i : ℕ) → FollowsObject e i (seen_of h'.objects_pass.now i)) → (finish : ℕ) (restarted : Restarted)
-      → IsClaimSpan (witness_of s e) (fired_of c body finish (asks restart) restarted) body
+      → ReplyHolds (witness_of s e) label before (length w.seen) body) × IsClaimSpan (witness_of s e) f body
 
 module _ {s : Script} {label : Label} {base : ℕ} {c : ClaimNumbers} {reading : ClockReading} {k v w : KnownOfTimers} {p : ObjectsPass}
     (claim : IsClaimed s base c reading k v) where

@@ -1,4 +1,5 @@
 -- Calls on objects that may arm their timer again, as their lanes keep them: an acceptance, a read, and a gettime of either kind.
+use Rattle.call_laws.proofs.Entering.{made_inside}
 use Rattle.call_laws.proofs.CallKept.{IsStamp}
 use Rattle.std.proofs.Common.{◌≡◌, ◌≤◌, ℕ, Some, option_map, List, [], length, refl, sym, ap, subst}
 use Rattle.clock_cell.specs.Views.{writes}
@@ -65,7 +66,6 @@ use Rattle.timer_objects.specs.Calls.{Caller}
 use Rattle.call_laws.proofs.CallKept.{clock_read}
 use Rattle.call_laws.proofs.Parts.{noted_at}
 use Rattle.lane_world.proofs.Declared.{declared_base}
-use Rattle.call_laws.proofs.Armed.{places_inside}
 use Rattle.call_laws.proofs.ObjectMade.{keeps_made, rearm_span, start_is}
 use Rattle.call_laws.proofs.Rearmed.{like_restart, rearm_part, RearmPart, wanted_timely}
 use Rattle.script_text.specs.declared.script.Call.{Call}
@@ -104,7 +104,7 @@ module _ {s : Script} {x : WorldOf} {l m : LaneOf} {call : Call} (next : IsNextC
     ends = length m.pass.timers.known.seen;
     between = begins_length part.does.part.1.enters.seen;
     high = omega arith;
-    part = places_inside part.does.part.1.enters;
+    part = made_inside part.does.part.1.enters.made;
     holds = start_is m next made.enters part.does follows joined false
         (like_restart x.timers.about m.pass.timers.known timer made.arm _ made.bears);
     span = rearm_span m next made.enters part.does follows joined made.arm part.spans;
@@ -115,7 +115,8 @@ module _ {s : Script} {x : WorldOf} {l m : LaneOf} {call : Call} (next : IsNextC
       → skip_generation (rearming_call r c.reading made.arm) reply ≡ None
       → ((clock : List ClockLine)
       → ShowsObjectCall clock (rearming_call r (reading_at clock c.reading.stamp) made.arm) reply (entry (arm_noted made.arm)))
-      → (b : Answer) → IsStamp m.pass.objects (object_called call) (object_stamp_in b) → ((e : Ending) (begin last : ℕ) (arm : Armed) (start : List Action) (number : ℕ)
+      → (b : Answer) → IsStamp m.pass.objects (object_called call) (object_stamp_in b) → ((e : Ending) (begin last : ℕ) (arm : Armed) (start : List Action)
+      (number : ℕ)
       (notes : List PlacedEntry) → IsKept (witness_of s e) (moves_spans e) l.label
       (plain c.reading.stamp begin last (rearming_actions timer start number (entry arm))) notes call b (seen_by l.pass) (seen_by m.pass)
       → (moves_spans e).first l.label ≤ begin → IsRearmed (witness_of s e) l.label notes c.reading.stamp begin last timer arm start number
@@ -128,58 +129,56 @@ module _ {s : Script} {x : WorldOf} {l m : LaneOf} {call : Call} (next : IsNextC
 
 -- ---- the calls
 
-module _ {s : Script} {x : WorldOf} {l m : LaneOf} {a : Answer} {timer : ℕ} where
-  accept_kept : IsNextCall s x l (calls.Accept timer) → (reply : AcceptReply) → accept_noted (accept_answer_of reply) ≡ Some reply
-      → IsStamp m.pass.objects (Some timer) (object_stamp_in (answer_of_accept reply))
-      → CallsObject x l m a (λ old new reading. RearmingMade x.objects x.timers.about old new timer rearmings.Accepting reading
-      (replies.Posix (posix_replies.Accept (accept_answer_of reply))))
-      → KeepsCall s l (calls.Accept timer) (answer_of_accept reply) m
-  accept_kept next reply back stamp c =
-      let answered = posix_replies.Accept (accept_answer_of reply) in
-      keeps_rearming next c c.does (λ arm. object_entries.Accept c.reading.stamp arm reply)
-      (ap (option_map (λ (r : AcceptReply). object_entries.Accept c.reading.stamp (arm_noted c.does.arm) r)) back) refl
-      (λ clock. ap (λ k. Some (record { call = posix_calls.Accept (reading_at clock c.reading.stamp) k; reply = answered })) (arm_back c.does.arm).0)
-      (answer_of_accept reply) stamp (λ e begin last arm start number notes kept low rearmed. accept_made reply kept low rearmed)
+-- law: a lane keeps an acceptance
+pub keeps_accept : {s : Script} {x : WorldOf} {l m : LaneOf} {a : Answer} {timer : ℕ} → IsNextCall s x l (calls.Accept timer)
+    → Called x l (calls.Accept timer) a m → KeepsCall s l (calls.Accept timer) a m
+keeps_accept {s} {x} {l} {m} {a} {timer} next called = subst (λ b. KeepsCall s l (calls.Accept timer) b m) (sym called.1) (by_answer called.0 called.2)
+  where
+    accepted : (reply : AcceptReply) → accept_noted (accept_answer_of reply) ≡ Some reply
+        → IsStamp m.pass.objects (Some timer) (object_stamp_in (answer_of_accept reply))
+        → CallsObject x l m a (λ old new reading. RearmingMade x.objects x.timers.about old new timer rearmings.Accepting reading
+        (replies.Posix (posix_replies.Accept (accept_answer_of reply)))) → KeepsCall s l (calls.Accept timer) (answer_of_accept reply) m
+    accepted reply back stamp c =
+        keeps_rearming next c c.does (λ arm. object_entries.Accept c.reading.stamp arm reply)
+        (ap (option_map (λ (r : AcceptReply). object_entries.Accept c.reading.stamp (arm_noted c.does.arm) r)) back) refl (λ clock.
+        ap (λ k. Some (record { call = posix_calls.Accept (reading_at clock c.reading.stamp) k; reply = posix_replies.Accept (accept_answer_of reply) }))
+        (arm_back c.does.arm).0) (answer_of_accept reply) stamp
+        (λ e begin last arm start number notes kept low rearmed. accept_made reply kept low rearmed)
 
-  -- law: a lane keeps an acceptance
-  pub keeps_accept : IsNextCall s x l (calls.Accept timer) → Called x l (calls.Accept timer) a m → KeepsCall s l (calls.Accept timer) a m
-  keeps_accept next called = subst (λ b. KeepsCall s l (calls.Accept timer) b m) (sym called.1) (by_answer called.0 called.2)
-    where
-      by_answer : (g : AcceptAnswer) → CallsObject x l m a (λ old new reading. Accepts x.objects x.timers.about old new timer reading g)
-          → KeepsCall s l (calls.Accept timer) (accept_told g) m
-      by_answer (accept_answers.Spent n) c =
-          keeps_full next (answers.Spent n) timer n c.does (clock_read c.reads.looks) c.notes
-          (λ stamp. (stamp, refl)) (λ e. refl) (λ e saw. saw)
-      by_answer (accept_answers.Accepted overrun) c = accept_kept next (acceptances.Accepted overrun) refl tt c
-      by_answer accept_answers.NoSignal c = accept_kept next acceptances.NoSignal refl tt c
+    by_answer : (g : AcceptAnswer) → CallsObject x l m a (λ old new reading. Accepts x.objects x.timers.about old new timer reading g)
+        → KeepsCall s l (calls.Accept timer) (accept_told g) m
+    by_answer (accept_answers.Spent n) c =
+        keeps_full next (answers.Spent n) timer n c.does (clock_read c.reads.looks) c.notes (λ stamp. (stamp, refl)) (λ e. refl) (λ e saw. saw)
+    by_answer (accept_answers.Accepted overrun) c = accepted (acceptances.Accepted overrun) refl tt c
+    by_answer accept_answers.NoSignal c = accepted acceptances.NoSignal refl tt c
 
-module _ {s : Script} {x : WorldOf} {l m : LaneOf} {a : Answer} {timer len : ℕ} where
-  read_kept : IsNextCall s x l (calls.Read timer len) → (reply : ReadReply) → read_noted (read_answer_of reply) ≡ Some reply
-      → IsStamp m.pass.objects (Some timer) (object_stamp_in (answer_of_read reply))
-      → CallsObject x l m a (λ old new reading. (count_length ≤ len)
-      × RearmingMade x.objects x.timers.about old new timer rearmings.Reading reading (replies.Fd (fd_replies.Read (read_answer_of reply))))
-      → KeepsCall s l (calls.Read timer len) (answer_of_read reply) m
-  read_kept next reply back stamp c =
-      let answered = fd_replies.Read (read_answer_of reply) in
-      keeps_rearming next c c.does.1 (λ arm. object_entries.Read c.reading.stamp arm reply)
-      (ap (option_map (λ (r : ReadReply). object_entries.Read c.reading.stamp (arm_noted c.does.1.arm) r)) back) refl
-      (λ clock. ap (λ k. Some (record { call = fd_calls.Read (reading_at clock c.reading.stamp) k; reply = answered })) (arm_back c.does.1.arm).1)
-      (answer_of_read reply) stamp (λ e begin last arm start number notes kept low rearmed. read_made len reply kept low rearmed c.does.0)
+-- law: a lane keeps a read
+pub keeps_read : {s : Script} {x : WorldOf} {l m : LaneOf} {a : Answer} {timer len : ℕ} → IsNextCall s x l (calls.Read timer len)
+    → Called x l (calls.Read timer len) a m → KeepsCall s l (calls.Read timer len) a m
+keeps_read {s} {x} {l} {m} {a} {timer} {len} next called =
+    subst (λ b. KeepsCall s l (calls.Read timer len) b m) (sym called.1) (by_answer called.0 called.2)
+  where
+    read : (reply : ReadReply) → read_noted (read_answer_of reply) ≡ Some reply
+        → IsStamp m.pass.objects (Some timer) (object_stamp_in (answer_of_read reply)) → CallsObject x l m a (λ old new reading. (count_length ≤ len)
+        × RearmingMade x.objects x.timers.about old new timer rearmings.Reading reading (replies.Fd (fd_replies.Read (read_answer_of reply))))
+        → KeepsCall s l (calls.Read timer len) (answer_of_read reply) m
+    read reply back stamp c =
+        keeps_rearming next c c.does.1 (λ arm. object_entries.Read c.reading.stamp arm reply)
+        (ap (option_map (λ (r : ReadReply). object_entries.Read c.reading.stamp (arm_noted c.does.1.arm) r)) back) refl (λ clock.
+        ap (λ k. Some (record { call = fd_calls.Read (reading_at clock c.reading.stamp) k; reply = fd_replies.Read (read_answer_of reply) }))
+        (arm_back c.does.1.arm).1) (answer_of_read reply) stamp
+        (λ e begin last arm start number notes kept low rearmed. read_made len reply kept low rearmed c.does.0)
 
-  -- law: a lane keeps a read
-  pub keeps_read : IsNextCall s x l (calls.Read timer len) → Called x l (calls.Read timer len) a m → KeepsCall s l (calls.Read timer len) a m
-  keeps_read next called = subst (λ b. KeepsCall s l (calls.Read timer len) b m) (sym called.1) (by_answer called.0 called.2)
-    where
-      by_answer : (g : ReadAnswer) → CallsObject x l m a (λ old new reading. ReadsFd x.objects x.timers.about old new timer len reading g)
-          → KeepsCall s l (calls.Read timer len) (read_told g) m
-      by_answer read_answers.ShortBuffer c =
-          keeps_same next answers.Invalid c.does.1 (clock_read c.reads.looks) c.notes tt (λ e. (refl, c.does.0)) (λ e. tt)
-      by_answer (read_answers.Spent n) c =
-          keeps_full next (answers.Spent n) timer n c.does.1 (clock_read c.reads.looks) c.notes
-          (λ stamp. (stamp, refl)) (λ e. (refl, c.does.0)) (λ e saw. saw)
-      by_answer (read_answers.Count total) c = read_kept next (reads.Count total) refl tt c
-      by_answer read_answers.Canceled c = read_kept next reads.Canceled refl tt c
-      by_answer read_answers.Again c = read_kept next reads.Again refl tt c
+    by_answer : (g : ReadAnswer) → CallsObject x l m a (λ old new reading. ReadsFd x.objects x.timers.about old new timer len reading g)
+        → KeepsCall s l (calls.Read timer len) (read_told g) m
+    by_answer read_answers.ShortBuffer c =
+        keeps_same next answers.Invalid c.does.1 (clock_read c.reads.looks) c.notes tt (λ e. (refl, c.does.0)) (λ e. tt)
+    by_answer (read_answers.Spent n) c =
+        keeps_full next (answers.Spent n) timer n c.does.1 (clock_read c.reads.looks) c.notes (λ stamp. (stamp, refl)) (λ e. (refl, c.does.0))
+        (λ e saw. saw)
+    by_answer (read_answers.Count total) c = read (reads.Count total) refl tt c
+    by_answer read_answers.Canceled c = read reads.Canceled refl tt c
+    by_answer read_answers.Again c = read reads.Again refl tt c
 
 -- law: a lane keeps a gettime of a descriptor
 pub keeps_gettime-fd : {s : Script} {x : WorldOf} {l m : LaneOf} {a : Answer} {timer base : ℕ} → IsNextCall s x l (calls.Gettime timer)
@@ -193,8 +192,8 @@ keeps_gettime-fd {s = s} {l = l} {m = m} {timer = timer} next kind (gettimes.Spe
     subst (λ k. DoesGettime (WasOffLine (witness_of s e) last last) s.limit k timer (length (writes m.pass.clock.knows)) (answers.Spent n) [])
     (sym kind) refl) (λ e saw. saw))
 keeps_gettime-fd {s = s} {l = l} {m = m} {timer = timer} {base = base} next kind (gettimes.Left left interval stamp) c =
-    let answered = fd_replies.Gettime (lefts.Left left interval) in
     subst (λ b. KeepsCall s l (calls.Gettime timer) b m) (sym c.does.1)
     (keeps_rearming next c c.does.0.0 (λ arm. object_entries.Gettime c.reading.stamp arm left interval) refl refl
-    (λ clock. ap (λ k. Some (record { call = fd_calls.Gettime (reading_at clock c.reading.stamp) k; reply = answered })) (arm_back c.does.0.0.arm).1)
+    (λ clock. ap (λ k. Some (record { call = fd_calls.Gettime (reading_at clock c.reading.stamp) k; reply = (fd_replies.Gettime (lefts.Left left interval)) }))
+    (arm_back c.does.0.0.arm).1)
     (answers.Left left interval) tt (λ e begin last arm start number notes kept low rearmed. gettime_made base left interval kept low rearmed kind))

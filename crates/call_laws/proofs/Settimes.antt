@@ -1,4 +1,5 @@
 -- A settime of an object, as its lane keeps it: the disarming of the object's timer, its start, and the object's entry.
+use Rattle.call_laws.proofs.Entering.{made_inside}
 use Rattle.call_laws.proofs.CallKept.{IsStamp}
 use Rattle.std.proofs.Common.{◌≡◌, ℕ, ◌+◌, true, Option, None, Some, List, [], length, arith, refl, sym, ap, ◌∙◌, subst}
 use Rattle.std.specs.Prelude.{MatchOption}
@@ -28,7 +29,8 @@ use Rattle.run_history.specs.Runs.{witness_of, Ending, IsJoined}
 use Rattle.run_history.specs.Truths.{WasOffLine}
 use Rattle.run_history.proofs.ObjectsMade.{FoundIdle, IsSet, settime_made}
 use Rattle.lane_world.specs.Called.{Called, lane_caller, CallsObject, LaneOf, ReadsClock, settime_told, with_done}
-use Rattle.lane_world.proofs.Kept.{Follows, IsNextCall, KeepsCall, begins_same}
+use Rattle.lane_world.proofs.Kept.{Follows, IsNextCall, KeepsCall}
+use Rattle.lane_world.proofs.SeenMore.{begins_same}
 use Rattle.lane_world.specs.Worlds.{WorldOf}
 use Rattle.call_laws.proofs.CallKept.{clock_read}
 use Rattle.pass_names.proofs.Passes.{begins_length}
@@ -37,7 +39,7 @@ use Rattle.call_laws.proofs.Sights.{keeps_full, keeps_same}
 use Rattle.timer_objects.specs.Steps.{ObjectAllows}
 use Rattle.base_row.specs.Logs.{receipts_of}
 use Rattle.hr_timers.specs.Calls.{cancel_entries}
-use Rattle.call_laws.proofs.Armed.{disarmed_part, places_inside, settime_start, TimerPart, TimersPart}
+use Rattle.call_laws.proofs.Armed.{disarmed_part, settime_start, TimerPart, TimersPart}
 use Rattle.call_laws.proofs.ObjectMade.{keeps_made, outcome_is, start_is, timer_found, whole_span}
 use Rattle.call_laws.proofs.SettimeNoted.{settime_noted, SettimeNoted}
 use Rattle.call_laws.proofs.SettimeParts.{checked, IsRefusal, like_start, raw_object, takes_valid, valid_for}
@@ -98,7 +100,7 @@ module _ {s : Script} {x : WorldOf} {l : LaneOf} (m : LaneOf) {timer flags : ℕ
           ends = length w.seen;
           between = begins_length part.part.1.enters.seen;
           high = omega arith;
-          part = places_inside part.part.1.enters;
+          part = made_inside part.part.1.enters.made;
           idle = found disarmed.0 disarmed.2;
           holds = start_is m next set.enters part follows joined true (like_start x.timers.about w timer set.arm _ set.bears);
           span = whole_span m next set.enters part follows joined (set.from ∙ set.disarms.from) set.to;
@@ -160,4 +162,5 @@ keeps_settime {s = s} {x = x} {l = l} {m = m} {a = a} {timer = timer} {flags = f
     by_arguments None valid made = by_answer called.0 valid made
     by_arguments (Some refusal) bad refused =
         subst (λ b. KeepsCall s l (calls.Settime timer flags value interval) b m) (sym (ap settime_told refused.0 ∙ bad.0))
-        (keeps_same next answers.Invalid refused.1 (clock_read c.reads.looks) c.notes tt (λ e. (refl, λ v. bad.1 (valid_for (kind_of s timer) _ flags value interval (declared_over s x timer next.world) v))) (λ e. tt))
+        (keeps_same next answers.Invalid refused.1 (clock_read c.reads.looks) c.notes tt
+        (λ e. (refl, λ v. bad.1 (valid_for (kind_of s timer) _ flags value interval (declared_over s x timer next.world) v))) (λ e. tt))

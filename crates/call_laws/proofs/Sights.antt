@@ -23,7 +23,8 @@ use Rattle.run_history.specs.Truths.{IsObjectPoint, AnswerHolds, SawFull, WasOff
 use Rattle.run_history.proofs.OthersMade.{plain, quiet_made}
 use Rattle.run_history.proofs.Promise.{object_point_from}
 use Rattle.lane_world.specs.Called.{lane_caller, LaneOf, with_done}
-use Rattle.lane_world.proofs.Kept.{Follows, IsNextCall, KeepsCall, log_of, begins_same}
+use Rattle.lane_world.proofs.Kept.{Follows, IsNextCall, KeepsCall, log_of}
+use Rattle.lane_world.proofs.SeenMore.{begins_same}
 use Rattle.lane_world.specs.Worlds.{WorldOf}
 use Rattle.call_laws.proofs.CallKept.{clock_left, FitsOn, LooksAtClock, same_objects}
 use Rattle.lane_world.proofs.PartLists.{no_notes-joins}
@@ -85,8 +86,8 @@ pub point_seen : {s : Script} {x : WorldOf} {l m : LaneOf} {call : Call} (next :
     → IsObjectPoint (witness_of s e) l.label [] i n
 point_seen {s = s} {l = l} {m = m} next only t none i n number e joined has =
     let is : IsLabel s l.label = slice_get_within (calls_of s l.label.lane) l.label.call next.at next.there in
-    let le = objects_grow l.pass.objects m.pass.objects only.part.goes_on i in
-    object_point_from joined is has i n [] [] none (omega (arith, le, number)) (omega (arith, number)) tt tt
+    object_point_from joined is has i n [] [] none (omega (arith, (objects_grow l.pass.objects m.pass.objects only.part.goes_on i), number))
+    (omega (arith, number)) tt tt
 
 -- ---- the call
 

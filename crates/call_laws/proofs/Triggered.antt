@@ -38,7 +38,7 @@ use Rattle.run_history.specs.Calls.{IsBody, IsTrigger}
 use Rattle.run_history.specs.Witnesses.{Fired}
 use Rattle.run_history.proofs.Lists.{at_seam}
 use Rattle.lane_world.specs.Runs.{ObjectMove}
-use Rattle.lane_world.proofs.Kept.{begins_same}
+use Rattle.lane_world.proofs.SeenMore.{begins_same}
 use Rattle.lane_world.proofs.ObjectSeen.{span_made}
 use Rattle.timer_objects.specs.Firings.{Firing}
 use Rattle.call_laws.proofs.Entering.{enters_none, EntersNotes}
@@ -111,16 +111,14 @@ module _ (s : Script) (x : ObjectsOf) (limit : x.limit ≡ s.limit) (some : 1 �
         notes = [];
         more = [];
         object_more = record { object = c.timer; number = many + 1; call = step.call; reply = step.reply } ∷ [];
-        adds = same_log ∙ sym (append-nil h.log.receipts);
-        adds_objects = t.receipt;
+        adds = (same_log ∙ sym (append-nil h.log.receipts), t.receipt);
         enters = still;
-        part = part_claimed claim [] (record { object = c.timer; number = many + 1; call = step.call; reply = step.reply } ∷ []) (part_made {step = step} adds t.commits.opening n.1);
-        kind = λ e joined goes finish rearmed. is_body _ (fired_of c body finish (asks restart) rearmed) (inl (many + 1, n.0, refl), ap asks stops);
-        holds = λ e joined goes before points. tt;
-        span = λ e follows finish rearmed. (
-          c.number - 1,
-          omega (arith, claim.some),
-          span_made q e c.timer many step (follows c.timer) (rw adds.last (at_seam adds.before [] step)),
+        part = part_claimed claim [] (record { object = c.timer; number = many + 1; call = step.call; reply = step.reply } ∷ [])
+            (part_made {step = step} adds t.commits.opening n.1);
+        ran = λ e joined goes follows finish rearmed. (
+          is_body _ (fired_of c body finish (asks restart) rearmed) (inl (many + 1, n.0, refl), ap asks stops),
+          λ before points. tt,
+          (c.number - 1, omega (arith, claim.some), span_made q e c.timer many step (follows c.timer) (rw adds.last (at_seam adds.before [] step))),
         );
       }
 
@@ -149,13 +147,14 @@ module _ (s : Script) (x : ObjectsOf) (limit : x.limit ≡ s.limit) (some : 1 �
         notes = [];
         more = [];
         object_more = r ∷ [];
-        adds = same_log ∙ sym (append-nil h.log.receipts);
-        adds_objects = t.receipt;
+        adds = (same_log ∙ sym (append-nil h.log.receipts), t.receipt);
         enters = still;
         part = part_claimed claim [] (r ∷ []) part;
-        kind = λ e joined goes finish rearmed. is_body _ (fired_of c body finish (asks restart) rearmed) (inr (many, refl), ap asks stops);
-        holds = λ e joined goes before points. (points c.timer (λ j. refl), omega (arith, t.full, limit));
-        span = λ e follows finish rearmed. tt;
+        ran = λ e joined goes follows finish rearmed. (
+          is_body _ (fired_of c body finish (asks restart) rearmed) (inr (many, refl), ap asks stops),
+          λ before points. (points c.timer (λ j. refl), omega (arith, t.full, limit)),
+          tt,
+        );
       }
 
   -- law: what the claim of an object's timer does

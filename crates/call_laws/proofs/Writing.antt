@@ -1,4 +1,6 @@
 -- Writes of the clock, as their lanes keep them.
+use Rattle.lane_notes.specs.declared.notes.WriteNote.{WriteNote}
+use Rattle.lane_world.proofs.Kept.{NoteKind, NoteOf}
 use Rattle.call_laws.proofs.Sights.{keeps_sight}
 use Rattle.std.proofs.lemmas.List.{take_all}
 use Rattle.std.proofs.Common.{◌≡◌, ℕ, ◌+◌, ◌≤◌, List, [], ◌∷◌, length, length-append, take, Ok, Err, Result, Some, arith, refl, sym, ap, ◌∙◌, subst}
@@ -28,7 +30,8 @@ use Rattle.run_history.proofs.Lists.{at_seam}
 use Rattle.run_history.proofs.OthersMade.{plain, wrote_made}
 use Rattle.lane_world.specs.Called.{CallsWrite, LaneOf, line_of_write, with_write_told, write_told}
 use Rattle.std.specs.List.{AllByRecursion}
-use Rattle.lane_world.proofs.Kept.{IsNoteSeen, label_of, list_of, EntryNotes, LookNotes, ObjectNotes, SkipNotes, BaseNotes, WriteNotes, IsNextCall, KeepsCall, log_of, seen_by, SeesOn, begins_same}
+use Rattle.lane_world.proofs.Kept.{IsNoteSeen, label_of, list_of, WriteNotes, IsNextCall, KeepsCall, log_of, seen_by, SeesOn}
+use Rattle.lane_world.proofs.SeenMore.{begins_same}
 use Rattle.lane_world.specs.Worlds.{WorldOf}
 use Rattle.call_laws.proofs.Entering.{enters_none}
 use Rattle.pass_names.proofs.Passes.{begins_length}
@@ -40,6 +43,12 @@ use Rattle.call_laws.proofs.Entering.{EntersNotes}
 -- the notes of a write alone
 abbrev pub write_notes : ℕ → ClockLine → NotesOf
 write_notes stamp line = record { entries = []; looks = []; objects = []; skips = []; bases = []; writes = record { stamp = stamp; line = line } ∷ [] }
+
+-- what holds of the write's note holds of each
+of_write : (P : (k : NoteKind) → NoteOf k → Type 0) (n : WriteNote) → P WriteNotes n → (k : NoteKind)
+    → AllByRecursion (P k) (list_of k (write_notes n.stamp n.line))
+of_write P n holds WriteNotes = (holds, tt)
+of_write P n holds k = tt
 
 write_joins : (notes : NotesOf) (stamp : ℕ) (line : ClockLine) → with_write_note notes stamp line ≡ both_noted notes (write_notes stamp line)
 write_joins notes stamp line =
@@ -111,14 +120,7 @@ write_kept {s = s} {l = l} {m = m} {write = write} next (Ok r) w timers objects 
       added = added;
       sees = sees;
       joins = notes ∙ write_joins l.notes r.stamp line;
-      bears = λ k. elim k as (λ j. AllByRecursion (λ n. label_of j n ≡ l.label) (list_of j added)) [
-        | EntryNotes ↦ tt
-        | LookNotes ↦ tt
-        | ObjectNotes ↦ tt
-        | SkipNotes ↦ tt
-        | BaseNotes ↦ tt
-        | WriteNotes ↦ (refl, tt)
-      ];
+      bears = of_write (λ j n. label_of j n ≡ l.label) (record { stamp = r.stamp; line = line }) refl;
       tells = record {
         receipts = same_order refl;
         tells = record {
@@ -137,23 +139,13 @@ write_kept {s = s} {l = l} {m = m} {write = write} next (Ok r) w timers objects 
         objects = λ i n. no_places (is_place i n) p.objects.knows.pass.mine q.objects.knows.pass.mine (ap (λ o. o.knows.pass.mine) objects);
         clock = λ n. ap (count (is_place 0 n)) w.ok.place ∙ total-append (λ k. one_if (is_place 0 n k)) p.clock.knows.pass.mine ((0, r.stamp) ∷ []);
       };
-      seen = λ k. elim k as (λ j. AllByRecursion (IsNoteSeen j q (log_of p q [] t)) (list_of j added)) [
-        | EntryNotes ↦ tt
-        | LookNotes ↦ tt
-        | ObjectNotes ↦ tt
-        | SkipNotes ↦ tt
-        | BaseNotes ↦ tt
-        | WriteNotes ↦ (
-          record {
-            before = many;
-            number = number;
-            inside = (behind, omega (arith, number, w.ok.count));
-            there = subst (λ xs. slice_get xs many ≡ Some write) (sym adds.last) (at_seam adds.before [] write);
-            shows = subst (ShowsReading line) (sym whole) (record { mono = refl; real = refl; boot = refl; changes = refl });
-          },
-          tt,
-        )
-      ];
+      seen = of_write (λ j. IsNoteSeen j q (log_of p q [] t)) (record { stamp = r.stamp; line = line }) (record {
+        before = many;
+        number = number;
+        inside = (behind, omega (arith, number, w.ok.count));
+        there = subst (λ xs. slice_get xs many ≡ Some write) (sym adds.last) (at_seam adds.before [] write);
+        shows = subst (ShowsReading line) (sym whole) (record { mono = refl; real = refl; boot = refl; changes = refl });
+      });
       stand = stand_from (λ clock. Unit) p q [] enters t (λ e follows. tt);
       promised = promised_from next m [] t (answers.Clock r.stamp) logged
           (λ e follows joined has kept low. wrote_made r.stamp write kept (ap length same_seen ∙ low));

@@ -13,7 +13,8 @@ use Rattle.run_history.specs.Order.{is_label}
 use Rattle.script_text.specs.declared.script.Call.{Call}
 use Rattle.script_text.specs.declared.script.Script.{Script}
 use Rattle.lane_world.specs.Called.{LaneOf}
-use Rattle.lane_world.proofs.Kept.{KeepsCall, log_of, label_of, list_of, IsNoteSeen, TellLog, BaseNotes, SkipNotes, ObjectNotes, LookNotes, EntryNotes, NoteKind, WriteNotes, SeesMore, seen_later, own_notes}
+use Rattle.lane_world.proofs.Kept.{KeepsCall, log_of, label_of, list_of, IsNoteSeen, TellLog, BaseNotes, SkipNotes, ObjectNotes, LookNotes, EntryNotes, NoteKind, WriteNotes, own_notes}
+use Rattle.lane_world.proofs.SeenMore.{SeesMore, seen_later}
 use Rattle.lane_world.specs.declared.WorldPass.{WorldPass}
 use Rattle.lane_world.proofs.PartLists.{no_notes-joins, notes_same, each_weaker}
 use Rattle.run_history.specs.Actions.{also}
