@@ -1,6 +1,8 @@
 -- What a call on an object does to the object's timer, as parts of the call: its disarming, a start, the receipts of both, and the timer after them.
-use Rattle.std.proofs.Common.{Bool, false, ◌≡◌, ◌≤◌, ◌<◌, ℕ, ◌+◌, Some, List, [], ◌++◌, length, map, arith, refl, sym, ap, ◌∙◌, subst}
-use Rattle.std.specs.List.{AllByRecursion}
+use Rattle.call_laws.proofs.Starts.{entries_so, told_so}
+use Rattle.call_laws.proofs.Noted.{entered_on, notes_of}
+use Rattle.call_laws.proofs.Parts.{HasRead, part_logged}
+use Rattle.std.proofs.Common.{Bool, false, ◌≡◌, ◌≤◌, ◌<◌, ℕ, ◌+◌, Some, List, [], ◌++◌, length, arith, refl, sym, ap, ◌∙◌, subst}
 use Rattle.std.proofs.lemmas.List.{append-nil}
 use Rattle.ktime.specs.Readings.{ClockReading}
 use Rattle.ktime.specs.declared.mode.Mode.{Mode}
@@ -25,30 +27,25 @@ use Rattle.timer_objects.specs.Arming.{arm_of, Starts}
 use Rattle.record_text.specs.declared.record.ClockLine.{ClockLine}
 use Rattle.run_history.specs.Actions.{Action}
 use Rattle.run_history.specs.Told.{IsArmedLike}
-use Rattle.run_history.specs.Histories.{reading_at}
-use Rattle.script_text.specs.Declarations.{declareds_of, terms_of, kind_of, without_slack}
+use Rattle.script_text.specs.Declarations.{kind_of, without_slack}
 use Rattle.run_history.specs.ObjectCalls.{Arms}
 use Rattle.run_history.specs.Objects.{object_armed_after}
 use Rattle.run_history.specs.Starts.{arming_actions}
 use Rattle.script_text.specs.declared.script.Script.{Script}
 use Rattle.lane_notes.specs.Arms.{arm_noted}
-use Rattle.run_history.specs.Witnesses.{Witness, entries_in}
+use Rattle.run_history.specs.Witnesses.{Witness}
 use Rattle.run_history.specs.Receipts.{PlacedEntry}
-use Rattle.run_history.specs.Traces.{all_entered}
 use Rattle.run_history.specs.Promises.{GoesOn}
 use Rattle.run_history.specs.Runs.{witness_of, Ending, IsJoined}
 use Rattle.run_history.specs.Truths.{IsTrueStart, WasOffLine}
 use Rattle.run_history.proofs.Reached.{was_wider}
-use Rattle.run_history.proofs.Known.{numbered}
-use Rattle.lane_world.proofs.Kept.{begins_same, IsNextCall}
-use Rattle.call_laws.proofs.CallKept.{inside_of}
-use Rattle.call_laws.proofs.Entering.{EntersNotes}
-use Rattle.run_history.proofs.Stamped.{HaveReadings, entry_stamped}
+use Rattle.lane_world.proofs.Kept.{IsNextCall}
+use Rattle.lane_world.proofs.SeenMore.{begins_same}
+use Rattle.run_history.proofs.Stamped.{HaveReadings}
 use Rattle.call_laws.proofs.Parts.{IsPart, part_at, part_none}
-use Rattle.lane_world.proofs.PartLists.{IsEntered}
 use Rattle.call_laws.proofs.Entering.{looks_made}
 use Rattle.call_laws.proofs.SeenOff.{sent_seen, was_seen}
-use Rattle.call_laws.proofs.Starts.{arming_of, is_arming, limit_within, start_reads, started_so}
+use Rattle.call_laws.proofs.Starts.{arming_of, is_arming, limit_within, start_reads}
 use Rattle.pass_names.proofs.Passes.{begins_length}
 use Rattle.std.proofs.Common.{Option, None}
 use Rattle.seq_timer.specs.Histories.{IsIdle}
@@ -63,28 +60,18 @@ use Rattle.lane_world.specs.Called.{LaneOf}
 use Rattle.lane_world.specs.Worlds.{WorldOf}
 use Rattle.call_laws.proofs.CallKept.{opened_timers}
 use Rattle.pass_names.specs.Passes.{Begins}
-use Rattle.call_laws.proofs.Parts.{part_then}
 use Rattle.std.proofs.Common.{nat_eq, if◌then◌else◌}
 use Rattle.std.proofs.Common.{true}
 use Rattle.timer_setting.specs.Arguments as settings
 use Rattle.timer_setting.specs.Arguments.{mode_by}
 use Rattle.timer_objects.specs.Arming.{ArmsFor}
 
--- a record's clock has a reading
-abbrev pub HasRead : ClockReading → List ClockLine → Type 0
-HasRead reading clock = reading_at clock reading.stamp ≡ reading
-
 -- ---- entries of a timer
 
--- law: the receipts of a part stand between what was seen before and behind it
-pub places_inside : {IsSo : List ClockLine → Type 0} {v w : KnownOfTimers} {notes : List PlacedEntry} → EntersNotes IsSo v w notes
-    → AllByRecursion (λ x. (length v.seen ≤ x.place) × (x.place < length w.seen)) notes
-places_inside {v = v} {w = w} {notes = notes} enters =
-    inside_of (length v.seen) (length v.seen) (length w.seen) notes (omega arith) enters.made.rise enters.made.below
-
 -- what a part of a call did to timers alone: its notes, and that they are a part
-abbrev pub TimersPart : LaneOf → ClockReading → KnownOfTimers → KnownOfTimers → List Action → List Receipt → Type 0
-TimersPart l reading v w actions log = (notes : List PlacedEntry) × IsPart (HasRead reading) l.label v l.pass.objects w l.pass.objects actions notes log []
+abbrev pub TimersPart : Script → LaneOf → ClockReading → KnownOfTimers → KnownOfTimers → List Action → List Receipt → Type 0
+TimersPart s l reading v w actions log =
+    (notes : List PlacedEntry) × IsPart s (HasRead reading) l.label v l.pass.objects w l.pass.objects actions notes (notes_of l.label log [])
 
 -- what became of a start, by the timer where it ended
 abbrev pub IsArmedSo : Arm → Timer → Type 0
@@ -105,7 +92,7 @@ pub record TimerPart (s : Script) (x : WorldOf) (l : LaneOf) (t : ℕ) (begin w 
   pub mine : begin.mine ≡ l.pass.timers.known.mine
   pub start : List Action
   pub arms : ArmsIn s begin w t mode ns base reading arm start
-  pub part : TimersPart l reading begin w (cancels t cancel ++ start) log
+  pub part : TimersPart s l reading begin w (cancels t cancel ++ start) log
   pub armed : IsArmedSo arm (timer_then x.timers.about w.seen t)
 
 -- the span of a call that starts the timer only where it has expired, by the timer where the call found it and where it left it
@@ -116,48 +103,50 @@ IsRearmSpan before now arm from to = (from ≡ before.stamp) × (to ≡ now.stam
 module _ {s : Script} {x : WorldOf} {l : LaneOf} {call : Call} (next : IsNextCall s x l call) (t : ℕ) (reading : ClockReading) {v w : KnownOfTimers} where
   -- the entries that the call made of its timer at a moment, with a receipt of each
   part_of : {at : List SystemEntry} {es : List histories.Entry} {actions : List Action} → MadeAt v w t at es
-      → ((clock : List ClockLine) → HasRead reading clock → HaveReadings clock es) → AllByRecursion IsEntered actions
-      → numbered t (timer_then x.timers.about at t).stamp (map entry_stamped es) ≡ all_entered actions
-      → TimersPart l reading v w actions (receipts_of t (timer_then x.timers.about at t).stamp es)
-  part_of made reads only are = part_at x.timers.about (declareds_of s) (terms_of s) (opened_timers next) made reads refl only are
+      → ((clock : List ClockLine) → HasRead reading clock → HaveReadings clock es) → actions ≡ entered_on t (timer_then x.timers.about at t).stamp es
+      → TimersPart s l reading v w actions (receipts_of t (timer_then x.timers.about at t).stamp es)
+  part_of {at = at} {es = es} made reads are =
+      subst (λ ds. TimersPart s l reading v w ds (receipts_of t (timer_then x.timers.about at t).stamp es)) (sym are)
+      (part_at x.timers.about (opened_timers next) made reads)
 
   -- law: the disarming of a settime is a part of it: the cancel of its timer, or a look at an idle one
   pub disarmed_part : {log : List Receipt} (answer : CancelAnswer) (c : Cancels x.timers.about v w t answer) → ((g n : ℕ) → answer ≡ cancelled.Running g n → ⊥)
       → log ≡ receipts_of t (timer_then x.timers.about c.at t).stamp (cancel_entries answer)
-      → (cancel : Option (ℕ × ℕ)) × TimersPart l reading v w (cancels t cancel) log × (cancel ≡ None → IsIdle (timer_then x.timers.about c.at t))
+      → (cancel : Option (ℕ × ℕ)) × TimersPart s l reading v w (cancels t cancel) log × (cancel ≡ None → IsIdle (timer_then x.timers.about c.at t))
   disarmed_part (cancelled.Idle n) c ended adds =
       let looks = looks_made c.made in
-      (None, subst (TimersPart l reading v w []) (sym adds) ([], part_none looks.0 looks.1), λ none. c.fits.0)
+      (None, subst (TimersPart s l reading v w []) (sym adds) ([], part_none looks.0 looks.1), λ none. c.fits.0)
   disarmed_part (cancelled.Running g n) c ended adds = absurd (ended g n refl)
   disarmed_part (cancelled.Cancelled g n) c ended adds =
       let number = (timer_then x.timers.about c.at t).stamp + 1 in (
         Some (number, g),
-        subst (TimersPart l reading v w (cancels t (Some (number, g)))) (sym adds) (part_of c.made (λ clock has. (refl, tt)) (tt, tt) refl),
+        subst (TimersPart s l reading v w (cancels t (Some (number, g)))) (sym adds) (part_of c.made (λ clock has. (refl, tt)) refl),
         λ none. let no : Some (number, g) ≡ None = none in absurd (cc),
       )
 
 -- a start, or none, behind what the call had done to the timer by then
 module _ {s : Script} {x : WorldOf} {l : LaneOf} {call : Call} (next : IsNextCall s x l call) (t : ℕ) (reading : ClockReading) {begin v w : KnownOfTimers}
-    {cancel : Option (ℕ × ℕ)} {done log : List Receipt} (seen : Begins l.pass.timers.known.seen begin.seen)
-    (mine : begin.mine ≡ l.pass.timers.known.mine) (before : TimersPart l reading begin v (cancels t cancel) done) {base : ℕ} where
-  started : {mode : Mode} {ns : ℕ} {arm : Arm} (start : List Action) {more : List Receipt} → log ≡ done ++ more
-      → ArmsIn s begin w t mode ns base reading arm start → TimersPart l reading v w start more
+    {cancel : Option (ℕ × ℕ)} (done : List Receipt) {log : List Receipt} (seen : Begins l.pass.timers.known.seen begin.seen)
+    (mine : begin.mine ≡ l.pass.timers.known.mine) (before : TimersPart s l reading begin v (cancels t cancel) done) {base : ℕ} where
+  started : {mode : Mode} {ns : ℕ} {arm : Arm} (start : List Action) (more : List Receipt) → log ≡ done ++ more
+      → ArmsIn s begin w t mode ns base reading arm start → TimersPart s l reading v w start more
       → IsArmedSo arm (timer_then x.timers.about w.seen t) → TimerPart s x l t begin w mode ns base reading arm cancel log
-  started start adds arms part armed =
-      let both = subst (TimersPart l reading begin w (cancels t cancel ++ start)) (sym adds) (before.0 ++ part.0, part_then before.1 part.1) in
+  started start more adds arms part armed =
+      let both = subst (TimersPart s l reading begin w (cancels t cancel ++ start)) (sym adds)
+      (before.0 ++ part.0, part_logged done more [] [] before.1 part.1) in
       record { seen = seen; mine = mine; start = start; arms = arms; part = both; armed = armed }
 
   -- law: no start
   pub start_none : (mode : Mode) (ns : ℕ) → w ≡ v → log ≡ done → TimerPart s x l t begin w mode ns base reading arms.NotAsked cancel log
   start_none mode ns alone same =
-      started [] (same ∙ sym (append-nil done)) (λ e joined goes. refl) ([], part_none (begins_same (ap (λ k. k.seen) alone)) (ap (λ k. k.mine) alone)) tt
+      started [] [] (same ∙ sym (append-nil done)) (λ e joined goes. refl) ([], part_none (begins_same (ap (λ k. k.seen) alone)) (ap (λ k. k.mine) alone)) tt
 
   start_by : (mode : Mode) (ns : ℕ) (a : StartAnswer) (c : StartsTimer x.timers.about v w t (asked_for mode ns 0 base reading) a)
       → log ≡ done ++ receipts_of t (timer_then x.timers.about c.at t).stamp (start_entries (timer_then x.timers.about c.at t) (asked_for mode ns 0 base reading) c.sent c.last a)
       → TimerPart s x l t begin w mode ns base reading (arm_of a) cancel log
   start_by mode ns (starts.Spent n) c adds =
       let looks = looks_made c.made in
-      started [] adds (λ e joined goes. refl) ([], part_none looks.0 looks.1)
+      started [] [] adds (λ e joined goes. refl) ([], part_none looks.0 looks.1)
       (subst (IsArmedSo (arms.Unarmed n)) (sym (timer_after x.timers.about v w t c.at [] c.made)) (sym c.fits.2, c.fits.1, c.fits.0))
   start_by mode ns (starts.Started was generation last outs placed) c adds =
       let o = x.timers.about in
@@ -165,25 +154,23 @@ module _ {s : Script} {x : WorldOf} {l : LaneOf} {call : Call} (next : IsNextCal
       let request = without_slack mode ns base in
       let asked = asked_for mode ns 0 base reading in
       let events = start_on asked c.sent c.last in
-      let as_told = started_so t request reading u c.sent c.last (starts.Started was generation last outs placed) c.fits.2 in
       let arming = arming_of u asked c.sent c.last in
-      let told = as_told.told in
+      let told = told_so t request reading u c.sent c.last (starts.Started was generation last outs placed) c.fits.2 in
       let number : generation ≡ arming.number = cc in
       let fits = c.fits.2 in
       let stamp : (step_all u events).stamp ≡ generation = cc in
-      let most = limit_within s o next.world.timers next.range.limit.0 c.at t in
-      let few : u.stamp < s.limit = omega (arith, c.fits.1, most) in
-      started (arming_actions t request reading.stamp arming) adds (λ e joined goes.
+      let few : u.stamp < s.limit = omega (arith, c.fits.1, (limit_within s o next.world.timers next.range.limit.0 c.at t)) in
+      started (arming_actions t request reading.stamp arming) _ adds (λ e joined goes.
       let Reached = WasOffLine (witness_of s e) (length begin.seen) (length w.seen) in
       let off : (b heir : ℕ) → WasOff o v.seen w.seen b heir → Reached b heir =
-      λ b heir was. was_wider (witness_of s e) (begins_length before.1.timers.enters.seen) (omega arith) b heir
+      λ b heir was. was_wider (witness_of s e) (begins_length before.1.enters.seen) (omega arith) b heir
       (was_seen s o next.world.timers e joined v.seen w.seen goes b heir was) in (
         arming,
         refl,
         number,
         is_arming Reached s.limit base u asked c.sent c.last few (sent_seen o v.seen w.seen Reached off base c.sent c.last c.on_way),
       ))
-      (part_of next t reading c.made (λ clock has. start_reads t request reading u c.sent c.last clock has) as_told.only as_told.entries)
+      (part_of next t reading c.made (λ clock has. start_reads t request reading u c.sent c.last clock has) (entries_so t request reading u c.sent c.last))
       (ap (λ (y : Timer). y.stamp) (timer_after o v w t c.at (entries_along u events) c.made ∙ along u events) ∙ stamp)
 
   -- law: a start that was wanted

@@ -1,12 +1,17 @@
 -- The callbacks of timers by themselves, behind the claims that they are run for.
-use Rattle.std.proofs.Common.{◌≡◌, ◌≤◌, ◌<◌, ℕ, ◌+◌, length, inl, inr, IsSome, Some, List, [], ◌∷◌, ◌++◌, arith, refl, sym, ap, ◌∙◌, subst}
+use Rattle.call_laws.proofs.Parts.{part_alone}
+use Rattle.call_laws.proofs.Stays.{saw_quiet}
+use Rattle.call_laws.proofs.Parts.{part_none}
+use Rattle.pass_names.specs.Passes.{Begins}
+use Rattle.std.proofs.Common.{◌++◌}
+use Rattle.std.proofs.Common.{◌≡◌, ◌≤◌, ◌<◌, ℕ, ◌+◌, length, inl, inr, IsSome, Some, List, [], ◌∷◌, arith, refl, sym, ap, ◌∙◌, subst}
 use Rattle.std.proofs.lemmas.List.{append-nil}
 use Rattle.ktime.specs.Readings.{ClockReading}
 use Rattle.seq_timer.specs.declared.context.Context.{Context}
 use Rattle.ktime.specs.declared.mode.Mode.TheVariants as modes
 use Rattle.seq_timer.specs.Histories as seq
 use Rattle.seq_timer.specs.Histories.{Holds}
-use Rattle.seq_timer.specs.Steps.{Timer, moved_by}
+use Rattle.seq_timer.specs.Steps.{moved_by}
 use Rattle.seq_timer.specs.Systems.{openings}
 use Rattle.seq_timer.specs.declared.event.EventBy.TheVariants as events
 use Rattle.seq_timer.specs.Events.{Asked, Event}
@@ -18,7 +23,6 @@ use Rattle.seq_timer.specs.declared.answer.ForwardAnswer.{ForwardAnswer}
 use Rattle.seq_timer.specs.declared.answer.ForwardAnswer.TheVariants as forwards
 use Rattle.base_row.specs.Calls.{opening_of}
 use Rattle.base_row.specs.declared.view.Opening.{Opening}
-use Rattle.hr_timers.proofs.Moments.{timer_after}
 use Rattle.hr_timers.specs.Calls.{Forwards, StartsTimer}
 use Rattle.hr_timers.specs.Known.{KnownOfTimers, MadeAt, timer_then}
 use Rattle.hr_timers.specs.Ways as ways
@@ -43,19 +47,17 @@ use Rattle.script_text.specs.declared.script.Callback.{Callback}
 use Rattle.script_text.specs.declared.script.Kind.TheVariants as kinds
 use Rattle.script_text.specs.declared.script.Script.{Script}
 use Rattle.lane_notes.specs.Entries.{look_noted}
-use Rattle.run_history.specs.Calls.{IsBody, IsCallback}
+use Rattle.run_history.specs.Calls.{IsBody}
 use Rattle.run_history.specs.Receipts.{count}
 use Rattle.run_history.specs.Promises.{GoesOn}
 use Rattle.run_history.specs.Runs.{witness_of, Ending, IsJoined}
 use Rattle.run_history.specs.Truths.{WasOffLine}
 use Rattle.run_history.specs.Witnesses.{TimersList}
-use Rattle.run_history.proofs.PassState.{saw_from, state_seen}
-use Rattle.run_history.proofs.Promise.{seen_first}
-use Rattle.lane_world.proofs.Kept.{begins_same, count_begins}
+use Rattle.lane_world.proofs.SeenMore.{begins_same, count_begins}
 use Rattle.lane_world.specs.Worlds.{callback_of}
-use Rattle.call_laws.proofs.Entering.{enters_none, EntersNotes, stamp_counts}
+use Rattle.call_laws.proofs.Entering.{enters_none, stamp_counts}
 use Rattle.run_history.proofs.Stamped.{HasReading, entry_stamped}
-use Rattle.call_laws.proofs.Parts.{BodyKept, HasRead, IsClaimed, fired_of, part_at, part_claimed, part_entered, part_looked}
+use Rattle.call_laws.proofs.Parts.{BodyKept, HasRead, IsClaimed, fired_of, part_at, part_claimed, part_looked}
 use Rattle.timer_objects.specs.Firings.{Firing}
 use Rattle.call_laws.proofs.Entering.{looks_made}
 use Rattle.call_laws.proofs.SeenOff.{sent_seen, was_seen}
@@ -65,73 +67,58 @@ use Rattle.call_laws.proofs.Starts.{arming_of, is_arming, limit_within}
 
 module _ (s : Script) (o : Opening) (is : o ≡ opening_of s.bases (declareds_of s) (terms_of s)) (some : 1 ≤ s.limit)
     (label : Label) (c : ClaimNumbers) (reading : ClockReading) {base : ℕ} {k v : KnownOfTimers}
-    (claim : IsClaimed base c reading k v) (restart : Restart) (w : KnownOfTimers) (h h' : Firing)
+    (claim : IsClaimed s base c reading k v) (restart : Restart) (w : KnownOfTimers) (h h' : Firing)
     (same : h'.objects_pass.now ≡ h.objects_pass.now) (same_log : h'.object_log.receipts ≡ h.object_log.receipts) where
   on : o.timers ≡ openings (declareds_of s) (terms_of s)
   on = ap (λ (x : Opening). x.timers) is
 
   -- the function's actions are those of the timer's callback
-  abbrev Does : Callback → List Action → Type 0
-  Does callback body = (e : Ending) → IsJoined s e → GoesOn w.seen e → (finish : ℕ) (restarted : Restarted)
-      → IsCallback (WasOffLine (witness_of s e) (length v.seen) (length w.seen)) s.limit callback reading.stamp (fired_of c body finish (asks restart) restarted)
-
-  declared : {y : Context} {callback : Callback} (body : List Action) → kind_of s c.timer ≡ kinds.Raw y callback → Does callback body → (e : Ending)
-      → IsJoined s e → GoesOn w.seen e → (finish : ℕ) (restarted : Restarted)
+  abbrev Does : List Action → Type 0
+  Does body = (e : Ending) → IsJoined s e → GoesOn w.seen e → (finish : ℕ) (restarted : Restarted)
       → IsBody (WasOffLine (witness_of s e) (length v.seen) (length w.seen)) s.limit (kind_of s c.timer) reading.stamp
       (fired_of c body finish (asks restart) restarted)
-  declared body kind does e joined goes finish restarted = rw kind (does e joined goes finish restarted)
 
   -- a callback that looked at its timer and made no entry
-  looked_kept : {y : Context} {callback : Callback} {at : List SystemEntry} {number : ℕ} (event : Event) (observation : Observation) (reply : CallbackReply)
-      → kind_of s c.timer ≡ kinds.Raw y callback → MadeAt v w c.timer at [] → look_noted observation ≡ Some reply → observed reply ≡ observation
+  looked_kept : {at : List SystemEntry} {number : ℕ} (event : Event) (observation : Observation) (reply : CallbackReply) → MadeAt v w c.timer at []
+      → look_noted observation ≡ Some reply → observed reply ≡ observation
       → h'.log.receipts ≡ h.log.receipts ++ look_receipt c number event observation ∷ [] → number ≡ (timer_then o at c.timer).stamp
-      → Holds (timer_then o at c.timer) observation → IsBelowLimit s.limit number reply → Does callback (Looked c.timer number reply ∷ [])
+      → Holds (timer_then o at c.timer) observation → IsBelowLimit s.limit number reply → Does (Looked c.timer number reply ∷ [])
       → BodyKept s label claim restart w h h'
-  looked_kept {at = at} {number = number} event observation reply kind made noted observes logs stamp holds below does =
+  looked_kept {at = at} {number = number} event observation reply made noted observes logs stamp holds below does =
       let counted : number ≡ count (TimersList c.timer) at = stamp ∙ stamp_counts o (declareds_of s) (terms_of s) at c.timer on in
-      let low = count_begins (TimersList c.timer) made.from in
-      let high = count_begins (TimersList c.timer) made.seen in
       let looks = looks_made made in
-      let state : timer_then o at c.timer ≡ state_seen s w.seen c.timer =
-      sym (timer_after o v w c.timer at [] made) ∙ ap (λ (x : Opening). timer_then x w.seen c.timer) is in
       record {
         body = Looked c.timer number reply ∷ [];
         notes = [];
         more = look_receipt c number event observation ∷ [];
         object_more = [];
-        adds = logs;
-        adds_objects = same_log ∙ sym (append-nil h.object_log.receipts);
+        adds = (logs, same_log ∙ sym (append-nil h.object_log.receipts));
         enters = enters_none looks.0 looks.1;
-        part = part_looked claim number event observation reply looks.0 looks.1 same noted (omega (arith, counted, low)) (omega (arith, counted, high));
-        kind = declared (Looked c.timer number reply ∷ []) kind does;
-        holds = λ e joined goes before points. (
-          rw observes (saw_from (witness_of s e) w.seen goes.0 (seen_first w.seen joined goes) c.timer number observation
-              (ap (λ (u : Timer). u.stamp) (sym state) ∙ sym stamp) (rw (← state) holds)),
-          below,
+        part = part_alone same (part_looked claim number event observation reply looks.0 looks.1 noted
+            (omega (arith, counted, (count_begins (TimersList c.timer) made.from))) (omega (arith, counted, (count_begins (TimersList c.timer) made.seen))));
+        ran = λ e joined goes follows finish restarted. (
+          does e joined goes finish restarted,
+          λ before points. (rw observes (saw_quiet is joined goes made number observation stamp holds), below),
+          tt,
         );
-        span = λ e follows finish rearmed. tt;
       }
 
   -- a callback that made an entry of its timer
-  entered_kept : {y : Context} {callback : Callback} {at : List SystemEntry} {e : seq.Entry} → kind_of s c.timer ≡ kinds.Raw y callback
-      → MadeAt v w c.timer at (e ∷ []) → ((clock : List ClockLine) → HasRead reading clock → HasReading clock e.event)
+  entered_kept : {at : List SystemEntry} {e : seq.Entry} → MadeAt v w c.timer at (e ∷ [])
+      → ((clock : List ClockLine) → HasRead reading clock → HasReading clock e.event)
       → h'.log.receipts ≡ h.log.receipts ++ receipts_of c.timer (timer_then o at c.timer).stamp (e ∷ [])
-      → Does callback (Entered c.timer ((timer_then o at c.timer).stamp + 1) (entry_stamped e) ∷ []) → BodyKept s label claim restart w h h'
-  entered_kept {at = at} {e = e} kind made reads logs does =
-      let body = Entered c.timer ((timer_then o at c.timer).stamp + 1) (entry_stamped e) ∷ [] in
-      let its = part_at o (declareds_of s) (terms_of s) {actions = body} on made (λ clock has. (reads clock has, tt)) same (tt, tt) refl in
+      → Does (Entered c.timer ((timer_then o at c.timer).stamp + 1) (entry_stamped e) ∷ []) → BodyKept s label claim restart w h h'
+  entered_kept {at = at} {e = e} made reads logs does =
+      let its = part_at {IsSo = HasRead reading} {label = label} o {p = h.objects_pass.now} on made (λ clock has. (reads clock has, tt)) in
       record {
-        body = body;
+        body = Entered c.timer ((timer_then o at c.timer).stamp + 1) (entry_stamped e) ∷ [];
         notes = its.0;
         more = receipts_of c.timer (timer_then o at c.timer).stamp (e ∷ []);
         object_more = [];
-        adds = logs;
-        adds_objects = same_log ∙ sym (append-nil h.object_log.receipts);
-        enters = its.1.timers.enters;
-        part = part_claimed claim its.1;
-        kind = declared body kind does;
-        holds = λ e joined goes before points. tt;
-        span = λ e follows finish restarted. tt;
+        adds = (logs, same_log ∙ sym (append-nil h.object_log.receipts));
+        enters = its.1.enters;
+        part = part_alone same (part_claimed claim (receipts_of c.timer (timer_then o at c.timer).stamp (e ∷ [])) [] its.1);
+        ran = λ e joined goes follows finish restarted. (does e joined goes finish restarted, λ before points. tt, tt);
       }
 
   -- law: the actions of the callback of a timer by itself, as its timer declares it
@@ -144,36 +131,33 @@ module _ (s : Script) (o : Opening) (is : o ≡ opening_of s.bases (declareds_of
         notes = [];
         more = [];
         object_more = [];
-        adds = run.1 ∙ sym (append-nil h.log.receipts);
-        adds_objects = same_log ∙ sym (append-nil h.object_log.receipts);
-        enters = still;
-        part = part_claimed claim (part_entered still same tt refl refl refl);
-        kind = declared [] kind (λ e joined goes finish restarted. (refl, ap asks run.2));
-        holds = λ e joined goes before points. tt;
-        span = λ e follows finish rearmed. tt;
+        adds = (run.1 ∙ sym (append-nil h.log.receipts), same_log ∙ sym (append-nil h.object_log.receipts));
+        enters = enters_none looks.0 looks.1;
+        part = part_alone same (part_claimed claim [] [] (part_none looks.0 looks.1));
+        ran = λ e joined goes follows finish restarted. (rw kind (refl, ap asks run.2), λ before points. tt, tt);
       }
     where
-      still : EntersNotes (HasRead reading) v w []
-      still = enters_none (begins_same (ap (λ k. k.seen) run.0)) (ap (λ k. k.mine) run.0)
+      looks : Begins v.seen w.seen × (w.mine ≡ v.mine)
+      looks = (begins_same (ap (λ k. k.seen) run.0), ap (λ k. k.mine) run.0)
   callback_kept y (callbacks.Every interval) kind run = forwards_kept run.0.answer run.0.forwards run.0.receipts
     where
       forwards_kept : (answer : ForwardAnswer) (f : Forwards o v w c reading interval answer)
           → h'.log.receipts ≡ h.log.receipts ++ forward_noted c (timer_then o f.at c.timer) reading interval answer → BodyKept s label claim restart w h h'
       forwards_kept (forwards.Spent n) f logs =
-          looked_kept (events.Forward reading interval) observations.Spent replies.Spent kind f.made refl refl logs f.fits.1 f.fits.0 tt
-          (λ e joined goes finish restarted. (inr (inr (n, refl)), ap asks run.1))
+          looked_kept (events.Forward reading interval) observations.Spent replies.Spent f.made refl refl logs f.fits.1 f.fits.0 tt
+          (λ e joined goes finish restarted. rw kind (inr (inr (n, refl)), ap asks run.1))
       forwards_kept (forwards.Armed g n) f logs =
-          looked_kept (events.Forward reading interval) (observations.Armed g) (replies.Armed g) kind f.made refl refl logs f.fits.2
+          looked_kept (events.Forward reading interval) (observations.Armed g) (replies.Armed g) f.made refl refl logs f.fits.2
           (subst IsSome (sym f.runs) refl, f.fits.1)
           (let most = limit_within s o is some f.at c.timer in omega (arith, f.fits.0, f.fits.2, most))
-          (λ e joined goes finish restarted. (inr (inl (n, g, refl)), ap asks run.1))
+          (λ e joined goes finish restarted. rw kind (inr (inl (n, g, refl)), ap asks run.1))
       forwards_kept (forwards.Forwarded number moved) f logs =
           let u = timer_then o f.at c.timer in
-          entered_kept kind f.made (λ clock has. ap (λ r. events.Forward r interval) has) logs
-          (λ e joined goes finish restarted. (inl (u.stamp + 1, moved_by u reading interval, refl), ap asks run.1))
+          entered_kept f.made (λ clock has. ap (λ r. events.Forward r interval) has) logs
+          (λ e joined goes finish restarted. rw kind (inl (u.stamp + 1, moved_by u reading interval, refl), ap asks run.1))
   callback_kept y callbacks.Cancels kind run =
-      looked_kept events.Cancel (observations.Running c.generation) (replies.Running c.generation) kind run.0.cancels.made refl refl run.0.receipt
-      run.0.cancels.fits.1 run.0.cancels.fits.0 tt (λ e joined goes finish restarted. ((run.0.stamp, refl), ap asks run.1))
+      looked_kept events.Cancel (observations.Running c.generation) (replies.Running c.generation) run.0.cancels.made refl refl run.0.receipt
+      run.0.cancels.fits.1 run.0.cancels.fits.0 tt (λ e joined goes finish restarted. rw kind ((run.0.stamp, refl), ap asks run.1))
   callback_kept y (callbacks.Starts ns asked) kind run = begins_kept run.0.answer run.0.starts run.0.runs run.0.unsent run.0.receipts
     where
       asks_for : Asked
@@ -183,8 +167,8 @@ module _ (s : Script) (o : Opening) (is : o ≡ opening_of s.bases (declareds_of
           → IsUnsent f.sent answer → h'.log.receipts ≡ h.log.receipts ++ start_noted c (timer_then o f.at c.timer) asks_for answer
           → BodyKept s label claim restart w h h'
       begins_kept (starts.Spent n) f runs unsent logs =
-          looked_kept (events.Start asks_for) observations.Spent replies.Spent kind f.made refl refl logs f.fits.2 f.fits.1 tt
-          (λ e joined goes finish restarted. (inr (n, refl), ap asks run.1))
+          looked_kept (events.Start asks_for) observations.Spent replies.Spent f.made refl refl logs f.fits.2 f.fits.1 tt
+          (λ e joined goes finish restarted. rw kind (inr (n, refl), ap asks run.1))
       begins_kept (starts.Started was generation last outs placed) f runs unsent logs =
           let u = timer_then o f.at c.timer in
           let fits = f.fits.2 in
@@ -194,11 +178,10 @@ module _ (s : Script) (o : Opening) (is : o ≡ opening_of s.bases (declareds_of
           (subst (λ bs. MadeAt v w c.timer f.at (entries_along u (start_on asks_for bs f.last))) unsent f.made) in
           let way : ways.IsSentBy o v.seen w.seen asked [] last =
           subst (λ b. ways.IsSentBy o v.seen w.seen asked [] b) same_last (subst (λ bs. ways.IsSentBy o v.seen w.seen asked bs f.last) unsent f.on_way) in
-          let most = limit_within s o is some f.at c.timer in
-          let few : u.stamp < s.limit = omega (arith, f.fits.1, most) in
-          entered_kept kind made (λ clock has. ap (λ r. events.Start (asked_for modes.Rel ns 0 last r)) has) logs
+          let few : u.stamp < s.limit = omega (arith, f.fits.1, (limit_within s o is some f.at c.timer)) in
+          entered_kept made (λ clock has. ap (λ r. events.Start (asked_for modes.Rel ns 0 last r)) has) logs
           (λ e joined goes finish restarted.
-          let Reached = WasOffLine (witness_of s e) (length v.seen) (length w.seen) in (
+          let Reached = WasOffLine (witness_of s e) (length v.seen) (length w.seen) in rw kind (
             inl (
               arming_of u asks_for [] last,
               refl,

@@ -1,9 +1,18 @@
 -- Timers that a call moved off a base, one after the other, as a part of the call.
+use Rattle.std.proofs.lemmas.Bool.{cases_lt}
+use Rattle.std.proofs.Common.{⊎_elim}
+use Rattle.std.proofs.Common.{ne_eqb}
+use Rattle.call_laws.proofs.Parts.{part_as}
+use Rattle.hr_timers.specs.Moves.{IsFront as IsFrontOf}
+use Rattle.call_laws.proofs.Noted.{entered_on, notes_of}
+use Rattle.call_laws.proofs.Stays.{system_stays, timer_stays}
+use Rattle.call_laws.proofs.Parts.{part_logged}
+use Rattle.run_history.specs.Actions.{Action, Entered}
 use Rattle.std.proofs.Common.{◌≡◌, ◌<◌, ◌≤◌, ℕ, ◌+◌, ◌-◌, Bool, true, false, ◌&&◌, not, is_some, nat_eq, List, [], ◌∷◌, ◌++◌, length, take, map, arith, refl, sym, ap, ◌∙◌, subst}
 use Rattle.std.specs.List.{AllByRecursion}
 use Rattle.std.specs.Prelude.{flat_map, if◌then◌else◌}
 use Rattle.std.proofs.Math.Seq.{take-append_seam}
-use Rattle.std.proofs.lemmas.Bool.{eqb-true, true≢false}
+use Rattle.std.proofs.lemmas.Bool.{true≢false}
 use Rattle.std.proofs.lemmas.List.{append_assoc, append-nil, get_or-map, length-append}
 use Rattle.std.proofs.lemmas.Grind.{flat_map-append}
 use Rattle.script_text.proofs.Lists.{All-append}
@@ -17,7 +26,7 @@ use Rattle.record_text.specs.declared.record.Entry.{Entry}
 use Rattle.seq_timer.specs.Steps.{Timer, after, opening, placement_of, reply_to}
 use Rattle.seq_timer.specs.Calls.{asked_for, step_all}
 use Rattle.seq_timer.specs.Contents.{front_of}
-use Rattle.seq_timer.specs.Systems.{AreSystemSteps, System, after_one, entries_of, first_system, openings, system_after}
+use Rattle.seq_timer.specs.Systems.{AreSystemSteps, System, after_one, entries_of, first_system, openings}
 use Rattle.seq_timer.specs.Tables.{is_armed_on, no_declared, no_timer, timer_at}
 use Rattle.seq_timer.specs.declared.event.EventBy.TheVariants as events
 use Rattle.seq_timer.specs.declared.system.SystemEntry.{SystemEntry}
@@ -26,50 +35,44 @@ use Rattle.seq_timer.proofs.Agreement.{all_fresh}
 use Rattle.seq_timer.proofs.Systems.{entries_of-append}
 use Rattle.base_row.specs.Logs.{LogOf, kept, receipts_of}
 use Rattle.base_row.specs.declared.log.Receipt.{Receipt}
-use Rattle.base_row.specs.declared.view.Opening.{Opening}
 use Rattle.pass_names.proofs.Passes.{begins_length}
 use Rattle.base_row.proofs.Logging.{all_kept}
 use Rattle.hr_timers.specs.Known.{KnownOfTimers, timer_then}
-use Rattle.hr_timers.specs.Moves.{AreMoved, IsFront as IsFrontOf, MovesTimer, move_entries}
+use Rattle.hr_timers.specs.Moves.{AreMoved, MovesTimer, move_entries}
 use Rattle.hr_timers.proofs.Moments.{timer_own}
 use Rattle.script_text.specs.Declarations.{declared_of, declareds_of, terms_of}
 use Rattle.script_text.specs.declared.script.Call.{Call}
 use Rattle.script_text.specs.declared.script.Script.{Script}
-use Rattle.lane_notes.specs.Entries.{look_note, look_notes}
 use Rattle.run_history.specs.Calls.{KeepsExpiries, evacuates}
 use Rattle.run_history.specs.Histories.{history_of, lines_of_timer, timer_after}
 use Rattle.run_history.specs.Promises.{GoesOn}
 use Rattle.run_history.specs.Receipts.{PlacedEntry}
 use Rattle.run_history.specs.Runs.{Ending, IsJoined, witness_of}
-use Rattle.run_history.specs.Traces.{all_entered}
 use Rattle.run_history.specs.Truths.{IsFront, WasFront}
-use Rattle.run_history.specs.Witnesses.{Evacuation, OfTimer, Shown, TimersList, Witness, timer_along}
-use Rattle.run_history.proofs.Known.{numbered}
+use Rattle.run_history.specs.Witnesses.{Evacuation, TimersList, Witness}
 use Rattle.run_history.proofs.OwnHistories.{entries_on, history_shown, own_entry}
-use Rattle.run_history.proofs.PassState.{system_seen, timer_seen}
-use Rattle.run_history.proofs.Promise.{seen_first}
-use Rattle.run_history.proofs.Stamped.{entry_stamped}
 use Rattle.lane_world.specs.Called.{LaneOf}
 use Rattle.lane_world.specs.Worlds.{WorldOf}
 use Rattle.call_laws.proofs.CallKept.{opened_timers}
-use Rattle.call_laws.proofs.Entering.{receipts_of-no_looks, stamp_counts}
-use Rattle.lane_world.proofs.Kept.{IsNextCall, begins_same, goes_before}
-use Rattle.lane_world.proofs.PartLists.{IsEntered, notes-append}
-use Rattle.call_laws.proofs.Parts.{HasRead, IsPart, part_at, part_none, part_then}
+use Rattle.call_laws.proofs.Entering.{stamp_counts}
+use Rattle.lane_world.proofs.Kept.{IsNextCall}
+use Rattle.lane_world.proofs.SeenMore.{begins_same, goes_before}
+use Rattle.call_laws.proofs.Parts.{HasRead, IsPart, part_at, part_none}
 use Rattle.timer_objects.specs.Known.{ObjectsPass}
 
 -- ---- timers that are there
 
--- an entry of a timer is of one that is there
-some_within : (bases many : ℕ) (w : System) (es : List SystemEntry) (t : ℕ) → AreSystemSteps bases many w es → 0 < length (entries_of t es) → t < many
-some_within bases many w [] t steps some = absurd (omega (arith, some))
-some_within bases many w (entries.Base c ∷ es) t steps some = some_within bases many (after_one w (entries.Base c)) es t steps.1 some
-some_within bases many w (entries.Timer e ∷ es) t steps some =
-    elim (nat_eq e.timer t) as (λ b. nat_eq e.timer t ≡ b
-    → 0 < length (if b then record { event = e.event; reply = e.reply } ∷ entries_of t es else entries_of t es) → t < many) [
-      | true ↦ λ is more. subst (λ u. u < many) (eqb-true e.timer t is) steps.0.within
-      | false ↦ λ is more. some_within bases many (after_one w (entries.Timer e)) es t steps.1 more
-    ] refl some
+-- a timer that isn't there has no entries
+none_past : (bases many t : ℕ) (w : System) (es : List SystemEntry) → many ≤ t → AreSystemSteps bases many w es → entries_of t es ≡ []
+none_past bases many t w [] past steps = refl
+none_past bases many t w (entries.Base c ∷ es) past steps = none_past bases many t (after_one w (entries.Base c)) es past steps.1
+none_past bases many t w (entries.Timer e ∷ es) past steps =
+    ap (λ b. if b then record { event = e.event; reply = e.reply } ∷ entries_of t es else entries_of t es)
+    (ne_eqb e.timer t (λ is. omega (arith, is, past, steps.0.within))) ∙ none_past bases many t (after_one w (entries.Timer e)) es past steps.1
+
+front_none : {X : Type 0} (xs ys : List X) → xs ++ ys ≡ [] → xs ≡ []
+front_none [] ys none = refl
+front_none (x ∷ xs) ys none = absurd (cc)
 
 -- the first of three that hold
 first_of : (a b c : Bool) → (a && b && c) ≡ true → a ≡ true
@@ -80,27 +83,15 @@ module _ {s : Script} {x : WorldOf} {l : LaneOf} {call : Call} (next : IsNextCal
   -- law: an armed timer is there
   pub armed_there : (seen : List SystemEntry) → GoesOn seen e → (base t : ℕ) → is_armed_on base (timer_then x.timers.about seen t) ≡ true
       → t < length (declareds_of s)
-  armed_there seen goes base t armed =
-      some_within s.bases (length (declareds_of s)) (first_system (openings (declareds_of s) (terms_of s))) e.order t joined.history
-      (subst (λ xs. 0 < length (entries_of t xs)) (sym goes.1) (subst (λ es. 0 < length es) (sym (entries_of-append t seen goes.0))
-      (more (entries_of t seen) (entries_of t goes.0) (some (entries_of t seen)
-      (ap (λ (u : Timer). is_some u.armed) (timer_own x.timers.about seen t)) (is_armed (timer_then x.timers.about seen t) armed)))))
-    where
-      is_armed : (u : Timer) → is_armed_on base u ≡ true → is_some u.armed ≡ true
-      is_armed u on = first_of (is_some u.armed) (not u.moving) (nat_eq u.base base) on
-
-      unarmed : is_some (timer_at x.timers.about.timers t).armed ≡ false
-      unarmed = ap (λ ts. is_some (timer_at ts t).armed) (opened_timers next) ∙ ap is_some (all_fresh (declareds_of s) (terms_of s) t).armed
-
-      some : (es : List seq.Entry)
-          → is_some (timer_then x.timers.about seen t).armed ≡ is_some (seq.after_all (timer_at x.timers.about.timers t) es).armed
-          → is_some (timer_then x.timers.about seen t).armed ≡ true → 0 < length es
-      some [] same on = absurd (true≢false (sym on ∙ same ∙ unarmed))
-      some (y ∷ es) same on = omega arith
-
-      more : (es fs : List seq.Entry) → 0 < length es → 0 < length (es ++ fs)
-      more [] fs less = absurd (omega (arith, less))
-      more (y ∷ es) fs less = omega arith
+  armed_there seen goes base t armed = ⊎_elim (λ less. less) (λ past.
+      let u = timer_then x.timers.about seen t in
+      let none = none_past s.bases (length (declareds_of s)) t (first_system (openings (declareds_of s) (terms_of s))) e.order past joined.history in
+      let of_seen = front_none (entries_of t seen) (entries_of t goes.0) (sym (entries_of-append t seen goes.0) ∙ ap (entries_of t) (sym goes.1) ∙ none) in
+      absurd (true≢false (sym (first_of (is_some u.armed) (not u.moving) (nat_eq u.base base) armed)
+      ∙ ap (λ (y : Timer). is_some y.armed) (timer_own x.timers.about seen t)
+      ∙ ap (λ es. is_some (seq.after_all (timer_at x.timers.about.timers t) es).armed) of_seen
+      ∙ ap (λ ts. is_some (timer_at ts t).armed) (opened_timers next) ∙ ap is_some (all_fresh (declareds_of s) (terms_of s) t).armed)))
+      (cases_lt t (length (declareds_of s)))
 
   -- law: it is, by its own lines, what a pass has seen of it
   pub own_timer : (seen : List SystemEntry) → GoesOn seen e → (t : ℕ) → t < length (declareds_of s)
@@ -125,27 +116,23 @@ abbrev pub evacuation : ℕ → ClockReading → ℕ → Timer → Evacuation
 evacuation heir reading t u =
     record { timer = t; before = u.stamp; ns = u.soft; slack = u.expires - u.soft; placement = placement_of (step_all u (move_events u heir reading)) }
 
--- its entries are those that the record shows
-move_shown : (heir : ℕ) (reading : ClockReading) (t : ℕ) (u : Timer) (armed : Bool) → is_some u.armed ≡ armed → armed ≡ true
-    → numbered t u.stamp (map entry_stamped (move_entries u heir reading)) ≡ all_entered (evacuates heir reading.stamp (evacuation heir reading t u))
-move_shown heir reading t u armed is on =
+-- its entries are what the call did
+move_shown : (heir : ℕ) (reading : ClockReading) (t : ℕ) (u : Timer) → is_some u.armed ≡ true
+    → entered_on t u.stamp (move_entries u heir reading) ≡ flat_map (evacuates heir reading.stamp) (evacuation heir reading t u ∷ [])
+move_shown heir reading t u on =
     let asked = asked_for modes.Keep u.soft (u.expires - u.soft) heir reading in
     let start : Entry = record { event = stamped (events.Start asked); reply = reply_to (after u (events.Out heir)) (events.Start asked) } in
-    let shown : Bool → ℕ → List (ℕ × Shown) = λ b n. (u.stamp + 1, OfTimer t (record { event = events.Out heir; reply = replies.Out b })) ∷ (n, OfTimer t start) ∷ [] in
-    ap (λ b. shown b (u.stamp + 1 + 1)) (is ∙ on) ∙ ap (shown true) (omega arith)
+    let shown : Bool → ℕ → List Action = λ b n.
+    Entered t (u.stamp + 1) (record { event = events.Out heir; reply = replies.Out b }) ∷ Entered t n start ∷ [] in
+    ap (λ b. shown b (u.stamp + 1 + 1)) on ∙ ap (shown true) (omega arith)
 
 -- ---- whose turn it was
 
-module _ {s : Script} {x : WorldOf} {l : LaneOf} {call : Call} (next : IsNextCall s x l call) (e : Ending) (joined : IsJoined s e) where
-  -- law: a timer that a pass saw to be the next one of a base is that in the run
-  pub front_seen : (seen : List SystemEntry) → GoesOn seen e → (base t : ℕ) → IsFrontOf x.timers.about seen base t
-      → IsFront (witness_of s e) base t (length seen)
-  front_seen seen goes base t front = (
-    front.0,
-    ap (λ (u : System). front_of (u.bases base).content)
-        (system_seen (witness_of s e) seen goes.0 (seen_first seen joined goes) ∙ sym (ap (λ (o : Opening). system_after o.timers seen) next.world.timers))
-        ∙ front.1,
-  )
+-- law: a timer that a pass saw to be the next one of a base is that in the run
+pub front_seen : {s : Script} {x : WorldOf} {l : LaneOf} {call : Call} (next : IsNextCall s x l call) (e : Ending) (joined : IsJoined s e)
+    (seen : List SystemEntry) → GoesOn seen e → (base t : ℕ) → IsFrontOf x.timers.about seen base t → IsFront (witness_of s e) base t (length seen)
+front_seen next e joined seen goes base t front =
+    (front.0, ap (λ (u : System). front_of (u.bases base).content) (system_stays next.world.timers joined seen goes) ∙ front.1)
 
 -- law: what was so between two moments was so between two that are further apart
 pub front_wider : (w : Witness) (base : ℕ) {low first last high : ℕ} → low ≤ first → last ≤ high → (ys : List Evacuation)
@@ -163,107 +150,77 @@ front_wider w base le more (y ∷ ys) all = (
 )
 
 module _ {s : Script} {x : WorldOf} {l : LaneOf} {call : Call} (next : IsNextCall s x l call) (base heir : ℕ) (reading : ClockReading) (p : ObjectsPass) where
-  -- these timers were moved, as a part of a call with these receipts
-  pub record MovedSo (v w : KnownOfTimers) (moved : List Evacuation) (log : List Receipt) : Type 0 where
-    pub notes : List PlacedEntry
-    pub part : IsPart (HasRead reading) l.label v p w p (flat_map (evacuates heir reading.stamp) moved) notes log []
-    pub only : AllByRecursion IsEntered (flat_map (evacuates heir reading.stamp) moved)
-    pub no_looks : look_notes l.label log ≡ []
-    pub keeps : (e : Ending) → IsJoined s e → GoesOn w.seen e
-        → AllByRecursion (λ y. KeepsExpiries base (timer_after s e.run y.timer y.before) y) moved
-    pub turns : (e : Ending) → IsJoined s e → GoesOn w.seen e → AllByRecursion (WasFront (witness_of s e) (length v.seen) (length w.seen) base) moved
-
-  -- as timers in turn, the receipts in the log
+  -- these timers were moved in turn, as a part of a call, the receipts in the log
   pub record MovedAll (v w : KnownOfTimers) (ts : List ℕ) (old new : LogOf Receipt) : Type 0 where
     pub moved : List Evacuation
     pub many : length moved ≡ length ts
     pub log : List Receipt
     pub adds : new.receipts ≡ old.receipts ++ log
-    pub so : MovedSo v w moved log
+    pub notes : List PlacedEntry
+    pub part : IsPart s (HasRead reading) l.label v p w p (flat_map (evacuates heir reading.stamp) moved) notes (notes_of l.label log [])
+    pub keeps : (e : Ending) → IsJoined s e → GoesOn w.seen e
+        → AllByRecursion (λ y. KeepsExpiries base (timer_after s e.run y.timer y.before) y) moved
+    pub turns : (e : Ending) → IsJoined s e → GoesOn w.seen e → AllByRecursion (WasFront (witness_of s e) (length v.seen) (length w.seen) base) moved
 
   -- law: one timer
   one_moved : {v w : KnownOfTimers} (t : ℕ) (old new : LogOf Receipt) → MovesTimer kept x.timers.about base heir reading v w t old new
       → MovedAll v w (t ∷ []) old new
-  one_moved {v} {w} t old new moves =
+  one_moved t old new moves =
       let u = timer_then x.timers.about moves.at t in
       let es = move_entries u heir reading in
-      let y = evacuation heir reading t u in
-      let shown = move_shown heir reading t u (is_some u.armed) refl (first_of (is_some u.armed) (not u.moving) (nat_eq u.base base) moves.armed) in
-      let part = part_at x.timers.about (declareds_of s) (terms_of s) (opened_timers next) moves.made
-      (λ clock has. (refl, (ap (λ r. events.Start (asked_for modes.Keep u.soft (u.expires - u.soft) heir r)) has, tt))) refl (tt, (tt, tt)) shown in
+      let part = part_at {IsSo = HasRead reading} x.timers.about {p = p} (opened_timers next) moves.made
+      (λ clock has. (refl, (ap (λ r. events.Start (asked_for modes.Keep u.soft (u.expires - u.soft) heir r)) has, tt))) in
       record {
-        moved = y ∷ [];
+        moved = evacuation heir reading t u ∷ [];
         many = refl;
         log = receipts_of t u.stamp es;
         adds = ap (λ (k : LogOf Receipt). k.receipts) moves.logged ∙ all_kept old (receipts_of t u.stamp es);
-        so = record {
-          notes = part.0;
-          part = part.1;
-          only = (tt, (tt, tt));
-          no_looks = receipts_of-no_looks l.label t u.stamp es;
-          keeps = λ e joined goes.
-              let on = goes_before moves.made.seen goes in
-              let there = armed_there next e joined moves.at on base t moves.armed in
-              let same = own_timer next e joined moves.at on t there in
-              (subst (λ z. KeepsExpiries base z y) (sym same) (record { armed = moves.armed; soft = refl; slack = refl }), tt);
-          turns = λ e joined goes.
-              let on = goes_before moves.made.seen goes in
-              let same : timer_along (witness_of s e) (length moves.at) t ≡ u =
-              timer_seen (witness_of s e) moves.at on.0 (seen_first moves.at joined on) t
-              ∙ sym (ap (λ (o : Opening). timer_then o moves.at t) next.world.timers) in (
-                record {
-                  at = length moves.at;
-                  from = begins_length moves.made.from;
-                  to = begins_length moves.made.seen;
-                  stamp = ap (λ (z : Timer). z.stamp) same;
-                  front = front_seen next e joined moves.at on base t moves.front;
-                },
-                tt,
-              );
-        };
+        notes = part.0;
+        part = part_as (move_shown heir reading t u (first_of (is_some u.armed) (not u.moving) (nat_eq u.base base) moves.armed)) part.1;
+        keeps = λ e joined goes.
+            let on = goes_before moves.made.seen goes in
+            let same = own_timer next e joined moves.at on t (armed_there next e joined moves.at on base t moves.armed) in
+            (subst (λ z. KeepsExpiries base z (evacuation heir reading t u)) (sym same) (record { armed = moves.armed; soft = refl; slack = refl }), tt);
+        turns = λ e joined goes.
+            let on = goes_before moves.made.seen goes in (
+              record {
+                at = length moves.at;
+                from = begins_length moves.made.from;
+                to = begins_length moves.made.seen;
+                stamp = ap (λ (z : Timer). z.stamp) (timer_stays next.world.timers joined moves.at on t);
+                front = front_seen next e joined moves.at on base t moves.front;
+              },
+              tt,
+            );
       }
 
   -- law: timers one after the other
   pub all_moved : (ts : List ℕ) {v w : KnownOfTimers} (old new : LogOf Receipt) → AreMoved kept x.timers.about base heir reading v ts w old new
       → MovedAll v w ts old new
-  all_moved [] {v} {w} old new moves = record {
+  all_moved [] old new moves = record {
     moved = [];
     many = refl;
     log = [];
     adds = ap (λ (k : LogOf Receipt). k.receipts) moves.1 ∙ sym (append-nil old.receipts);
-    so = record {
-      notes = [];
-      part = part_none (begins_same (ap (λ (k : KnownOfTimers). k.seen) moves.0)) (ap (λ (k : KnownOfTimers). k.mine) moves.0);
-      only = tt;
-      no_looks = refl;
-      keeps = λ e joined goes. tt;
-      turns = λ e joined goes. tt;
-    };
+    notes = [];
+    part = part_none (begins_same (ap (λ (k : KnownOfTimers). k.seen) moves.0)) (ap (λ (k : KnownOfTimers). k.mine) moves.0);
+    keeps = λ e joined goes. tt;
+    turns = λ e joined goes. tt;
   }
-  all_moved (t ∷ ts) {v} {w} old new moves =
+  all_moved (t ∷ ts) old new moves =
       let one = one_moved t old moves.1 moves.2 in
       let rest = all_moved ts moves.1 new moves.3 in
-      let y = one.moved in
       record {
         moved = one.moved ++ rest.moved;
         many = omega (arith, rest.many, one.many, length-append one.moved rest.moved);
         log = one.log ++ rest.log;
         adds = rest.adds ∙ ap (λ rs. rs ++ rest.log) one.adds ∙ append_assoc old.receipts one.log rest.log;
-        so = both_moved one.so rest.so;
-      }
-    where
-      both_moved : {v m w : KnownOfTimers} {ys zs : List Evacuation} {log more : List Receipt} → MovedSo v m ys log → MovedSo m w zs more
-          → MovedSo v w (ys ++ zs) (log ++ more)
-      both_moved {ys = ys} {zs = zs} {log = log} {more = more} one rest = record {
         notes = one.notes ++ rest.notes;
-        part = rw (flat_map-append (evacuates heir reading.stamp) ys zs) (part_then one.part rest.part);
-        only = rw (flat_map-append (evacuates heir reading.stamp) ys zs) (All-append IsEntered _ _ one.only rest.only);
-        no_looks = notes-append (look_note l.label) log more
-            ∙ ap (λ ns. ns ++ look_notes l.label more) one.no_looks ∙ rest.no_looks;
-        keeps = λ e joined goes. All-append _ ys zs
-            (one.keeps e joined (goes_before rest.part.timers.enters.seen goes)) (rest.keeps e joined goes);
-        turns = λ e joined goes. All-append _ ys zs
-            (front_wider (witness_of s e) base (omega arith) (begins_length rest.part.timers.enters.seen) ys
-            (one.turns e joined (goes_before rest.part.timers.enters.seen goes)))
-            (front_wider (witness_of s e) base (begins_length one.part.timers.enters.seen) (omega arith) zs (rest.turns e joined goes));
+        part = rw (flat_map-append (evacuates heir reading.stamp) one.moved rest.moved) (part_logged one.log rest.log [] [] one.part rest.part);
+        keeps = λ e joined goes. All-append _ one.moved rest.moved
+            (one.keeps e joined (goes_before rest.part.enters.seen goes)) (rest.keeps e joined goes);
+        turns = λ e joined goes. All-append _ one.moved rest.moved
+            (front_wider (witness_of s e) base (omega arith) (begins_length rest.part.enters.seen) one.moved
+            (one.turns e joined (goes_before rest.part.enters.seen goes)))
+            (front_wider (witness_of s e) base (begins_length one.part.enters.seen) (omega arith) rest.moved (rest.turns e joined goes));
       }

@@ -1,18 +1,20 @@
 -- Expiry runs, as their lanes keep them.
-use Rattle.std.proofs.Common.{◌≡◌, ◌≤◌, ℕ, List, [], ◌∷◌, ◌++◌, length, map, arith, refl, sym, ap, ◌∙◌, subst}
+use Rattle.call_laws.proofs.Stays.{stays}
+use Rattle.std.proofs.Common.{None, Some, false}
+use Rattle.ktime.specs.Readings.{ClockReading}
+use Rattle.call_laws.proofs.Noted.{with_done-joins}
+use Rattle.call_laws.proofs.Parts.{part_looks}
+use Rattle.std.proofs.Common.{◌≡◌, ◌≤◌, ℕ, List, [], ◌∷◌, ◌++◌, length, map, arith, refl, sym, ◌∙◌, subst}
 use Rattle.std.specs.Prelude.{flat_map}
 use Rattle.std.proofs.lemmas.List.{append-nil}
 use Rattle.std.proofs.lemmas.Option.{slice_get_within}
-use Rattle.ktime.specs.Readings.{ClockReading}
 use Rattle.pass_names.specs.SharedHistory.{LooksOn}
 use Rattle.seq_timer.specs.Halves.{running_on}
 use Rattle.seq_timer.specs.Systems.{System, next_on, system_after}
 use Rattle.seq_timer.specs.declared.context.Context.{Context}
-use Rattle.seq_timer.specs.Steps.{Timer}
 use Rattle.seq_timer.specs.Tables.{IsStopped, in_context, runs_on, seen_in}
 use Rattle.seq_timer.specs.declared.system.SystemEntry.{SystemEntry}
-use Rattle.base_row.specs.declared.view.Opening.{Opening}
-use Rattle.hr_timers.specs.Known.{KnownOfTimers, timer_then}
+use Rattle.hr_timers.specs.Known.{KnownOfTimers}
 use Rattle.expire_pass.specs.declared.expiry.ExpireAnswer.{ExpireAnswer}
 use Rattle.expire_pass.specs.declared.expiry.ExpireAnswer.TheVariants as expiries
 use Rattle.expire_pass.specs.Expiring.{Expires, Turns}
@@ -23,7 +25,7 @@ use Rattle.timer_objects.specs.declared.log.ObjectReceipt.{ObjectReceipt}
 use Rattle.record_text.specs.declared.record.Answer.TheVariants as answers
 use Rattle.record_text.specs.declared.record.Answer.{Answer}
 use Rattle.record_text.specs.declared.record.Label.{Label}
-use Rattle.run_history.specs.Actions.{Action, numbers_of_object}
+use Rattle.run_history.specs.Actions.{Action}
 use Rattle.run_history.specs.Histories.{reading_at}
 use Rattle.run_history.specs.Order.{calls_of, IsLabel}
 use Rattle.script_text.specs.declared.script.Call.TheVariants as calls
@@ -36,15 +38,14 @@ use Rattle.run_history.specs.Receipts.{PlacedEntry}
 use Rattle.run_history.specs.Runs.{witness_of, Ending, IsJoined, moves_spans}
 use Rattle.run_history.proofs.Expires.{expire_busy, expire_done, expire_more, expiring, HaveRun}
 use Rattle.run_history.proofs.Kept.{IsKept}
-use Rattle.run_history.proofs.PassState.{system_seen, timer_seen}
-use Rattle.run_history.proofs.Promise.{object_point_from, seen_first}
+use Rattle.run_history.proofs.Promise.{object_point_from}
 use Rattle.lane_world.specs.Called.{CallsExpire, claimed_in, expire_told, LaneOf}
-use Rattle.lane_world.proofs.Kept.{Follows, IsNextCall, KeepsCall, seen_by, goes_before}
+use Rattle.lane_world.proofs.Kept.{Follows, IsNextCall, KeepsCall, seen_by}
+use Rattle.lane_world.proofs.SeenMore.{goes_before}
 use Rattle.lane_world.specs.Worlds.{WorldOf}
 use Rattle.pass_names.proofs.Passes.{begins_length}
-use Rattle.call_laws.proofs.CallKept.{clock_read, reading_followed, reading_goes_on}
+use Rattle.call_laws.proofs.CallKept.{clock_read, reading_goes_on}
 use Rattle.call_laws.proofs.PartKept.{keeps_part}
-use Rattle.call_laws.proofs.Parts.{part_none, part_then}
 use Rattle.call_laws.proofs.Fired.{RunKept, turns_kept}
 
 -- ---- a run that looked on
@@ -68,16 +69,12 @@ run_later : {s : Script} {label : Label} {context : Context} {base : ℕ} {readi
     → RunKept s label context base reading n v p w' q log callback_log object_log
 run_later {s = s} {label = label} {context = context} {base = base} {reading = reading} {v = v} {p = p} {w = w} {q = q} {w' = w'} {log = log} {callback_log = callback_log}
     {object_log = object_log} run looks =
-    let actions = flat_map (fires base reading.stamp) run.fired in
-    let all = log ++ callback_log in
-    let part = part_then run.part (part_none {w = w'} looks.seen looks.mine) in
     record {
       fired = run.fired;
       many = run.many;
       notes = run.notes;
-      no_looks = run.no_looks;
       claimed = run.claimed;
-      part = rw (append-nil actions, append-nil run.notes, append-nil all, append-nil object_log) at part;
+      part = part_looks run.part looks.seen looks.mine;
       have = λ e joined goes follows later behind points.
           have_later (witness_of s e) label e.order context base reading.stamp [] (length v.seen) run.fired run.notes (length w.seen) (length w'.seen)
           (begins_length looks.seen)
@@ -104,17 +101,14 @@ module _ {s : Script} {x : WorldOf} {l m : LaneOf} {a : Answer} {context : Conte
       → FitsCall (witness_of s e) l.label (calls.Expire context base budget) (told (map (λ f. f.timer) run.fired)) (seen_by l.pass) (seen_by m.pass))
       → KeepsCall s l (calls.Expire context base budget) (told (claimed_in c.log)) m
   keeps_run told run fits =
-      let p = l.pass in
-      let q = m.pass in
-      let answer = told (map (λ f. f.timer) run.fired) in
-      let actions = flat_map (fires base c.reading.stamp) run.fired in
-      let t = expiring base c.reading.stamp (length p.timers.known.seen) (length q.timers.known.seen) run.fired in
       let is : IsLabel s l.label = slice_get_within (calls_of s l.label.lane) l.label.call next.at next.there in
-      rw run.claimed (keeps_part next m answer t run.part (reading_goes_on p q c.reading c.reads) (clock_read c.reads.looks) c.notes refl c.reads.count
-      (λ i. rw (append-nil (numbers_of_object i actions)) (run.part.objects.steps i))
+      rw run.claimed (keeps_part next m (told (map (λ f. f.timer) run.fired))
+      (expiring base c.reading.stamp (length l.pass.timers.known.seen) (length m.pass.timers.known.seen) run.fired) run.part (reading_goes_on l.pass m.pass c.reading c.reads)
+      (clock_read c.reads.looks) (c.notes ∙ with_done-joins l.notes l.label (c.log ++ c.callback_log) c.object_log) refl c.reads.count tt
       (λ e follows joined has kept low. fits e follows joined kept low
       (run.have e joined follows.timers follows.objects [] (λ i. tt)
-      (λ i k before rest parts low high below behind. object_point_from joined is has i k before rest (sym (append-nil actions) ∙ parts) low high below
+      (λ i k before rest parts low high below behind. object_point_from joined is has i k before rest
+      (sym (append-nil (flat_map (fires base c.reading.stamp) run.fired)) ∙ parts) low high below
       behind))))
 
   -- the callbacks
@@ -126,23 +120,12 @@ module _ {s : Script} {x : WorldOf} {l m : LaneOf} {a : Answer} {context : Conte
       r.before r.after l.pass.timers.known w c.log r.objects r.callbacks r.fresh.0 r.fresh.1 turns in
       rw (← r.pass, ← r.back, ← r.logs.0, ← r.logs.1) run.0
 
-  -- a timer after what the lane has then seen
-  state_is : (e : Ending) → Follows m.pass e → IsJoined s e → (t : ℕ)
-      → witnesses.timer_along (witness_of s e) (length m.pass.timers.known.seen) t ≡ timer_then x.timers.about m.pass.timers.known.seen t
-  state_is e follows joined t =
-      timer_seen (witness_of s e) m.pass.timers.known.seen follows.timers.0 (seen_first m.pass.timers.known.seen joined follows.timers) t
-      ∙ sym (ap (λ (o : Opening). timer_then o m.pass.timers.known.seen t) next.world.timers)
-
-  -- the timer that is next to expire on the base after what the lane has then seen
-  next_is : (e : Ending) → Follows m.pass e → IsJoined s e
-      → next_on context ((witnesses.system_along (witness_of s e) (length m.pass.timers.known.seen)).bases base) (reading_at e.run.clock c.reading.stamp)
-      ≡ next_on context ((system_after x.timers.about.timers m.pass.timers.known.seen).bases base) c.reading
-  next_is e follows joined =
-      ap (λ (u : System). next_on context (u.bases base) (reading_at e.run.clock c.reading.stamp))
-      (system_seen (witness_of s e) m.pass.timers.known.seen follows.timers.0 (seen_first m.pass.timers.known.seen joined follows.timers)
-      ∙ sym (ap (λ (o : Opening). system_after o.timers m.pass.timers.known.seen) next.world.timers))
-      ∙ ap (λ r. next_on context ((system_after x.timers.about.timers m.pass.timers.known.seen).bases base) r)
-      (reading_followed l.pass m.pass c.reading c.reads e follows)
+  -- what held of all timers and bases by the reading, after what the lane has then seen, holds in the run
+  held : (e : Ending) → Follows m.pass e → IsJoined s e → (P : System → ClockReading → Type 0)
+      → P (system_after x.timers.about.timers m.pass.timers.known.seen) c.reading
+      → P (witnesses.system_along (witness_of s e) (length m.pass.timers.known.seen)) (reading_at e.run.clock c.reading.stamp)
+  held e follows joined P now = subst (P _) (sym (reading_goes_on l.pass m.pass c.reading c.reads e follows.clock))
+      (stays next.world.timers joined m.pass.timers.known.seen follows.timers (λ u. P u c.reading) now)
 
   -- by its answer
   answer_kept : (answer : ExpireAnswer)
@@ -152,23 +135,19 @@ module _ {s : Script} {x : WorldOf} {l m : LaneOf} {a : Answer} {context : Conte
       let ran = callbacks_kept n m.pass.timers.known run.1 in
       keeps_run (λ ts. answers.More c.reading.stamp ts) ran (λ e follows joined kept low have. expire_more e.order kept low have (ran.many ∙ run.0))
   answer_kept (expiries.Done n) run =
-      let w = m.pass.timers.known in
       let ran = run_later (callbacks_kept n run.1.0 run.1.1) run.1.2.0 in
       let none = run.1.2.1 in
       keeps_run (λ ts. answers.Done c.reading.stamp ts) ran
       (λ e follows joined kept low have. expire_done e.order kept low have (omega (arith, ran.many, run.0)) (record {
-        free = λ t. ap (λ u. runs_on base (seen_in context u)) (state_is e follows joined t) ∙ none.idle t;
-        first = next_is e follows joined ∙ none.first;
-        stopped = λ clock. subst (λ (k : ℕ → Timer). IsStopped (in_context context k) base (reading_at e.run.clock c.reading.stamp) clock)
-            (λ i t. sym (state_is e follows joined t) i)
-            (subst (λ r. IsStopped (in_context context (timer_then x.timers.about w.seen)) base r clock)
-            (sym (reading_followed l.pass m.pass c.reading c.reads e follows)) (none.none clock));
+        free = λ t. held e follows joined (λ u r. runs_on base (seen_in context (u.timers t)) ≡ false) (none.idle t);
+        first = held e follows joined (λ u r. next_on context (u.bases base) r ≡ None) none.first;
+        stopped = λ clock. held e follows joined (λ u r. IsStopped (in_context context u.timers) base r clock) (none.none clock);
       }))
   answer_kept (expiries.BaseBusy n t g) run =
       let ran = run_later (callbacks_kept n run.1.0 run.1.1) run.1.2.0 in
       keeps_run (λ ts. answers.Busy c.reading.stamp ts t g) ran
       (λ e follows joined kept low have. expire_busy e.order kept low have (omega (arith, ran.many, run.0))
-      (ap (λ u. running_on base (seen_in context u)) (state_is e follows joined t) ∙ run.1.2.1))
+      (held e follows joined (λ u r. running_on base (seen_in context (u.timers t)) ≡ Some g) run.1.2.1))
 
   -- law: a lane keeps an expiry run
   pub keeps_expire : KeepsCall s l (calls.Expire context base budget) a m

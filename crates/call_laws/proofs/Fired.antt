@@ -1,9 +1,19 @@
 -- The callbacks of an expiry run: one with its claim and its finish, and all of them one behind the other.
+use Rattle.std.proofs.lemmas.List.Sorted.{IsPermutation-middle}
+use Rattle.hr_timers.proofs.Moments.{declared_kept}
+use Rattle.lane_world.proofs.SeenMore.{follows_object}
+use Rattle.call_laws.proofs.Entering.{EntersOne}
+use Rattle.call_laws.proofs.Noted.{notes_of, one_noted, same-trans, same_notes, SameNotes}
+use Rattle.call_laws.proofs.Parts.{part_noted, part_one, part_then}
+use Rattle.lane_notes.specs.Notes.{both_noted}
+use Rattle.lane_notes.specs.Objects.{object_note, skip_note}
+use Rattle.lane_world.proofs.PartLists.{notes_same}
+use Rattle.std.proofs.lemmas.List.Sorted.{IsPermutation-sym, IsPermutation-trans}
 use Rattle.std.proofs.Common.{◌≡◌, ◌≤◌, ◌<◌, ℕ, ◌+◌, unwrap_or, List, [], ◌∷◌, ◌++◌, length, length-append, map, get_or, arith, refl, sym, ap, ◌∙◌, subst, zero, suc, Option}
 use Rattle.std.specs.List.{AllByRecursion}
 use Rattle.std.specs.List.Sorted.{IsPermutation}
 use Rattle.std.proofs.lemmas.List.{append_assoc, append-nil, map-append}
-use Rattle.std.proofs.lemmas.List.Sorted.{IsPermutation-cons, IsPermutation-to_front, IsPermutation-append_comm, IsPermutation-append_left, IsPermutation-append_right}
+use Rattle.std.proofs.lemmas.List.Sorted.{IsPermutation-cons, IsPermutation-to_front, IsPermutation-append_right}
 use Rattle.ktime.specs.Readings.{ClockReading}
 use Rattle.pass_names.specs.Passes.{GoesOn}
 use Rattle.seq_timer.specs.declared.context.Context.{Context}
@@ -11,8 +21,6 @@ use Rattle.seq_timer.specs.declared.context.Declared.{Declared}
 use Rattle.seq_timer.specs.declared.context.Terms.{Terms}
 use Rattle.seq_timer.specs.declared.system.SystemEntry.{SystemEntry}
 use Rattle.seq_timer.specs.Tables.{no_declared, timer_at}
-use Rattle.seq_timer.proofs.Contents.{declared-after_all}
-use Rattle.hr_timers.proofs.Moments.{timer_own}
 use Rattle.seq_timer.specs.Steps.{Timer, reply_to, restarted_by}
 use Rattle.seq_timer.specs.Systems.{entries_of, openings}
 use Rattle.base_row.specs.declared.view.Opening.{Opening}
@@ -37,7 +45,7 @@ use Rattle.script_text.specs.declared.script.Script.{Script}
 use Rattle.lane_notes.specs.Entries.{entry_notes, look_notes, entry_note, look_note}
 use Rattle.run_history.specs.Calls.{fires}
 use Rattle.run_history.specs.Witnesses.{Fired, OfTimer, TimersList}
-use Rattle.run_history.specs.Receipts.{PlacedEntry, receipt}
+use Rattle.run_history.specs.Receipts.{PlacedEntry}
 use Rattle.run_history.specs.Runs.{witness_of, Ending, IsJoined}
 use Rattle.run_history.specs.Truths.{IsObjectPoint, WasOffLine}
 use Rattle.run_history.proofs.Actions.{made-append}
@@ -45,18 +53,19 @@ use Rattle.run_history.proofs.Expires.{claim_of, finish_of, with_claim, HaveRun,
 use Rattle.run_history.proofs.Known.{made_goes_on}
 use Rattle.run_history.proofs.Reached.{body_wider, was_wider}
 use Rattle.lane_world.specs.Called.{claimed_in}
-use Rattle.lane_world.proofs.Kept.{FollowsObject, count_begins, goes_before, begins_same}
+use Rattle.lane_world.proofs.Kept.{FollowsObject}
+use Rattle.lane_world.proofs.SeenMore.{count_begins, goes_before, begins_same}
 use Rattle.lane_world.specs.Worlds.{callback_of, IsWorldOf, WorldOf}
 use Rattle.lane_world.proofs.Declared.{declared_callback, declared_over, over_of}
-use Rattle.pass_names.proofs.Passes.{begins_length, begins_trans}
+use Rattle.pass_names.proofs.Passes.{begins_length}
 use Rattle.call_laws.proofs.Triggered.{fd_noted, posix_noted, trigger_kept}
 use Rattle.std.specs.Prelude.{flat_map}
 use Rattle.std.proofs.lemmas.List.Concat.{flat_map-append}
 use Rattle.call_laws.proofs.Claimed.{claimed_in-append}
 use Rattle.call_laws.proofs.Bodies.{callback_kept}
-use Rattle.call_laws.proofs.Parts.{BodyKept, fired_of, HasRead, IsClaimed, IsPart, objects_grow, part-append, part_entered, part_none}
+use Rattle.call_laws.proofs.Parts.{BodyKept, fired_of, HasRead, IsClaimed, IsPart, objects_grow, part_none}
 use Rattle.lane_world.proofs.PartLists.{each_joined, each_weaker, notes-append}
-use Rattle.call_laws.proofs.Entering.{enters_once, EntersNotes}
+use Rattle.call_laws.proofs.Entering.{enters_once}
 use Rattle.seq_timer.specs.declared.event.Restarted.{Restarted}
 use Rattle.seq_timer.specs.declared.event.Reply.TheVariants as replies
 use Rattle.seq_timer.specs.declared.event.EventBy.TheVariants as events
@@ -70,11 +79,11 @@ use Rattle.run_history.proofs.Expires as expires
 
 -- ---- lists
 
--- the middle two of four parts change places
-middle_swapped : {A : Type 0} (a b c d : List A) → IsPermutation ((a ++ b) ++ (c ++ d)) ((a ++ c) ++ (b ++ d))
-middle_swapped a b c d =
-    rw (append_assoc a b (c ++ d), append_assoc a c (b ++ d)) (IsPermutation-append_right a (b ++ (c ++ d)) (c ++ (b ++ d))
-    (rw (← append_assoc b c d, ← append_assoc c b d) (IsPermutation-append_left d (b ++ c) (c ++ b) (IsPermutation-append_comm b c))))
+-- two items around a list, and both before it
+woven : {A : Type 0} (l m b : List A) (c f : A) → IsPermutation ((l ++ c ∷ f ∷ []) ++ (m ++ b)) ((l ++ m) ++ (c ∷ b ++ f ∷ []))
+woven l m b c f = rw (append_assoc l (c ∷ f ∷ []) (m ++ b), append_assoc l m (c ∷ b ++ f ∷ [])) (IsPermutation-append_right l _ _
+    (IsPermutation-trans _ (c ∷ ((m ++ b) ++ f ∷ [])) _ (IsPermutation-cons c _ _ (IsPermutation-sym _ _ (IsPermutation-to_front (m ++ b) f)))
+    (rw (append_assoc m b (f ∷ [])) (IsPermutation-sym _ _ (IsPermutation-middle m c (b ++ f ∷ []))))))
 
 -- the notes of four logs
 four : {R N : Type 0} (note : R → Option N) (a b c d : List R) → present (map note ((a ++ b) ++ (c ++ d)))
@@ -95,19 +104,12 @@ pub record RunKept (s : Script) (label : Label) (context : Context) (base : ℕ)
   pub fired : List Fired
   pub many : length fired ≡ n
   pub notes : List PlacedEntry
-  pub no_looks : look_notes label log ≡ []
   pub claimed : claimed_in log ≡ map (λ f. f.timer) fired
-  pub part : IsPart (HasRead reading) label k p k' p' (flat_map (fires base reading.stamp) fired) notes (log ++ callback_log) object_log
+  pub part : IsPart s (HasRead reading) label k p k' p' (flat_map (fires base reading.stamp) fired) notes (notes_of label (log ++ callback_log) object_log)
   pub have : (e : Ending) → IsJoined s e → promises.GoesOn k'.seen e → ((i : ℕ) → FollowsObject e i (seen_of p' i)) → (later : List Action)
       → ((i : ℕ) → AllByRecursion (λ x. length (seen_of p' i) < x.0) (made i later))
       → HasPoints s e label p p' (flat_map (fires base reading.stamp) fired ++ later)
       → HaveRun (witness_of s e) label e.order context base reading.stamp [] (length k.seen) fired notes (length k'.seen)
-
--- a run goes on from what was seen of objects before
-follows_before : (p q : ObjectsPass) (e : Ending) → GoesOn p.knows.pass.seen q.knows.pass.seen → ((i : ℕ) → FollowsObject e i (seen_of q i)) → (i : ℕ)
-    → FollowsObject e i (seen_of p i)
-follows_before p q e goes_on follows i =
-    let its = follows i in record { history = its.history; goes_on = begins_trans (goes_on.each i) its.goes_on; lines = its.lines }
 
 -- as what a timer was opened
 declared-opened : (list : List Declared) (terms : Terms) (t : ℕ) → (timer_at (openings list terms) t).declared ≡ get_or list t no_declared
@@ -127,28 +129,28 @@ module _ (s : Script) (x : WorldOf) (is : IsWorldOf s x) (some : 1 ≤ s.limit) 
   -- a timer is declared as the script says, at all times
   declared_seen : (at : List SystemEntry) (t : ℕ) → (timer_then o at t).declared ≡ declared_of s t
   declared_seen at t =
-      ap (λ (u : Timer). u.declared) (timer_own o at t) ∙ declared-after_all (timer_at o.timers t) (entries_of t at)
-      ∙ ap (λ (ts : List Timer). (timer_at ts t).declared) on ∙ declared-opened (declareds_of s) (terms_of s) t
+      declared_kept o at t ∙ ap (λ (ts : List Timer). (timer_at ts t).declared) on ∙ declared-opened (declareds_of s) (terms_of s) t
 
   -- a claim
-  claim_made : {k v : KnownOfTimers} {c : ClaimNumbers} → ClaimsNextDue o k v context base reading c → IsClaimed base c reading k v
+  claim_made : {k v : KnownOfTimers} {c : ClaimNumbers} → ClaimsNextDue o k v context base reading c → IsClaimed s base c reading k v
   claim_made {c = c} claims =
       let event = events.Claim base reading in
-      let u = timer_then o claims.at c.timer in
-      let one = enters_once (HasRead reading) o (declareds_of s) (terms_of s) on claims.made (λ clock has. ap (events.Claim base) has) claims.number in
-      let le = count_begins (TimersList c.timer) claims.made.from in
-      let own = length-append (entries_of c.timer claims.at) (record { event = event; reply = reply_to u event } ∷ []) in
+      let one = enters_once s (HasRead reading) o on claims.made (λ clock has. ap (events.Claim base) has) claims.number in
+      let own = length-append (entries_of c.timer claims.at) (record { event = event; reply = reply_to (timer_then o claims.at c.timer) event } ∷ []) in
       record {
-        note = one.0;
-        enters = one.1;
-        is = one.2 ∙ ap (λ g. (c.number, OfTimer c.timer (record { event = events.Claim base reading.stamp; reply = replies.Claim (unwrap_or g 0) }))) claims.armed;
+        entered = (
+          one.0,
+          one.1,
+          one.2 ∙ ap (λ g. (c.number, OfTimer c.timer (record { event = events.Claim base reading.stamp; reply = replies.Claim (unwrap_or g 0) })))
+              claims.armed,
+        );
         there = claims.there;
         some = omega (arith, claims.number);
-        more = omega (arith, le, ap length claims.made.own, own);
+        more = omega (arith, (count_begins (TimersList c.timer) claims.made.from), ap length claims.made.own, own);
       }
 
   -- the function of a claim, by the handler's meaning
-  fires_kept : (h h' : Firing) {k v : KnownOfTimers} (w : KnownOfTimers) {c : ClaimNumbers} (claim : IsClaimed base c reading k v) (restart : Restart)
+  fires_kept : (h h' : Firing) {k v : KnownOfTimers} (w : KnownOfTimers) {c : ClaimNumbers} (claim : IsClaimed s base c reading k v) (restart : Restart)
       → h.objects.now ≡ x.objects → h.callbacks.now ≡ x.callbacks → Fires o h h' v w c reading restart → BodyKept s label claim restart w h h'
   fires_kept h h' {v = v} w {c = c} claim restart objects handlers fires = by_kind (kind_of s c.timer) refl
     where
@@ -176,40 +178,42 @@ module _ (s : Script) (x : WorldOf) (is : IsWorldOf s x) (some : 1 ≤ s.limit) 
           (of_kind.Fd (fd_calls.Trigger c.generation reading)) (λ y allows. fd_noted y c.generation reading allows) (λ n. refl) (λ n. refl) run.0)
 
   -- a callback ran, with its claim and its finish, in every run that goes on from there
-  turn_ran : {k v w k' : KnownOfTimers} {c : ClaimNumbers} {restart : Restart} {h h' : Firing} (claim : IsClaimed base c reading k v)
+  turn_ran : {k v w k' : KnownOfTimers} {c : ClaimNumbers} {restart : Restart} {h h' : Firing} (claim : IsClaimed s base c reading k v)
       (b : BodyKept s label claim restart w h h') (number : ℕ) (restarted : Restarted)
       (own : (declared_of s c.timer).context ≡ context)
-      (finish : (n : PlacedEntry) × EntersNotes (HasRead reading) w k' (n ∷ [])
-      × (receipt n ≡ (number, OfTimer c.timer (record { event = events.Finish (asks restart); reply = replies.Finish c.generation restarted })))) (e : Ending) → IsJoined s e → promises.GoesOn k'.seen e
+      (finish : EntersOne s (HasRead reading) w k'
+      (number, OfTimer c.timer (record { event = events.Finish (asks restart); reply = replies.Finish c.generation restarted }))) (e : Ending)
+      → IsJoined s e → promises.GoesOn k'.seen e
       → ((i : ℕ) → FollowsObject e i (seen_of h'.objects_pass.now i)) → (before : List Action)
       → ((i : ℕ) → ((j : ℕ) → made j b.body ≡ []) → IsObjectPoint (witness_of s e) label
       (with_claim base reading.stamp (fired_of c b.body number (asks restart) restarted) before) i (length (seen_of h'.objects_pass.now i)))
       → (ran : expires.Ran (witness_of s e) label e.order context base reading.stamp before (fired_of c b.body number (asks restart) restarted) (length k.seen)
-      (length k'.seen)) × (claim.note ∷ b.notes ++ finish.0 ∷ [] ≡ expires.notes_of ran)
+      (length k'.seen)) × (claim.entered.0 ∷ b.notes ++ finish.0 ∷ [] ≡ expires.notes_of ran)
   turn_ran {k = k} {v = v} {w = w} {k' = k'} {c = c} {restart = restart} claim b number restarted own finish e joined goes follows before points =
       let acted = goes_before finish.1.seen goes in
+      let ran = b.ran e joined acted follows number restarted in
       let claimed = goes_before b.enters.seen acted in (
         record {
           claimed = length v.seen;
           acted = length w.seen;
-          claim = claim.note;
+          claim = claim.entered.0;
           body = b.notes;
           finish = finish.0;
-          rise = begins_length claim.enters.seen;
+          rise = begins_length claim.entered.1.seen;
           goes_on = begins_length b.enters.seen;
           ends = begins_length finish.1.seen;
-          claim_made = made_goes_on e.order v.seen claimed.0 (length k.seen) (length v.seen) (claim.note ∷ []) claimed.1 claim.enters.made;
-          claim_is = claim.is;
+          claim_made = made_goes_on e.order v.seen claimed.0 (length k.seen) (length v.seen) (claim.entered.0 ∷ []) claimed.1 claim.entered.1.made;
+          claim_is = claim.entered.2;
           body_made = made_goes_on e.order w.seen acted.0 (length v.seen) (length w.seen) b.notes acted.1 b.enters.made;
-          body_is = let all = b.part.timers.are in cc;
+          body_is = let all = b.part.are in cc;
           finish_made = made_goes_on e.order k'.seen goes.0 (length w.seen) (length k'.seen) (finish.0 ∷ []) goes.1 finish.1.made;
           finish_is = finish.2;
           own = own;
           kind = body_wider (WasOffLine (witness_of s e) (length v.seen) (length w.seen)) (WasOffLine (witness_of s e) (length k.seen) (length k'.seen))
-              (was_wider (witness_of s e) (begins_length claim.enters.seen) (begins_length finish.1.seen)) s.limit (kind_of s c.timer) reading.stamp
-              (fired_of c b.body number (asks restart) restarted) (b.kind e joined acted number restarted);
-          holds = b.holds e joined acted (with_claim base reading.stamp (fired_of c b.body number (asks restart) restarted) before) points;
-          span = b.span e follows number restarted;
+              (was_wider (witness_of s e) (begins_length claim.entered.1.seen) (begins_length finish.1.seen)) s.limit (kind_of s c.timer) reading.stamp
+              (fired_of c b.body number (asks restart) restarted) ran.0;
+          holds = ran.1 (with_claim base reading.stamp (fired_of c b.body number (asks restart) restarted) before) points;
+          span = ran.2;
         },
         refl,
       )
@@ -220,25 +224,24 @@ module _ (s : Script) (x : WorldOf) (is : IsWorldOf s x) (some : 1 ≤ s.limit) 
       → RunKept s label context base reading n k p k1 h.objects_pass.now log h.log.receipts h.object_log.receipts
       → Turn firing o context base reading k1 h log k' h' log'
       → RunKept s label context base reading (suc n) k p k' h'.objects_pass.now log' h'.log.receipts h'.object_log.receipts
-  run_more {k = k} {p = p} {k1 = k1} h {k' = k'} h' {log = log} objects handlers run turn =
+  run_more {k = k} {p = p} {k1 = k1} h {k' = k'} h' {log = log} {log' = log'} objects handlers run turn =
       let c = turn.claim in
       let ran = turn.ran in
       let restart = asks ran.restart in
-      let claim : IsClaimed base c reading k1 turn.claimed = claim_made turn.claims in
+      let claim : IsClaimed s base c reading k1 turn.claimed = claim_made turn.claims in
       let b = fires_kept h h' ran.done claim ran.restart objects handlers ran.did in
       let u = timer_then o ran.finishes.at c.timer in
       let restarted = restarted_by u restart in
       let f = fired_of c b.body (u.stamp + 1) restart restarted in
       let own : (declared_of s c.timer).context ≡ context =
       sym (ap (λ (d : Declared). d.context) (declared_seen turn.claims.at c.timer)) ∙ turn.claims.context in
-      let one = enters_once (HasRead reading) o (declareds_of s) (terms_of s) {number = u.stamp + 1} on ran.finishes.made (λ clock has. refl) refl in
-      let finish : (n : PlacedEntry) × EntersNotes (HasRead reading) ran.done k' (n ∷ []) × (receipt n ≡ (u.stamp + 1, OfTimer c.timer (finish_of f))) = (
+      let one = enters_once s (HasRead reading) o {number = u.stamp + 1} on ran.finishes.made (λ clock has. refl) refl in
+      let finish : EntersOne s (HasRead reading) ran.done k' (u.stamp + 1, OfTimer c.timer (finish_of f)) = (
         one.0,
         one.1,
         one.2 ∙ ap (λ g. (u.stamp + 1, OfTimer c.timer (record { event = events.Finish restart; reply = replies.Finish (unwrap_or g 0) restarted }))) ran.finishes.runs,
       ) in
       let first = claim_receipt reading c in
-      let last = finish_receipt c ran.restart u in
       let p1 = h.objects_pass.now in
       let p' = h'.objects_pass.now in
       let at = reading.stamp in
@@ -246,57 +249,58 @@ module _ (s : Script) (x : WorldOf) (is : IsWorldOf s x) (some : 1 ≤ s.limit) 
       let one = fires base at f in
       let claiming = Entered f.timer f.claim (claim_of base at f) ∷ [] in
       let finishing = Entered f.timer f.finish (finish_of f) ∷ [] in
-      let notes = claim.note ∷ b.notes ++ finish.0 ∷ [] in
-      let are : map receipt (finish.0 ∷ []) ≡ (f.finish, OfTimer c.timer (finish_of f)) ∷ [] = ap (λ r. r ∷ []) finish.2 in
-      let finishes : IsPart (HasRead reading) label ran.done p' k' p' finishing (finish.0 ∷ []) (last ∷ []) [] =
-      part_entered finish.1 refl (tt, tt) are are refl in
-      let turned : IsPermutation (entry_notes label ((first ∷ b.more) ++ last ∷ [])) (entry_notes label (first ∷ last ∷ b.more)) =
-      rw (notes-append (entry_note label) b.more (last ∷ []))
-      (IsPermutation-cons _ (entry_notes label b.more ++ entry_notes label (last ∷ [])) (entry_notes label (last ∷ b.more))
-      (IsPermutation-to_front (entry_notes label b.more) _)) in
-      let part : IsPart (HasRead reading) label k1 p1 k' p' one notes (first ∷ last ∷ b.more) b.object_more =
-      rw (append-nil b.object_more) at (part-append {all = first ∷ last ∷ b.more} b.part finishes turned
-      (rw (notes-append (look_note label) b.more (last ∷ [])) (sym (append-nil _)))) in
+      let notes = claim.entered.0 ∷ b.notes ++ finish.0 ∷ [] in
+      let part : IsPart s (HasRead reading) label k1 p1 k' p' one notes
+      (both_noted (notes_of label (first ∷ b.more) b.object_more) (one_noted label (Entered c.timer f.finish (finish_of f)))) =
+      part_then b.part (part_one _ finish) in
       let all : flat_map (fires base at) (run.fired ++ f ∷ []) ≡ done ++ one = rw (flat_map-append (fires base at) run.fired (f ∷ []), append-nil one) refl in
       let cb = h.log.receipts in
-      let more = first ∷ last ∷ [] in
-      let order : IsPermutation (entry_notes label ((log ++ cb) ++ (more ++ b.more))) (entry_notes label ((log ++ more) ++ (cb ++ b.more))) =
-      rw (four (entry_note label) log cb more b.more, four (entry_note label) log more cb b.more) (middle_swapped (entry_notes label log)
-      (entry_notes label cb) (entry_notes label more) (entry_notes label b.more)) in
-      let looks : look_notes label ((log ++ more) ++ (cb ++ b.more)) ≡ look_notes label ((log ++ cb) ++ (more ++ b.more)) =
-      rw (four (look_note label) log more cb b.more, four (look_note label) log cb more b.more, run.no_looks) refl in
-      let whole_part : IsPart (HasRead reading) label k p k' p' (done ++ one) (run.notes ++ notes) ((log ++ more) ++ (cb ++ b.more))
-      (h.object_log.receipts ++ b.object_more) = part-append run.part part order looks in
+      let more = first ∷ (finish_receipt c ran.restart u) ∷ [] in
+      let looks = look_notes label in
+      let order : SameNotes (notes_of label ((log ++ more) ++ (cb ++ b.more)) (h.object_log.receipts ++ b.object_more))
+      (both_noted (notes_of label (log ++ cb) h.object_log.receipts) _) = record {
+        entries = rw (four (entry_note label) log more cb b.more, notes-append (entry_note label) log cb)
+            (woven (entry_notes label log) (entry_notes label cb) (entry_notes label b.more) _ _);
+        others = notes_same _ _ refl (four (look_note label) log more cb b.more ∙ ap (λ xs. xs ++ (looks cb ++ looks b.more)) (append-nil (looks log))
+            ∙ sym (append_assoc (looks log) (looks cb) (looks b.more)) ∙ ap (λ xs. xs ++ looks b.more) (sym (notes-append (look_note label) log cb))
+            ∙ ap (λ xs. looks (log ++ cb) ++ xs) (sym (append-nil (looks b.more))))
+            (both (object_note label) h.object_log.receipts b.object_more) (both (skip_note label) h.object_log.receipts b.object_more) refl refl;
+      } in
+      let logs : notes_of label (log' ++ h'.log.receipts) h'.object_log.receipts
+      ≡ notes_of label ((log ++ more) ++ (cb ++ b.more)) (h.object_log.receipts ++ b.object_more) =
+      ap (λ rs. notes_of label (rs ++ h'.log.receipts) h'.object_log.receipts) turn.receipts
+      ∙ ap (λ rs. notes_of label ((log ++ more) ++ rs) h'.object_log.receipts) b.adds.0
+      ∙ ap (notes_of label ((log ++ more) ++ (cb ++ b.more))) b.adds.1 in
       record {
         fired = run.fired ++ f ∷ [];
         many = omega (arith, run.many, length-append run.fired (f ∷ []));
         notes = run.notes ++ notes;
-        no_looks = rw (turn.receipts, notes-append (look_note label) log more, run.no_looks) refl;
         claimed = rw (turn.receipts, claimed_in-append log more, run.claimed) (sym (map-append (λ (g : Fired). g.timer) run.fired (f ∷ [])));
-        part = rw (all, turn.receipts)
-            (subst (λ rs. IsPart (HasRead reading) label k p k' p' (done ++ one) (run.notes ++ notes) ((log ++ more) ++ rs) h'.object_log.receipts) (sym b.adds)
-            (subst (IsPart (HasRead reading) label k p k' p' (done ++ one) (run.notes ++ notes) ((log ++ more) ++ (cb ++ b.more))) (sym b.adds_objects)
-            whole_part));
+        part = rw all (part_noted (same-trans (same_notes logs) order) (part_then run.part part));
         have = λ e joined goes follows later behind points.
             let whole : flat_map (fires base at) (run.fired ++ f ∷ []) ++ later ≡ done ++ (one ++ later) = rw (all, append_assoc done one later) refl in
-            let grows = objects_grow p1 p' part.objects.goes_on in
-            let before_run = run.have e joined (goes_before part.timers.enters.seen goes) (follows_before p1 p' e part.objects.goes_on follows) (one ++ later)
+            let grows = objects_grow p1 p' part.goes_on in
+            let before_run = run.have e joined (goes_before part.enters.seen goes) (λ i. follows_object (part.goes_on.each i) (follows i)) (one ++ later)
             (λ i. rw (made-append i one later)
             (each_joined (made i one) (made i later) (λ x le. omega (arith, le)) (λ x less. let le = grows i in omega (arith, less, le))
-            (part.objects.rise i).above (behind i)))
+            (part.rise i).above (behind i)))
             (λ i m before rest parts low high below above.
             points i m before rest (whole ∙ parts) low (let le = grows i in omega (arith, high, le)) below above) in
             let one_run = turn_ran claim b (u.stamp + 1) restarted own finish e joined goes follows done
             (λ i none. let le = grows i in
             points i (length (seen_of p' i)) (with_claim base at f done) ((f.body ++ finishing) ++ later)
             (whole ∙ sym (append_assoc done claiming ((f.body ++ finishing) ++ later)))
-            (let begun = objects_grow p p1 run.part.objects.goes_on i in omega (arith, le, begun)) (omega arith)
+            (let begun = objects_grow p p1 run.part.goes_on i in omega (arith, le, begun)) (omega arith)
             (rw (made-append i done claiming, append-nil (made i done))
-            (each_weaker (made i done) (λ x less. omega (arith, less, le)) (run.part.objects.rise i).below))
+            (each_weaker (made i done) (λ x less. omega (arith, less, le)) (run.part.rise i).below))
             (rw (made-append i (f.body ++ finishing) later, made-append i f.body finishing, none i) (behind i))) in
             rw one_run.1 (run_push (witness_of s e) label e.order context base at [] done (length k.seen) run.fired run.notes (length k1.seen) f (length k'.seen)
             before_run refl one_run.0);
       }
+    where
+      both : {R N : Type 0} (note : R → Option N) (xs ys : List R)
+          → present (map note (xs ++ ys)) ≡ present (map note xs) ++ (present (map note ys) ++ [])
+      both note xs ys = notes-append note xs ys ∙ ap (λ zs. present (map note xs) ++ zs) (sym (append-nil (present (map note ys))))
 
   -- law: so many turns, from empty logs on
   pub turns_kept : (n : ℕ) (h h' : Firing) (k k' : KnownOfTimers) (log' : List Receipt) → h.objects.now ≡ x.objects → h.callbacks.now ≡ x.callbacks
@@ -308,7 +312,6 @@ module _ (s : Script) (x : WorldOf) (is : IsWorldOf s x) (some : 1 ≤ s.limit) 
         fired = [];
         many = refl;
         notes = [];
-        no_looks = refl;
         claimed = refl;
         part = part_none (begins_same refl) refl;
         have = λ e joined goes follows later behind points. (refl, omega arith);

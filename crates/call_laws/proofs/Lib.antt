@@ -3,6 +3,8 @@ pub mod Entering
 pub mod CallKept
 pub mod TimerCalls
 pub mod Writing
+pub mod Noted
+pub mod Stays
 pub mod Parts
 pub mod Bodies
 pub mod Triggered
@@ -20,6 +22,5 @@ pub mod SettimeParts
 pub mod Settimes
 pub mod Starts
 pub mod SeenOff
-pub mod ShiftKept
 pub mod Evacuated
 pub mod OffLine

@@ -1,8 +1,13 @@
 -- A call on an object that made an entry, as its lane keeps it: it found the object's timer, perhaps cancelled and perhaps started it, and then made the entry.
-use Rattle.std.proofs.Common.{◌≤◌, ◌≡◌, ℕ, ◌+◌, Option, Some, List, [], ◌++◌, length, arith, refl, sym, ap, ◌∙◌, subst, ◌≤◌, Bool, ◌∷◌}
+use Rattle.call_laws.proofs.Parts.{HasRead}
+use Rattle.call_laws.proofs.CallKept.{IsStamp}
+use Rattle.call_laws.proofs.Noted.{notes_of, notes_of-append, with_done-joins}
+use Rattle.call_laws.proofs.Parts.{part_made, part_none, part_then}
+use Rattle.call_laws.proofs.Stays.{timer_stays}
+use Rattle.lane_notes.specs.Notes.{both_noted}
+use Rattle.std.proofs.Common.{◌≤◌, ◌≡◌, ℕ, ◌+◌, Option, Some, List, [], length, arith, refl, sym, ap, ◌∙◌, subst, Bool, ◌∷◌}
 use Rattle.ktime.specs.Readings.{ClockReading}
 use Rattle.seq_timer.specs.Steps.{Timer}
-use Rattle.seq_timer.specs.declared.system.SystemEntry.{SystemEntry}
 use Rattle.base_row.specs.declared.log.Receipt.{Receipt}
 use Rattle.hr_timers.specs.Known.{KnownOfTimers, timer_then}
 use Rattle.timer_objects.specs.Calls.{phase_of, EntersCall}
@@ -13,21 +18,17 @@ use Rattle.record_text.specs.declared.record.Answer.{Answer}
 use Rattle.record_text.specs.declared.record.ObjectEntry.{ObjectEntry}
 use Rattle.run_history.specs.Told.{object_stamp_in, object_called}
 use Rattle.run_history.specs.Objects.{armed_in_phase}
-use Rattle.run_history.specs.Order.{NeverFall}
 use Rattle.script_text.specs.declared.script.Script.{Script}
 use Rattle.lane_notes.specs.Arms.{arm_noted}
-use Rattle.run_history.specs.Witnesses.{entries_in}
 use Rattle.run_history.specs.Runs.{witness_of, Ending, IsJoined, moves_spans}
 use Rattle.run_history.specs.Truths.{IsSpan, IsSpanBy, IsTrueStart}
 use Rattle.run_history.proofs.ObjectsMade.{settime_actions}
 use Rattle.run_history.proofs.OthersMade.{plain}
-use Rattle.run_history.proofs.PassState.{timer_seen}
-use Rattle.run_history.proofs.Promise.{seen_first}
 use Rattle.lane_world.specs.Called.{lane_caller, LaneOf, ReadsClock, with_done}
-use Rattle.lane_world.proofs.Kept.{Follows, IsNextCall, KeepsCall, seen_by, goes_before}
+use Rattle.lane_world.proofs.Kept.{Follows, IsNextCall, KeepsCall, seen_by}
+use Rattle.lane_world.proofs.SeenMore.{goes_before}
 use Rattle.lane_world.specs.Worlds.{WorldOf}
 use Rattle.pass_names.proofs.Passes.{begins_length}
-use Rattle.base_row.specs.declared.view.Opening.{Opening}
 use Rattle.timer_setting.specs.declared.arming.Arm.{Arm}
 use Rattle.timer_objects.specs.declared.object.ObjectReply.{ObjectReply}
 use Rattle.script_text.specs.declared.script.Call.{Call}
@@ -35,18 +36,16 @@ use Rattle.run_history.specs.Fits.{FitsCall}
 use Rattle.run_history.proofs.Kept.{IsKept}
 use Rattle.ktime.specs.declared.mode.Mode.{Mode}
 use Rattle.run_history.specs.Witnesses as witnesses
-use Rattle.call_laws.proofs.Armed.{HasRead, IsArmedSo, IsLike, IsRearmSpan, start_true, TimerPart}
-use Rattle.call_laws.proofs.CallKept.{clock_read, reading_goes_on, unstamped}
+use Rattle.call_laws.proofs.Armed.{IsArmedSo, IsLike, IsRearmSpan, start_true, TimerPart}
+use Rattle.call_laws.proofs.CallKept.{clock_read, reading_goes_on}
 use Rattle.call_laws.proofs.PartKept.{keeps_part}
-use Rattle.call_laws.proofs.Parts.{IsNotedAs, IsPart, part_made, part_none, part_then}
+use Rattle.call_laws.proofs.Parts.{IsNotedAs}
 use Rattle.timer_objects.specs.Arming.{stamp_seen}
 use Rattle.timer_objects.specs.declared.cell.SpannedCall.{SpannedCall}
 use Rattle.timer_setting.specs.declared.arming.Arm.TheVariants as arms
 use Rattle.std.proofs.lemmas.List.{append-nil}
 use Rattle.timer_objects.specs.Steps.{object_answer}
 use Rattle.lane_world.specs.Runs.{ObjectMove}
-use Rattle.run_history.specs.Receipts.{PlacedEntry}
-use Rattle.run_history.specs.Promises as promises
 use Rattle.std.proofs.Common.{length-append}
 use Rattle.std.specs.List.{slice_get}
 use Rattle.counted_row.specs.Views.{StateAfter}
@@ -90,17 +89,12 @@ module _ {s : Script} {x : WorldOf} {l : LaneOf} (m : LaneOf) {call : Call} (nex
   -- ---- in a run that goes on from there
 
   module _ {e : Ending} (follows : Follows m.pass e) (joined : IsJoined s e) where
-    -- a timer as the lane knows it is the script's
-    timer_at : (ys : List SystemEntry) → promises.GoesOn ys e → witnesses.timer_along (witness_of s e) (length ys) timer ≡ timer_then x.timers.about ys timer
-    timer_at ys on =
-        timer_seen (witness_of s e) ys on.0 (seen_first ys joined on) timer ∙ sym (ap (λ (o : Opening). timer_then o ys timer) next.world.timers)
-
     timer_now : witnesses.timer_along (witness_of s e) (length w.seen) timer ≡ timer_then x.timers.about w.seen timer
-    timer_now = timer_at w.seen follows.timers
+    timer_now = timer_stays next.world.timers joined w.seen follows.timers timer
 
-    -- law: so it is where the call found it
+    -- law: a timer as the lane knew it where the call found it is the script's
     pub timer_found : witnesses.timer_along (witness_of s e) (length begin.seen) timer ≡ timer_then x.timers.about begin.seen timer
-    timer_found = timer_at begin.seen (goes_before k.part.1.timers.enters.seen follows.timers)
+    timer_found = timer_stays next.world.timers joined begin.seen (goes_before k.part.1.enters.seen follows.timers) timer
 
     -- law: what became of its start
     pub outcome_is : IsArmedSo arm (witnesses.timer_along (witness_of s e) (length w.seen) timer)
@@ -155,30 +149,27 @@ module _ {s : Script} {x : WorldOf} {l : LaneOf} (m : LaneOf) {call : Call} (nex
 
   -- ---- the call
 
-  module _ (on : object_called call ≡ Some timer) (reads : ReadsClock l.pass m.pass reading) (notes : m.notes ≡ with_done l.notes l.label log object_log)
-      {entry : ObjectEntry} (noted : IsNotedAs (HasRead reading) made.call reply entry) where
+  module _ (reads : ReadsClock l.pass m.pass reading) (notes : m.notes ≡ with_done l.notes l.label log object_log) {entry : ObjectEntry}
+      (noted : IsNotedAs (HasRead reading) made.call reply entry) where
     -- law: a lane keeps the call, where it fits
-    pub keeps_made : (a : Answer) → object_stamp_in a ≡ []
+    pub keeps_made : (a : Answer) → IsStamp m.pass.objects (object_called call) (object_stamp_in a)
         → ((e : Ending) → Follows m.pass e → IsJoined s e → IsKept (witness_of s e) (moves_spans e) l.label
         (plain reading.stamp (length begin.seen) (length w.seen) (settime_actions timer cancel k.start number entry)) k.part.0 call a (seen_by l.pass)
         (seen_by m.pass) → (moves_spans e).first l.label ≤ length begin.seen
         → FitsCall (witness_of s e) l.label call a (seen_by l.pass) (seen_by m.pass))
         → KeepsCall s l call a m
-    keeps_made a unstamps fits =
+    keeps_made a stamp fits =
         let p = l.pass in
         let q = m.pass in
-        let ds = settime_actions timer cancel k.start number entry in
-        let trace = plain reading.stamp (length begin.seen) (length w.seen) ds in
         let receipt_of : ObjectReply → ObjectReceipt = λ r. record { object = timer; number = number; call = made; reply = r } in
-        let log_is : object_log ≡ receipt_of step.reply ∷ [] = enters.object_log ∙ ap (λ r. receipt_of r ∷ []) enters.reply in
-        let as_told = subst (λ r. IsNotedAs (HasRead reading) made.call r entry) enters.reply noted in
-        let entered = part_made {v = w} {step = step} enters.commits.adds enters.commits.opening as_told in
-        let Whole : List PlacedEntry → List Receipt → List ObjectReceipt → Type 0 =
-        λ ns rs os. IsPart (HasRead reading) l.label p.timers.known p.objects w q.objects ds ns rs os in
-        let whole : Whole k.part.0 log object_log =
-        subst (λ ns. Whole ns log object_log) (append-nil k.part.0) (subst (λ rs. Whole (k.part.0 ++ []) rs object_log) (append-nil log)
-        (subst (Whole (k.part.0 ++ []) (log ++ [])) (sym log_is) (part_then (part_none k.seen k.mine) (part_then k.part.1 entered)))) in
-        keeps_part next m a trace whole (reading_goes_on p q reading reads) (clock_read reads.looks) notes refl reads.count
-        (λ i. subst (λ ns. NeverFall (length (seen_of p.objects i)) ns (length (seen_of q.objects i))) (sym (unstamped i call a timer ds on unstamps))
-        (whole.objects.steps i))
+        let this = receipt_of step.reply ∷ [] in
+        let log_is : object_log ≡ this = enters.object_log ∙ ap (λ r. receipt_of r ∷ []) enters.reply in
+        let entered = part_made {s = s} {label = l.label} {v = w} {q = q.objects} {step = step} enters.commits.adds enters.commits.opening
+        (subst (λ r. IsNotedAs (HasRead reading) made.call r entry) enters.reply noted) in
+        let whole = rw (append-nil k.part.0) at (part_then (part_none {v = p.timers.known} {p = p.objects} {w = begin} k.seen k.mine)
+        (part_then k.part.1 entered)) in
+        keeps_part next m a (plain reading.stamp (length begin.seen) (length w.seen) (settime_actions timer cancel k.start number entry)) whole
+        (reading_goes_on p q reading reads) (clock_read reads.looks)
+        (notes ∙ with_done-joins l.notes l.label log object_log ∙ ap (both_noted l.notes) (ap (notes_of l.label log) log_is
+        ∙ ap (λ rs. notes_of l.label rs this) (sym (append-nil log)) ∙ notes_of-append l.label log [] [] this)) refl reads.count stamp
         (λ e follows joined has kept low. let le = begins_length k.seen in fits e follows joined kept (omega (arith, le, low)))

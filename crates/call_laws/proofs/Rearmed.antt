@@ -26,7 +26,8 @@ use Rattle.run_history.specs.Objects.{armed_in_phase}
 use Rattle.script_text.specs.declared.script.Call.{Call}
 use Rattle.script_text.specs.declared.script.Script.{Script}
 use Rattle.lane_world.specs.Called.{LaneOf}
-use Rattle.lane_world.proofs.Kept.{IsNextCall, begins_same}
+use Rattle.lane_world.proofs.Kept.{IsNextCall}
+use Rattle.lane_world.proofs.SeenMore.{begins_same}
 use Rattle.lane_world.specs.Worlds.{WorldOf}
 use Rattle.call_laws.proofs.Armed.{IsLike, IsRearmSpan, start_none, start_part, TimerPart}
 use Rattle.call_laws.proofs.Parts.{part_none}
@@ -70,7 +71,7 @@ rearm_part {s = s} {x = x} {l = l} next t reading {w = w} {base = base} {span = 
     let now = timer_then x.timers.about w.seen t in
     let seen : now.running ≡ None → now.stamp ≤ span.from =
     λ none. let from = r.1.from ∙ ap (λ k. quiet_at last k now.stamp) none in omega (arith, from) in
-    let does = start_none next t reading {cancel = None} r.1.looks.seen r.1.looks.mine ([], part_none (begins_same refl) refl) modes.Keep 0 refl r.2 in
+    let does = start_none next t reading {cancel = None} [] r.1.looks.seen r.1.looks.mine ([], part_none (begins_same refl) refl) modes.Keep 0 refl r.2 in
     subst (λ a. RearmPart s x l t w base reading a span log) (sym r.0)
     (record { begin = w; ns = 0; timely = omega arith; does = does; spans = (sym r.1.to, seen) })
 rearm_part {s = s} {x = x} {l = l} next t reading {w = w} {base = base} {span = span} {log = log} last (Some wanted) arm timely r =
@@ -80,7 +81,7 @@ rearm_part {s = s} {x = x} {l = l} next t reading {w = w} {base = base} {span = 
       ns = wanted.ns;
       timely = its.1;
       does = subst (λ k. TimerPart s x l t r.begin w k wanted.ns base reading arm None log) its.0
-          (start_part next t reading {cancel = None} r.looks.seen r.looks.mine ([], part_none (begins_same refl) refl) r.starts);
+          (start_part next t reading {cancel = None} [] r.looks.seen r.looks.mine ([], part_none (begins_same refl) refl) r.starts);
       spans = subst (λ a. IsRearmSpan (timer_then x.timers.about r.begin.seen t) (timer_then x.timers.about w.seen t) a span.from span.to)
           (sym r.starts.outcome) (spans r.starts.answer);
     }

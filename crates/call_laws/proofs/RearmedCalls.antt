@@ -1,4 +1,6 @@
 -- Calls on objects that may arm their timer again, as their lanes keep them: an acceptance, a read, and a gettime of either kind.
+use Rattle.call_laws.proofs.Entering.{made_inside}
+use Rattle.call_laws.proofs.CallKept.{IsStamp}
 use Rattle.std.proofs.Common.{◌≡◌, ◌≤◌, ℕ, Some, option_map, List, [], length, refl, sym, ap, subst}
 use Rattle.clock_cell.specs.Views.{writes}
 use Rattle.ktime.specs.Readings.{ClockReading}
@@ -46,7 +48,7 @@ use Rattle.lane_world.specs.Called.{accept_told, Called, lane_caller, CallsObjec
 use Rattle.lane_world.proofs.Kept.{IsNextCall, KeepsCall, Follows, seen_by}
 use Rattle.lane_world.specs.Worlds.{WorldOf}
 use Rattle.call_laws.proofs.Sights.{keeps_full, keeps_same}
-use Rattle.std.proofs.Common.{◌+◌, false, [], arith}
+use Rattle.std.proofs.Common.{◌+◌, false, arith}
 use Rattle.ktime.specs.declared.mode.Mode.TheVariants as modes
 use Rattle.timer_objects.specs.Calls.{wanted_by}
 use Rattle.record_text.specs.declared.record.Armed.{Armed}
@@ -61,11 +63,9 @@ use Rattle.run_history.proofs.ObjectsMade.{IsRearmed, rearming_actions}
 use Rattle.run_history.proofs.OthersMade.{plain}
 use Rattle.pass_names.proofs.Passes.{begins_length}
 use Rattle.timer_objects.specs.Calls.{Caller}
-use Rattle.run_history.proofs.ObjectsMade.{rearming_actions}
 use Rattle.call_laws.proofs.CallKept.{clock_read}
 use Rattle.call_laws.proofs.Parts.{noted_at}
 use Rattle.lane_world.proofs.Declared.{declared_base}
-use Rattle.call_laws.proofs.Armed.{places_inside}
 use Rattle.call_laws.proofs.ObjectMade.{keeps_made, rearm_span, start_is}
 use Rattle.call_laws.proofs.Rearmed.{like_restart, rearm_part, RearmPart, wanted_timely}
 use Rattle.script_text.specs.declared.script.Call.{Call}
@@ -85,8 +85,7 @@ arm_back : (arm : Arm) → (posix_arm (arm_noted arm) 0 ≡ arm_told arm) × (fd
 arm_back arms.NotAsked = (refl, refl)
 arm_back arm = (refl, refl)
 
-module _ {s : Script} {x : WorldOf} {l m : LaneOf} {call : Call} (next : IsNextCall s x l call) {timer : ℕ} (on : object_called call ≡ Some timer)
-    {a : Answer} {Does : Caller → Caller → ClockReading → Type 0} (c : CallsObject x l m a Does) {r : Rearming} {reply : ObjectReply}
+module _ {s : Script} {x : WorldOf} {l m : LaneOf} {call : Call} (next : IsNextCall s x l call) {timer : ℕ} {a : Answer} {Does : Caller → Caller → ClockReading → Type 0} (c : CallsObject x l m a Does) {r : Rearming} {reply : ObjectReply}
     (made : RearmingMade x.objects x.timers.about (lane_caller l.pass [] []) (lane_caller m.pass c.log c.object_log) timer r c.reading reply)
     (entry : Armed → ObjectEntry) where
   part : RearmPart s x l timer m.pass.timers.known (decl_at x.objects timer).base c.reading made.arm made.span c.log
@@ -103,9 +102,9 @@ module _ {s : Script} {x : WorldOf} {l m : LaneOf} {call : Call} (next : IsNextC
     arms = subst (λ b. Arms (WasOffLine (witness_of s e) (length part.begin.seen) (length m.pass.timers.known.seen)) s.limit timer modes.Keep part.ns
         c.reading.stamp b (arm_noted made.arm) part.does.start) (declared_base s x timer next.world) (part.does.arms e joined follows.timers);
     ends = length m.pass.timers.known.seen;
-    between = begins_length part.does.part.1.timers.enters.seen;
+    between = begins_length part.does.part.1.enters.seen;
     high = omega arith;
-    part = places_inside part.does.part.1.timers.enters;
+    part = made_inside part.does.part.1.enters.made;
     holds = start_is m next made.enters part.does follows joined false
         (like_restart x.timers.about m.pass.timers.known timer made.arm _ made.bears);
     span = rearm_span m next made.enters part.does follows joined made.arm part.spans;
@@ -116,72 +115,70 @@ module _ {s : Script} {x : WorldOf} {l m : LaneOf} {call : Call} (next : IsNextC
       → skip_generation (rearming_call r c.reading made.arm) reply ≡ None
       → ((clock : List ClockLine)
       → ShowsObjectCall clock (rearming_call r (reading_at clock c.reading.stamp) made.arm) reply (entry (arm_noted made.arm)))
-      → (b : Answer) → object_stamp_in b ≡ [] → ((e : Ending) (begin last : ℕ) (arm : Armed) (start : List Action) (number : ℕ)
+      → (b : Answer) → IsStamp m.pass.objects (object_called call) (object_stamp_in b) → ((e : Ending) (begin last : ℕ) (arm : Armed) (start : List Action)
+      (number : ℕ)
       (notes : List PlacedEntry) → IsKept (witness_of s e) (moves_spans e) l.label
       (plain c.reading.stamp begin last (rearming_actions timer start number (entry arm))) notes call b (seen_by l.pass) (seen_by m.pass)
       → (moves_spans e).first l.label ≤ begin → IsRearmed (witness_of s e) l.label notes c.reading.stamp begin last timer arm start number
       → FitsCall (witness_of s e) l.label call b (seen_by l.pass) (seen_by m.pass))
       → KeepsCall s l call b m
-  keeps_rearming noted no_skip shows b unstamps fits =
-      keeps_made m next made.enters part.does on c.reads c.notes
-      (noted_at c.reading (λ r'. rearming_call r r' made.arm) reply (entry (arm_noted made.arm)) noted no_skip shows) b unstamps
+  keeps_rearming noted no_skip shows b stamp fits =
+      keeps_made m next made.enters part.does c.reads c.notes
+      (noted_at c.reading (λ r'. rearming_call r r' made.arm) reply (entry (arm_noted made.arm)) noted no_skip shows) b stamp
       (λ e follows joined kept low. fits e _ _ (arm_noted made.arm) part.does.start _ part.does.part.0 kept low (rearmed follows joined))
 
 -- ---- the calls
 
-module _ {s : Script} {x : WorldOf} {l m : LaneOf} {a : Answer} {timer : ℕ} where
-  accept_kept : IsNextCall s x l (calls.Accept timer) → (reply : AcceptReply) → accept_noted (accept_answer_of reply) ≡ Some reply
-      → object_stamp_in (answer_of_accept reply) ≡ []
-      → CallsObject x l m a (λ old new reading. RearmingMade x.objects x.timers.about old new timer rearmings.Accepting reading
-      (replies.Posix (posix_replies.Accept (accept_answer_of reply))))
-      → KeepsCall s l (calls.Accept timer) (answer_of_accept reply) m
-  accept_kept next reply back unstamps c =
-      let answered = posix_replies.Accept (accept_answer_of reply) in
-      keeps_rearming next refl c c.does (λ arm. object_entries.Accept c.reading.stamp arm reply)
-      (ap (option_map (λ (r : AcceptReply). object_entries.Accept c.reading.stamp (arm_noted c.does.arm) r)) back) refl
-      (λ clock. ap (λ k. Some (record { call = posix_calls.Accept (reading_at clock c.reading.stamp) k; reply = answered })) (arm_back c.does.arm).0)
-      (answer_of_accept reply) unstamps (λ e begin last arm start number notes kept low rearmed. accept_made reply kept low rearmed)
+-- law: a lane keeps an acceptance
+pub keeps_accept : {s : Script} {x : WorldOf} {l m : LaneOf} {a : Answer} {timer : ℕ} → IsNextCall s x l (calls.Accept timer)
+    → Called x l (calls.Accept timer) a m → KeepsCall s l (calls.Accept timer) a m
+keeps_accept {s} {x} {l} {m} {a} {timer} next called = subst (λ b. KeepsCall s l (calls.Accept timer) b m) (sym called.1) (by_answer called.0 called.2)
+  where
+    accepted : (reply : AcceptReply) → accept_noted (accept_answer_of reply) ≡ Some reply
+        → IsStamp m.pass.objects (Some timer) (object_stamp_in (answer_of_accept reply))
+        → CallsObject x l m a (λ old new reading. RearmingMade x.objects x.timers.about old new timer rearmings.Accepting reading
+        (replies.Posix (posix_replies.Accept (accept_answer_of reply)))) → KeepsCall s l (calls.Accept timer) (answer_of_accept reply) m
+    accepted reply back stamp c =
+        keeps_rearming next c c.does (λ arm. object_entries.Accept c.reading.stamp arm reply)
+        (ap (option_map (λ (r : AcceptReply). object_entries.Accept c.reading.stamp (arm_noted c.does.arm) r)) back) refl (λ clock.
+        ap (λ k. Some (record { call = posix_calls.Accept (reading_at clock c.reading.stamp) k; reply = posix_replies.Accept (accept_answer_of reply) }))
+        (arm_back c.does.arm).0) (answer_of_accept reply) stamp
+        (λ e begin last arm start number notes kept low rearmed. accept_made reply kept low rearmed)
 
-  -- law: a lane keeps an acceptance
-  pub keeps_accept : IsNextCall s x l (calls.Accept timer) → Called x l (calls.Accept timer) a m → KeepsCall s l (calls.Accept timer) a m
-  keeps_accept next called = subst (λ b. KeepsCall s l (calls.Accept timer) b m) (sym called.1) (by_answer called.0 called.2)
-    where
-      by_answer : (g : AcceptAnswer) → CallsObject x l m a (λ old new reading. Accepts x.objects x.timers.about old new timer reading g)
-          → KeepsCall s l (calls.Accept timer) (accept_told g) m
-      by_answer (accept_answers.Spent n) c =
-          keeps_full next (answers.Spent n) timer n c.does (clock_read c.reads.looks) c.notes
-          refl refl (λ e. refl) (λ e saw. saw)
-      by_answer (accept_answers.Accepted overrun) c = accept_kept next (acceptances.Accepted overrun) refl refl c
-      by_answer accept_answers.NoSignal c = accept_kept next acceptances.NoSignal refl refl c
+    by_answer : (g : AcceptAnswer) → CallsObject x l m a (λ old new reading. Accepts x.objects x.timers.about old new timer reading g)
+        → KeepsCall s l (calls.Accept timer) (accept_told g) m
+    by_answer (accept_answers.Spent n) c =
+        keeps_full next (answers.Spent n) timer n c.does (clock_read c.reads.looks) c.notes (λ stamp. (stamp, refl)) (λ e. refl) (λ e saw. saw)
+    by_answer (accept_answers.Accepted overrun) c = accepted (acceptances.Accepted overrun) refl tt c
+    by_answer accept_answers.NoSignal c = accepted acceptances.NoSignal refl tt c
 
-module _ {s : Script} {x : WorldOf} {l m : LaneOf} {a : Answer} {timer len : ℕ} where
-  read_kept : IsNextCall s x l (calls.Read timer len) → (reply : ReadReply) → read_noted (read_answer_of reply) ≡ Some reply
-      → object_stamp_in (answer_of_read reply) ≡ []
-      → CallsObject x l m a (λ old new reading. (count_length ≤ len)
-      × RearmingMade x.objects x.timers.about old new timer rearmings.Reading reading (replies.Fd (fd_replies.Read (read_answer_of reply))))
-      → KeepsCall s l (calls.Read timer len) (answer_of_read reply) m
-  read_kept next reply back unstamps c =
-      let answered = fd_replies.Read (read_answer_of reply) in
-      keeps_rearming next refl c c.does.1 (λ arm. object_entries.Read c.reading.stamp arm reply)
-      (ap (option_map (λ (r : ReadReply). object_entries.Read c.reading.stamp (arm_noted c.does.1.arm) r)) back) refl
-      (λ clock. ap (λ k. Some (record { call = fd_calls.Read (reading_at clock c.reading.stamp) k; reply = answered })) (arm_back c.does.1.arm).1)
-      (answer_of_read reply) unstamps (λ e begin last arm start number notes kept low rearmed. read_made len reply kept low rearmed c.does.0)
+-- law: a lane keeps a read
+pub keeps_read : {s : Script} {x : WorldOf} {l m : LaneOf} {a : Answer} {timer len : ℕ} → IsNextCall s x l (calls.Read timer len)
+    → Called x l (calls.Read timer len) a m → KeepsCall s l (calls.Read timer len) a m
+keeps_read {s} {x} {l} {m} {a} {timer} {len} next called =
+    subst (λ b. KeepsCall s l (calls.Read timer len) b m) (sym called.1) (by_answer called.0 called.2)
+  where
+    read : (reply : ReadReply) → read_noted (read_answer_of reply) ≡ Some reply
+        → IsStamp m.pass.objects (Some timer) (object_stamp_in (answer_of_read reply)) → CallsObject x l m a (λ old new reading. (count_length ≤ len)
+        × RearmingMade x.objects x.timers.about old new timer rearmings.Reading reading (replies.Fd (fd_replies.Read (read_answer_of reply))))
+        → KeepsCall s l (calls.Read timer len) (answer_of_read reply) m
+    read reply back stamp c =
+        keeps_rearming next c c.does.1 (λ arm. object_entries.Read c.reading.stamp arm reply)
+        (ap (option_map (λ (r : ReadReply). object_entries.Read c.reading.stamp (arm_noted c.does.1.arm) r)) back) refl (λ clock.
+        ap (λ k. Some (record { call = fd_calls.Read (reading_at clock c.reading.stamp) k; reply = fd_replies.Read (read_answer_of reply) }))
+        (arm_back c.does.1.arm).1) (answer_of_read reply) stamp
+        (λ e begin last arm start number notes kept low rearmed. read_made len reply kept low rearmed c.does.0)
 
-  -- law: a lane keeps a read
-  pub keeps_read : IsNextCall s x l (calls.Read timer len) → Called x l (calls.Read timer len) a m → KeepsCall s l (calls.Read timer len) a m
-  keeps_read next called = subst (λ b. KeepsCall s l (calls.Read timer len) b m) (sym called.1) (by_answer called.0 called.2)
-    where
-      by_answer : (g : ReadAnswer) → CallsObject x l m a (λ old new reading. ReadsFd x.objects x.timers.about old new timer len reading g)
-          → KeepsCall s l (calls.Read timer len) (read_told g) m
-      by_answer read_answers.ShortBuffer c =
-          keeps_same next answers.Invalid timer c.does.1 (clock_read c.reads.looks) c.notes
-          refl refl (λ e. (refl, c.does.0)) (λ e. tt)
-      by_answer (read_answers.Spent n) c =
-          keeps_full next (answers.Spent n) timer n c.does.1 (clock_read c.reads.looks) c.notes
-          refl refl (λ e. (refl, c.does.0)) (λ e saw. saw)
-      by_answer (read_answers.Count total) c = read_kept next (reads.Count total) refl refl c
-      by_answer read_answers.Canceled c = read_kept next reads.Canceled refl refl c
-      by_answer read_answers.Again c = read_kept next reads.Again refl refl c
+    by_answer : (g : ReadAnswer) → CallsObject x l m a (λ old new reading. ReadsFd x.objects x.timers.about old new timer len reading g)
+        → KeepsCall s l (calls.Read timer len) (read_told g) m
+    by_answer read_answers.ShortBuffer c =
+        keeps_same next answers.Invalid c.does.1 (clock_read c.reads.looks) c.notes tt (λ e. (refl, c.does.0)) (λ e. tt)
+    by_answer (read_answers.Spent n) c =
+        keeps_full next (answers.Spent n) timer n c.does.1 (clock_read c.reads.looks) c.notes (λ stamp. (stamp, refl)) (λ e. (refl, c.does.0))
+        (λ e saw. saw)
+    by_answer (read_answers.Count total) c = read (reads.Count total) refl tt c
+    by_answer read_answers.Canceled c = read reads.Canceled refl tt c
+    by_answer read_answers.Again c = read reads.Again refl tt c
 
 -- law: a lane keeps a gettime of a descriptor
 pub keeps_gettime-fd : {s : Script} {x : WorldOf} {l m : LaneOf} {a : Answer} {timer base : ℕ} → IsNextCall s x l (calls.Gettime timer)
@@ -190,13 +187,13 @@ pub keeps_gettime-fd : {s : Script} {x : WorldOf} {l m : LaneOf} {a : Answer} {t
     → KeepsCall s l (calls.Gettime timer) a m
 keeps_gettime-fd {s = s} {l = l} {m = m} {timer = timer} next kind (gettimes.Spent n) c =
     subst (λ b. KeepsCall s l (calls.Gettime timer) b m) (sym c.does.1)
-    (keeps_full next (answers.Spent n) timer n c.does.0 (clock_read c.reads.looks) c.notes refl
-    refl (λ e. let last = length m.pass.timers.known.seen in
+    (keeps_full next (answers.Spent n) timer n c.does.0 (clock_read c.reads.looks) c.notes
+    (λ stamp. (stamp, refl)) (λ e. let last = length m.pass.timers.known.seen in
     subst (λ k. DoesGettime (WasOffLine (witness_of s e) last last) s.limit k timer (length (writes m.pass.clock.knows)) (answers.Spent n) [])
     (sym kind) refl) (λ e saw. saw))
 keeps_gettime-fd {s = s} {l = l} {m = m} {timer = timer} {base = base} next kind (gettimes.Left left interval stamp) c =
-    let answered = fd_replies.Gettime (lefts.Left left interval) in
     subst (λ b. KeepsCall s l (calls.Gettime timer) b m) (sym c.does.1)
-    (keeps_rearming next refl c c.does.0.0 (λ arm. object_entries.Gettime c.reading.stamp arm left interval) refl refl
-    (λ clock. ap (λ k. Some (record { call = fd_calls.Gettime (reading_at clock c.reading.stamp) k; reply = answered })) (arm_back c.does.0.0.arm).1)
-    (answers.Left left interval) refl (λ e begin last arm start number notes kept low rearmed. gettime_made base left interval kept low rearmed kind))
+    (keeps_rearming next c c.does.0.0 (λ arm. object_entries.Gettime c.reading.stamp arm left interval) refl refl
+    (λ clock. ap (λ k. Some (record { call = fd_calls.Gettime (reading_at clock c.reading.stamp) k; reply = (fd_replies.Gettime (lefts.Left left interval)) }))
+    (arm_back c.does.0.0.arm).1)
+    (answers.Left left interval) tt (λ e begin last arm start number notes kept low rearmed. gettime_made base left interval kept low rearmed kind))

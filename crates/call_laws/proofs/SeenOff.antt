@@ -1,11 +1,12 @@
 -- Bases that a pass has seen off line were so in the run; so the way of a start is one of the run.
-use Rattle.std.proofs.Common.{◌≡◌, ℕ, Some, List, [], ◌∷◌, length, sym, ap, ◌∙◌}
+use Rattle.call_laws.proofs.Stays.{standing_stays}
+use Rattle.std.proofs.Common.{◌≡◌, ℕ, List, [], ◌∷◌, length, ap, ◌∙◌}
 use Rattle.seq_timer.specs.declared.standing.Standing.{Standing}
 use Rattle.seq_timer.specs.declared.system.SystemEntry.{SystemEntry}
 use Rattle.base_row.specs.Calls.{opening_of}
 use Rattle.base_row.specs.declared.view.Opening.{Opening}
 use Rattle.hr_timers.specs.Ways as ways
-use Rattle.hr_timers.specs.Ways.{standing_then, WasOff}
+use Rattle.hr_timers.specs.Ways.{WasOff}
 use Rattle.pass_names.proofs.Passes.{begins_length}
 use Rattle.script_text.specs.Declarations.{declareds_of, terms_of}
 use Rattle.script_text.specs.declared.script.Script.{Script}
@@ -13,23 +14,18 @@ use Rattle.run_history.specs.Promises.{GoesOn}
 use Rattle.run_history.specs.Runs.{witness_of, Ending, IsJoined}
 use Rattle.run_history.specs.Starts as runs
 use Rattle.run_history.specs.Truths.{WasOffLine}
-use Rattle.run_history.proofs.PassState.{base_seen}
-use Rattle.run_history.proofs.Promise.{seen_first}
-use Rattle.lane_world.proofs.Kept.{goes_before}
+use Rattle.lane_world.proofs.SeenMore.{goes_before}
 
 -- law: a base that a pass saw off line between two moments was so between these in each run that goes on from there
 pub was_seen : (s : Script) (o : Opening) → o ≡ opening_of s.bases (declareds_of s) (terms_of s) → (e : Ending) → IsJoined s e
     → (low high : List SystemEntry) → GoesOn high e → (base heir : ℕ) → WasOff o low high base heir
     → WasOffLine (witness_of s e) (length low) (length high) base heir
-was_seen s o is e joined low high goes base heir was =
-    let on = goes_before was.to goes in
-    let at : (standing_then o was.at base).heir ≡ Some heir = was.off in (
-      length was.at,
-      begins_length was.from,
-      begins_length was.to,
-      ap (λ (y : Standing). y.heir) (base_seen (witness_of s e) was.at on.0 (seen_first was.at joined on) base
-          ∙ sym (ap (λ (y : Opening). standing_then y was.at base) is)) ∙ at,
-    )
+was_seen s o is e joined low high goes base heir was = (
+  length was.at,
+  begins_length was.from,
+  begins_length was.to,
+  ap (λ (y : Standing). y.heir) (standing_stays is joined was.at (goes_before was.to goes) base) ∙ was.off,
+)
 
 module _ (o : Opening) (low high : List SystemEntry) (Reached : ℕ → ℕ → Type 0) (to : (base heir : ℕ) → WasOff o low high base heir → Reached base heir) where
   way_seen : (base : ℕ) (path : List ℕ) (last : ℕ) → ways.IsWay o low high base path last → runs.IsWay Reached base path last

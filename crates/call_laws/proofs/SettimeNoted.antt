@@ -1,4 +1,5 @@
 -- The object's entry of a settime, as it is noted and answered.
+use Rattle.call_laws.proofs.Parts.{HasRead}
 use Rattle.std.proofs.Common.{◌≡◌, ℕ, Bool, true, false, if◌then◌else◌, Some, refl, ap, None, List}
 use Rattle.ktime.specs.Readings.{ClockReading}
 use Rattle.timer_setting.specs.declared.arming.Arm.TheVariants as arms
@@ -32,7 +33,7 @@ use Rattle.record_text.specs.declared.record.ClockLine.{ClockLine}
 use Rattle.timer_objects.specs.declared.object.Kind.{Kind}
 use Rattle.timer_objects.specs.declared.object.Kind.TheVariants as over
 use Rattle.record_text.specs.declared.record.ObjectEntry.{ObjectEntry}
-use Rattle.call_laws.proofs.Armed.{HasRead, IsArmedSo}
+use Rattle.call_laws.proofs.Armed.{IsArmedSo}
 use Rattle.run_history.specs.Witnesses.{timer_along}
 
 module _ (flags value interval : ℕ) (reading : ClockReading) (answer : SettimeAnswer) where

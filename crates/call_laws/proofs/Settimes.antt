@@ -1,4 +1,6 @@
 -- A settime of an object, as its lane keeps it: the disarming of the object's timer, its start, and the object's entry.
+use Rattle.call_laws.proofs.Entering.{made_inside}
+use Rattle.call_laws.proofs.CallKept.{IsStamp}
 use Rattle.std.proofs.Common.{◌≡◌, ℕ, ◌+◌, true, Option, None, Some, List, [], length, arith, refl, sym, ap, ◌∙◌, subst}
 use Rattle.std.specs.Prelude.{MatchOption}
 use Rattle.ktime.specs.Readings.{ClockReading}
@@ -27,7 +29,8 @@ use Rattle.run_history.specs.Runs.{witness_of, Ending, IsJoined}
 use Rattle.run_history.specs.Truths.{WasOffLine}
 use Rattle.run_history.proofs.ObjectsMade.{FoundIdle, IsSet, settime_made}
 use Rattle.lane_world.specs.Called.{Called, lane_caller, CallsObject, LaneOf, ReadsClock, settime_told, with_done}
-use Rattle.lane_world.proofs.Kept.{Follows, IsNextCall, KeepsCall, begins_same}
+use Rattle.lane_world.proofs.Kept.{Follows, IsNextCall, KeepsCall}
+use Rattle.lane_world.proofs.SeenMore.{begins_same}
 use Rattle.lane_world.specs.Worlds.{WorldOf}
 use Rattle.call_laws.proofs.CallKept.{clock_read}
 use Rattle.pass_names.proofs.Passes.{begins_length}
@@ -36,7 +39,7 @@ use Rattle.call_laws.proofs.Sights.{keeps_full, keeps_same}
 use Rattle.timer_objects.specs.Steps.{ObjectAllows}
 use Rattle.base_row.specs.Logs.{receipts_of}
 use Rattle.hr_timers.specs.Calls.{cancel_entries}
-use Rattle.call_laws.proofs.Armed.{disarmed_part, places_inside, settime_start, TimerPart, TimersPart}
+use Rattle.call_laws.proofs.Armed.{disarmed_part, settime_start, TimerPart, TimersPart}
 use Rattle.call_laws.proofs.ObjectMade.{keeps_made, outcome_is, start_is, timer_found, whole_span}
 use Rattle.call_laws.proofs.SettimeNoted.{settime_noted, SettimeNoted}
 use Rattle.call_laws.proofs.SettimeParts.{checked, IsRefusal, like_start, raw_object, takes_valid, valid_for}
@@ -61,7 +64,7 @@ module _ {s : Script} {x : WorldOf} {l : LaneOf} (m : LaneOf) {timer flags : ℕ
   abbrev begin : KnownOfTimers
   begin = let v = l.pass.timers.known in record v { seen = set.disarms.cancelled.at }
 
-  disarmed : (cancel : Option (ℕ × ℕ)) × TimersPart l reading begin set.disarmed (cancels timer cancel) set.cancel_log
+  disarmed : (cancel : Option (ℕ × ℕ)) × TimersPart s l reading begin set.disarmed (cancels timer cancel) set.cancel_log
       × (cancel ≡ None → IsIdle (timer_then x.timers.about begin.seen timer))
   disarmed =
       let d = set.disarms in
@@ -72,7 +75,7 @@ module _ {s : Script} {x : WorldOf} {l : LaneOf} (m : LaneOf) {timer flags : ℕ
       (d.receipts ∙ ap (λ k. receipts_of timer k (cancel_entries d.answer)) d.from)
 
   part : TimerPart s x l timer begin w (mode_by flags) (time_of value) (decl_at x.objects timer).base reading set.arm disarmed.0 log
-  part = settime_start next timer reading set.disarms.cancelled.made.from refl disarmed.1 flags (time_of value) set.arm set.arms
+  part = settime_start next timer reading set.cancel_log set.disarms.cancelled.made.from refl disarmed.1 flags (time_of value) set.arm set.arms
 
   noted : SettimeNoted flags (time_of value) (time_of interval) reading a (decl_at x.objects timer).kind set.arm set.reply
   noted =
@@ -95,9 +98,9 @@ module _ {s : Script} {x : WorldOf} {l : LaneOf} (m : LaneOf) {timer flags : ℕ
               (subst (λ k. Arms off s.limit timer k (time_of value) reading.stamp (decl_at x.objects timer).base (arm_noted set.arm) part.start)
               (sym takes.1) (part.arms e joined follows.timers));
           ends = length w.seen;
-          between = begins_length part.part.1.timers.enters.seen;
+          between = begins_length part.part.1.enters.seen;
           high = omega arith;
-          part = places_inside part.part.1.timers.enters;
+          part = made_inside part.part.1.enters.made;
           idle = found disarmed.0 disarmed.2;
           holds = start_is m next set.enters part follows joined true (like_start x.timers.about w timer set.arm _ set.bears);
           span = whole_span m next set.enters part follows joined (set.from ∙ set.disarms.from) set.to;
@@ -111,13 +114,13 @@ module _ {s : Script} {x : WorldOf} {l : LaneOf} (m : LaneOf) {timer flags : ℕ
   -- law: the lane keeps it
   pub keeps_set : KeepsCall s l (calls.Settime timer flags value interval) (settime_told a) m
   keeps_set = subst (λ b. KeepsCall s l (calls.Settime timer flags value interval) b m) (sym noted.answers)
-      (keeps_made m next set.enters part refl reads notes noted.noted (answer_of_settime noted.told) (no_stamp noted.told) (λ e follows joined kept low.
+      (keeps_made m next set.enters part reads notes noted.noted (answer_of_settime noted.told) (no_stamp noted.told) (λ e follows joined kept low.
       settime_made noted.told kept low (is_set follows joined)
       (noted.refused (witness_of s e) timer (length w.seen) (outcome_is m next set.enters part follows joined))))
     where
-      no_stamp : (reply : SettimeReply) → object_stamp_in (answer_of_settime reply) ≡ []
-      no_stamp settimes.Canceled = refl
-      no_stamp reply = refl
+      no_stamp : (reply : SettimeReply) → IsStamp m.pass.objects (Some timer) (object_stamp_in (answer_of_settime reply))
+      no_stamp settimes.Canceled = tt
+      no_stamp reply = tt
 
 -- ---- each settime
 
@@ -146,8 +149,8 @@ keeps_settime {s = s} {x = x} {l = l} {m = m} {a = a} {timer = timer} {flags = f
     by_answer (settings.Spent n) valid full =
         let takes = takes_valid (kind_of s timer) _ flags value interval (declared_over s x timer next.world)
         (λ raw. let none = raw_object next full.reads.at raw in omega (arith, none.1, full.full, full.stamp, next.world.limit, next.range.limit.0)) in
-        keeps_full next (answers.Spent n) timer n full (clock_read c.reads.looks) c.notes refl
-        refl (λ e. (refl, takes.0 valid)) (λ e saw. saw)
+        keeps_full next (answers.Spent n) timer n full (clock_read c.reads.looks) c.notes
+        (λ stamp. (stamp, refl)) (λ e. (refl, takes.0 valid)) (λ e saw. saw)
     by_answer settings.BadFlags valid made = absurd made
     by_answer settings.BadTime valid made = absurd made
     by_answer answer valid made = keeps_set m next c.reads c.notes made valid
@@ -159,5 +162,5 @@ keeps_settime {s = s} {x = x} {l = l} {m = m} {a = a} {timer = timer} {flags = f
     by_arguments None valid made = by_answer called.0 valid made
     by_arguments (Some refusal) bad refused =
         subst (λ b. KeepsCall s l (calls.Settime timer flags value interval) b m) (sym (ap settime_told refused.0 ∙ bad.0))
-        (keeps_same next answers.Invalid timer refused.1 (clock_read c.reads.looks) c.notes
-        refl refl (λ e. (refl, λ v. bad.1 (valid_for (kind_of s timer) _ flags value interval (declared_over s x timer next.world) v))) (λ e. tt))
+        (keeps_same next answers.Invalid refused.1 (clock_read c.reads.looks) c.notes tt
+        (λ e. (refl, λ v. bad.1 (valid_for (kind_of s timer) _ flags value interval (declared_over s x timer next.world) v))) (λ e. tt))

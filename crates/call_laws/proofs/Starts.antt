@@ -1,6 +1,8 @@
 -- What a start of a timer tells: its entries as the record has them, and its answer.
+use Rattle.base_row.proofs.Placed.{terms_now}
+use Rattle.call_laws.proofs.Noted.{entered_on}
+use Rattle.run_history.specs.Actions.{Entered}
 use Rattle.std.proofs.Common.{◌≡◌, ◌≤◌, ◌<◌, ℕ, ◌+◌, is_some, List, [], ◌∷◌, map, arith, refl, sym, ap, ◌∙◌, subst, zero, suc}
-use Rattle.std.specs.List.{AllByRecursion}
 use Rattle.ktime.specs.Readings.{ClockReading}
 use Rattle.seq_timer.specs.Calls.{entries_along, step_all}
 use Rattle.seq_timer.specs.Events.{Asked, Event}
@@ -28,18 +30,10 @@ use Rattle.record_text.specs.declared.record.ClockLine.{ClockLine}
 use Rattle.script_text.specs.declared.script.StartRequest.{StartRequest}
 use Rattle.run_history.specs.Histories.{reading_at}
 use Rattle.run_history.specs.Starts.{Arming, arming_actions, first_number, IsArming, IsJustBefore, IsSentBy, SentTo, was_armed_before}
-use Rattle.run_history.specs.Traces.{all_entered}
-use Rattle.run_history.specs.Witnesses.{OfTimer}
-use Rattle.run_history.proofs.Known.{numbered}
-use Rattle.run_history.proofs.Stamped.{HaveReadings, entry_stamped}
+use Rattle.run_history.proofs.Stamped.{HaveReadings}
 use Rattle.lane_world.specs.Called.{asked_in, start_told}
-use Rattle.lane_world.proofs.PartLists.{IsEntered}
 
 -- ---- limits
-
-after_all-limit : (t : Timer) (es : List seq.Entry) → (seq.after_all t es).terms.limit ≡ t.terms.limit
-after_all-limit t [] = refl
-after_all-limit t (e ∷ es) = after_all-limit (after t e.event) es ∙ (stamp-after t e.event).1
 
 opened_limit : (list : List Declared) (terms : Terms) (t : ℕ) → 1 ≤ terms.limit → (timer_at (openings list terms) t).terms.limit ≤ terms.limit
 opened_limit [] terms t some = some
@@ -50,11 +44,9 @@ opened_limit (clock ∷ rest) terms (suc t) some = opened_limit rest terms t som
 pub limit_within : (s : Script) (o : Opening) → o ≡ opening_of s.bases (declareds_of s) (terms_of s) → 1 ≤ s.limit → (x : List SystemEntry) (t : ℕ)
     → (timer_then o x t).terms.limit ≤ s.limit
 limit_within s o is some x t =
-    let same : (timer_then o x t).terms.limit ≡ (timer_at o.timers t).terms.limit =
-    ap (λ (u : Timer). u.terms.limit) (timer_own o x t) ∙ after_all-limit (timer_at o.timers t) (entries_of t x) in
     let on : o.timers ≡ openings (declareds_of s) (terms_of s) = ap (λ (y : Opening). y.timers) is in
     let first : (timer_at o.timers t).terms.limit ≤ s.limit = rw on (opened_limit (declareds_of s) (terms_of s) t some) in
-    omega (arith, same, first)
+    omega (arith, (ap (λ (y : Terms). y.limit) (terms_now o.timers x t)), first)
 
 -- ---- a start, by the bases that it was sent to in turn
 
@@ -116,41 +108,21 @@ module _ (timer : ℕ) (request : StartRequest) (reading : ClockReading) where
   abbrev asked : Asked
   asked = asked_in request reading
 
-  -- a start that was made: its entries, as the record has them, and its answer
-  pub record StartsAs (s : Timer) (sent : List ℕ) (last : ℕ) (answer : StartAnswer) : Type 0 where
-    pub entries : numbered timer s.stamp (map entry_stamped (entries_along s (start_on asked sent last)))
-        ≡ all_entered (arming_actions timer request reading.stamp (arming_of s asked sent last))
-    pub told : start_told answer
-        ≡ answers.Started (arming_of s asked sent last).number (arming_of s asked sent last).placement.base
-        (was_armed_before (arming_of s asked sent last).outs (arming_of s asked sent last).was_armed)
-    pub only : AllByRecursion IsEntered (arming_actions timer request reading.stamp (arming_of s asked sent last))
-
-  entries_so : (s : Timer) (sent : List ℕ) (last : ℕ)
-      → numbered timer s.stamp (map entry_stamped (entries_along s (start_on asked sent last)))
-      ≡ all_entered (arming_actions timer request reading.stamp (arming_of s asked sent last))
+  -- law: the entries of a start that was made are what the call did
+  pub entries_so : (s : Timer) (sent : List ℕ) (last : ℕ) → arming_actions timer request reading.stamp (arming_of s asked sent last)
+      ≡ entered_on timer s.stamp (entries_along s (start_on asked sent last))
   entries_so s [] last = refl
   entries_so s (b ∷ bs) last =
-      ap (λ xs. (s.stamp + 1, OfTimer timer (record { event = events.Out b; reply = replies.Out (is_some s.armed) })) ∷ xs)
+      ap (λ xs. Entered timer (s.stamp + 1) (record { event = events.Out b; reply = replies.Out (is_some s.armed) }) ∷ xs)
       (entries_so (after s (events.Out b)) bs last)
 
-  only_entries : (s : Timer) (sent : List ℕ) (last : ℕ)
-      → AllByRecursion IsEntered (arming_actions timer request reading.stamp (arming_of s asked sent last))
-  only_entries s [] last = (tt, tt)
-  only_entries s (b ∷ bs) last = (tt, only_entries (after s (events.Out b)) bs last)
-
-  told_so : (s : Timer) (sent : List ℕ) (last : ℕ)
-      → start_told (start_answer s (step_all s (start_on asked sent last)) sent last)
-      ≡ answers.Started (arming_of s asked sent last).number (arming_of s asked sent last).placement.base
-      (was_armed_before (arming_of s asked sent last).outs (arming_of s asked sent last).was_armed)
-  told_so s sent last =
-      ap (λ now. start_told (start_answer s now sent last)) (stepped s sent (events.Start (asking asked last)))
+  -- law: and its answer is what they say
+  pub told_so : (s : Timer) (sent : List ℕ) (last : ℕ) (answer : StartAnswer) → answer ≡ start_answer s (step_all s (start_on asked sent last)) sent last
+      → let arming = arming_of s asked sent last in
+      start_told answer ≡ answers.Started arming.number arming.placement.base (was_armed_before arming.outs arming.was_armed)
+  told_so s sent last answer is =
+      ap start_told is ∙ ap (λ now. start_told (start_answer s now sent last)) (stepped s sent (events.Start (asking asked last)))
       ∙ ap (answers.Started (arming_of s asked sent last).number (arming_of s asked sent last).placement.base) (sym (outs_armed s sent))
-
-  -- law: what a start answers is what its entries say
-  pub started_so : (s : Timer) (sent : List ℕ) (last : ℕ) (answer : StartAnswer)
-      → answer ≡ start_answer s (step_all s (start_on asked sent last)) sent last → StartsAs s sent last answer
-  started_so s sent last answer is =
-      record { entries = entries_so s sent last; told = ap start_told is ∙ told_so s sent last; only = only_entries s sent last }
 
   -- law: a record's clock has the readings of a start's events where it has that of the start
   pub start_reads : (s : Timer) (sent : List ℕ) (last : ℕ) (clock : List ClockLine) → reading_at clock reading.stamp ≡ reading

@@ -1,4 +1,6 @@
 -- What the claim of an object's timer does: a trigger of the object, which made an entry of it or was refused.
+use Rattle.call_laws.proofs.Noted.{notes_of, same_notes}
+use Rattle.call_laws.proofs.Parts.{IsPart}
 use Rattle.std.proofs.Common.{◌≡◌, ◌≤◌, ◌-◌, ℕ, ◌+◌, Bool, true, false, if◌then◌else◌, None, Some, [], ◌∷◌, length, arith, refl, sym, ap, ◌∙◌, inl, inr}
 use Rattle.std.proofs.Math.Logic.{⊎_elim}
 use Rattle.std.proofs.lemmas.List.{append-nil}
@@ -31,17 +33,17 @@ use Rattle.run_history.specs.Actions.{Made, Skipped}
 use Rattle.run_history.specs.Histories.{reading_at}
 use Rattle.script_text.specs.Declarations.{kind_of}
 use Rattle.script_text.specs.declared.script.Script.{Script}
-use Rattle.lane_notes.specs.Objects.{object_entry_noted, object_notes, skip_generation, skip_notes}
+use Rattle.lane_notes.specs.Objects.{object_entry_noted, skip_generation}
 use Rattle.run_history.specs.Calls.{IsBody, IsTrigger}
 use Rattle.run_history.specs.Witnesses.{Fired}
 use Rattle.run_history.proofs.Lists.{at_seam}
 use Rattle.lane_world.specs.Runs.{ObjectMove}
-use Rattle.lane_world.proofs.Kept.{made_on, skips_on, begins_same}
+use Rattle.lane_world.proofs.SeenMore.{begins_same}
 use Rattle.lane_world.proofs.ObjectSeen.{span_made}
 use Rattle.timer_objects.specs.Firings.{Firing}
 use Rattle.call_laws.proofs.Entering.{enters_none, EntersNotes}
 use Rattle.lane_world.proofs.PartLists.{one_falls, rises_none}
-use Rattle.call_laws.proofs.Parts.{BodyKept, fired_of, HasRead, IsClaimed, IsNotedAs, IsObjectsPart, noted_at, objects_grow, part_claimed, part_made, part_of_objects}
+use Rattle.call_laws.proofs.Parts.{BodyKept, fired_of, HasRead, IsClaimed, IsNotedAs, noted_at, objects_grow, part_claimed, part_made}
 
 -- ---- the note of a trigger
 
@@ -78,7 +80,7 @@ fd_noted x generation reading allows = absurd allows
 -- ---- the trigger
 
 module _ (s : Script) (x : ObjectsOf) (limit : x.limit ≡ s.limit) (some : 1 ≤ s.limit) (label : Label) (c : ClaimNumbers)
-    (reading : ClockReading) {base : ℕ} {k v : KnownOfTimers} (claim : IsClaimed base c reading k v) (restart : Restart) (h h' : Firing)
+    (reading : ClockReading) {base : ℕ} {k v : KnownOfTimers} (claim : IsClaimed s base c reading k v) (restart : Restart) (h h' : Firing)
     (same_log : h'.log.receipts ≡ h.log.receipts) (stops : restart ≡ wishes.Stop)
     (is_body : (Reached : ℕ → ℕ → Type 0) (f : Fired) → IsTrigger reading.stamp f → IsBody Reached s.limit (kind_of s c.timer) reading.stamp f) (call : ObjectCall)
     (noted : (y : Object) → ObjectAllows y call → TriggerNoted call (object_answer y call) c.generation reading)
@@ -91,7 +93,7 @@ module _ (s : Script) (x : ObjectsOf) (limit : x.limit ≡ s.limit) (some : 1 �
   q = h'.objects_pass.now
 
   -- the claim's function has left timers alone
-  still : EntersNotes (HasRead reading) v v []
+  still : EntersNotes s (HasRead reading) v v []
   still = enters_none (begins_same refl) refl
 
   -- a trigger that made an entry
@@ -109,16 +111,14 @@ module _ (s : Script) (x : ObjectsOf) (limit : x.limit ≡ s.limit) (some : 1 �
         notes = [];
         more = [];
         object_more = record { object = c.timer; number = many + 1; call = step.call; reply = step.reply } ∷ [];
-        adds = same_log ∙ sym (append-nil h.log.receipts);
-        adds_objects = t.receipt;
+        adds = (same_log ∙ sym (append-nil h.log.receipts), t.receipt);
         enters = still;
-        part = part_claimed claim (part_made {step = step} adds t.commits.opening n.1);
-        kind = λ e joined goes finish rearmed. is_body _ (fired_of c body finish (asks restart) rearmed) (inl (many + 1, n.0, refl), ap asks stops);
-        holds = λ e joined goes before points. tt;
-        span = λ e follows finish rearmed. (
-          c.number - 1,
-          omega (arith, claim.some),
-          span_made q e c.timer many step (follows c.timer) (rw adds.last (at_seam adds.before [] step)),
+        part = part_claimed claim [] (record { object = c.timer; number = many + 1; call = step.call; reply = step.reply } ∷ [])
+            (part_made {step = step} adds t.commits.opening n.1);
+        ran = λ e joined goes follows finish rearmed. (
+          is_body _ (fired_of c body finish (asks restart) rearmed) (inl (many + 1, n.0, refl), ap asks stops),
+          λ before points. tt,
+          (c.number - 1, omega (arith, claim.some), span_made q e c.timer many step (follows c.timer) (rw adds.last (at_seam adds.before [] step))),
         );
       }
 
@@ -128,33 +128,33 @@ module _ (s : Script) (x : ObjectsOf) (limit : x.limit ≡ s.limit) (some : 1 �
   refused_trigger t =
       let many = length (seen_of q c.timer) in
       let r : ObjectReceipt = record { object = c.timer; number = many; call = spanned call (span_of c); reply = trigger_refused call many } in
-      let no_notes : object_notes label (r ∷ []) ≡ [] = rw (no_entry many) refl in
-      let are : skip_notes label (r ∷ []) ≡ record { label = label; object = c.timer; number = many; generation = c.generation } ∷ [] = rw (skip many) refl in
       let body = Skipped c.timer many c.generation ∷ [] in
       let grows = objects_grow p q t.reads.pass.seen in
-      let part : IsObjectsPart (HasRead reading) label p q body (r ∷ []) = record {
-        makes = λ i. ap (made_on i) no_notes;
-        rise = λ i. let le = grows i in rises_none (omega (arith, le));
-        seen = rw no_notes tt;
-        skips = λ i. ap (skips_on i) are;
-        skips_seen = rw are ((omega (arith, t.full, limit, some), omega arith), tt);
-        steps = one_falls c.timer many (λ i. length (seen_of p i)) (λ i. length (seen_of q i)) (grows c.timer) (omega arith) grows;
+      let part : IsPart s (HasRead reading) label v p v q body [] (notes_of label [] (r ∷ [])) = record {
+        enters = still;
+        are = refl;
+        told = same_notes (rw (no_entry many, skip many) refl);
         goes_on = t.reads.pass.seen;
         opening = t.reads.opening;
-        mine = rw (no_notes, append-nil p.knows.pass.mine) t.reads.pass.mine;
+        mine = t.reads.pass.mine ∙ sym (append-nil p.knows.pass.mine);
+        each = ((omega (arith, t.full, limit, some), omega arith), tt);
+        looks_rise = λ u. rises_none (omega arith);
+        rise = λ i. let le = grows i in rises_none (omega (arith, le));
+        steps = one_falls c.timer many (λ i. length (seen_of p i)) (λ i. length (seen_of q i)) (grows c.timer) (omega arith) grows;
       } in
       record {
         body = body;
         notes = [];
         more = [];
         object_more = r ∷ [];
-        adds = same_log ∙ sym (append-nil h.log.receipts);
-        adds_objects = t.receipt;
+        adds = (same_log ∙ sym (append-nil h.log.receipts), t.receipt);
         enters = still;
-        part = part_claimed claim (part_of_objects refl refl (λ t. refl) part);
-        kind = λ e joined goes finish rearmed. is_body _ (fired_of c body finish (asks restart) rearmed) (inr (many, refl), ap asks stops);
-        holds = λ e joined goes before points. (points c.timer (λ j. refl), omega (arith, t.full, limit));
-        span = λ e follows finish rearmed. tt;
+        part = part_claimed claim [] (r ∷ []) part;
+        ran = λ e joined goes follows finish rearmed. (
+          is_body _ (fired_of c body finish (asks restart) rearmed) (inr (many, refl), ap asks stops),
+          λ before points. (points c.timer (λ j. refl), omega (arith, t.full, limit)),
+          tt,
+        );
       }
 
   -- law: what the claim of an object's timer does

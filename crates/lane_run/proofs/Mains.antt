@@ -1,4 +1,5 @@
 -- The first passes answer for the lanes' passes of each kind, while these are split off and until they are taken in.
+use Rattle.lane_world.specs.Rounds.{LeadsFor}
 use Rattle.std.proofs.Common.{◌≡◌, ℕ, suc, ◌<◌, List, [], ◌∷◌, ◌++◌, length, map, get_or, refl, ap, sym, ◌∙◌, subst, arith}
 use Rattle.std.proofs.lemmas.List.{append-nil, map-append}
 use Rattle.pass_names.specs.declared.PassId.{PassId}
@@ -20,19 +21,23 @@ module _ (id_of : Lane → PassId) where
   names_push : (lanes : List Lane) (lane : Lane) → names (lanes ++ lane ∷ []) ≡ names lanes ++ (id_of lane).name ∷ []
   names_push lanes lane = map-append (λ x. (id_of x).name) lanes (lane ∷ [])
 
-  covers_push : {l m : PassId} (lanes : List Lane) (lane : Lane) → m ≡ after_split l → id_of lane ≡ child_of l → Covers l (names lanes)
-      → Covers m (names (lanes ++ lane ∷ []))
-  covers_push {l} {m} lanes lane splitter child covers =
-      subst (Covers m) (sym (names_push lanes lane)) (covers_split l m (id_of lane) (names lanes) splitter child covers)
+  leads_push : {l m : PassId} (lanes : List Lane) (lane : Lane) → m ≡ after_split l → id_of lane ≡ child_of l → LeadsFor l (names lanes)
+      → LeadsFor m (names (lanes ++ lane ∷ []))
+  leads_push {l} {m} lanes lane splitter child leads = (
+    ap (λ (i : PassId). i.name) splitter ∙ leads.0,
+    subst (Covers m) (sym (names_push lanes lane)) (covers_split l m (id_of lane) (names lanes) splitter child leads.1),
+  )
 
-  answers_pop : {l : PassId} (lanes : List Lane) (lane : Lane) → Covers l (names (lanes ++ lane ∷ [])) → AnswersFor l (id_of lane)
-  answers_pop {l} lanes lane covers = covers_answers l (id_of lane) (names lanes) [] (subst (Covers l) (names_push lanes lane) covers)
+  answers_pop : {l : PassId} (lanes : List Lane) (lane : Lane) → LeadsFor l (names (lanes ++ lane ∷ [])) → AnswersFor l (id_of lane)
+  answers_pop {l} lanes lane leads = covers_answers l (id_of lane) (names lanes) [] (subst (Covers l) (names_push lanes lane) leads.1)
 
-  covers_pop : {l m : PassId} (lanes : List Lane) (lane : Lane) → (id_of lane).split ≡ [] → m ≡ after_retire l (id_of lane)
-      → Covers l (names (lanes ++ lane ∷ [])) → Covers m (names lanes)
-  covers_pop {l} {m} lanes lane alone retired covers =
-      subst (Covers m) (append-nil (names lanes))
-      (covers_retire l (id_of lane) m (names lanes) [] alone retired (subst (Covers l) (names_push lanes lane) covers))
+  leads_pop : {l m : PassId} (lanes : List Lane) (lane : Lane) → (id_of lane).split ≡ [] → m ≡ after_retire l (id_of lane)
+      → LeadsFor l (names (lanes ++ lane ∷ [])) → LeadsFor m (names lanes)
+  leads_pop {l} {m} lanes lane alone retired leads = (
+    ap (λ (i : PassId). i.name) retired ∙ leads.0,
+    subst (Covers m) (append-nil (names lanes))
+        (covers_retire l (id_of lane) m (names lanes) [] alone retired (subst (Covers l) (names_push lanes lane) leads.1)),
+  )
 
   names_same : (old new : List Lane) → length new ≡ length old → ((k : ℕ) (d : Lane) → k < length old → id_of (get_or new k d) ≡ id_of (get_or old k d))
       → names old ≡ names new
@@ -42,6 +47,11 @@ module _ (id_of : Lane → PassId) where
       ∙ ap (λ ns. (id_of y).name ∷ ns) (names_same xs ys (omega arith) (λ k d h. each (suc k) d (omega arith)))
   names_same [] (y ∷ ys) len each = absurd (omega arith)
   names_same (x ∷ xs) [] len each = absurd (omega arith)
+
+  leads_same : {l m : PassId} (old new : List Lane) → m ≡ l → length new ≡ length old
+      → ((k : ℕ) (d : Lane) → k < length old → id_of (get_or new k d) ≡ id_of (get_or old k d)) → LeadsFor l (names old) → LeadsFor m (names new)
+  leads_same {l} {m} old new same len each leads =
+      subst (LeadsFor m) (names_same old new len each) (subst (λ i. LeadsFor i (names old)) (sym same) leads)
 
 -- ---- of all three
 
@@ -65,12 +75,9 @@ pub main_split : {x : WorldOf} {p q : WorldPass} {lanes : List Lane} (lane : Lan
 main_split {lanes = lanes} lane is split = let s = split.splits in record {
   pass = split.pass;
   unclaimed = ap (λ k. k.claims) s.timers ∙ is.unclaimed;
-  timers_first = ap (λ k. k.id.name) s.timers ∙ is.timers_first;
-  objects_first = ap (λ k. k.pass.id.name) s.objects ∙ is.objects_first;
-  clock_first = ap (λ k. k.pass.id.name) s.clock ∙ is.clock_first;
-  timers = covers_push (λ l. l.pass.timers.known.id) lanes lane (ap (λ k. k.id) s.timers) (ap (λ k. k.id) s.timers_new) is.timers;
-  objects = covers_push (λ l. l.pass.objects.knows.pass.id) lanes lane (ap (λ k. k.pass.id) s.objects) (ap (λ k. k.pass.id) s.objects_new) is.objects;
-  clock = covers_push (λ l. l.pass.clock.knows.pass.id) lanes lane (ap (λ k. k.pass.id) s.clock) (ap (λ k. k.pass.id) s.clock_new) is.clock;
+  timers = leads_push (λ l. l.pass.timers.known.id) lanes lane (ap (λ k. k.id) s.timers) (ap (λ k. k.id) s.timers_new) is.timers;
+  objects = leads_push (λ l. l.pass.objects.knows.pass.id) lanes lane (ap (λ k. k.pass.id) s.objects) (ap (λ k. k.pass.id) s.objects_new) is.objects;
+  clock = leads_push (λ l. l.pass.clock.knows.pass.id) lanes lane (ap (λ k. k.pass.id) s.clock) (ap (λ k. k.pass.id) s.clock_new) is.clock;
 }
 
 -- a lane with passes that were just split off
@@ -96,19 +103,16 @@ pub main_takes : {x : WorldOf} {p q : WorldPass} (lanes : List Lane) {lane : Lan
 main_takes lanes {lane} is of pass takes = record {
   pass = pass;
   unclaimed = takes.timers.claims ∙ ap (λ cs. cs ++ lane.pass.timers.known.claims) is.unclaimed ∙ of.unclaimed;
-  timers_first = ap (λ (l : PassId). l.name) takes.timers.id ∙ is.timers_first;
-  objects_first = ap (λ (l : PassId). l.name) takes.objects.id ∙ is.objects_first;
-  clock_first = ap (λ (l : PassId). l.name) takes.clock.id ∙ is.clock_first;
-  timers = covers_pop (λ l. l.pass.timers.known.id) lanes lane of.timers takes.timers.id is.timers;
-  objects = covers_pop (λ l. l.pass.objects.knows.pass.id) lanes lane of.objects takes.objects.id is.objects;
-  clock = covers_pop (λ l. l.pass.clock.knows.pass.id) lanes lane of.clock takes.clock.id is.clock;
+  timers = leads_pop (λ l. l.pass.timers.known.id) lanes lane of.timers takes.timers.id is.timers;
+  objects = leads_pop (λ l. l.pass.objects.knows.pass.id) lanes lane of.objects takes.objects.id is.objects;
+  clock = leads_pop (λ l. l.pass.clock.knows.pass.id) lanes lane of.clock takes.clock.id is.clock;
 }
 
 pub main_last : {x : WorldOf} {p : WorldPass} → IsMain x p [] → AreLast p
 main_last is = record {
-  timers = covers_last _ is.timers_first is.timers;
-  objects = covers_last _ is.objects_first is.objects;
-  clock = covers_last _ is.clock_first is.clock;
+  timers = covers_last _ is.timers.0 is.timers.1;
+  objects = covers_last _ is.objects.0 is.objects.1;
+  clock = covers_last _ is.clock.0 is.clock.1;
   unclaimed = is.unclaimed;
 }
 
@@ -117,13 +121,13 @@ pub main_first : {x : WorldOf} {p : WorldPass} → ArePassesOf x p → AreFirst 
 main_first {p = p} pass first = record {
   pass = pass;
   unclaimed = ap (λ (k : KnownOfTimers). k.claims) first.timers;
-  timers_first = ap (λ (k : KnownOfTimers). k.id.name) first.timers;
-  objects_first = ap (λ v. v.pass.id.name) first.objects;
-  clock_first = ap (λ v. v.pass.id.name) first.clock;
-  timers = covers_none p.timers.known.id (ap (λ (k : KnownOfTimers). k.id.split) first.timers);
-  objects = covers_none p.objects.knows.pass.id (ap (λ v. v.pass.id.split) first.objects);
-  clock = covers_none p.clock.knows.pass.id (ap (λ v. v.pass.id.split) first.clock);
+  timers = none (ap (λ (k : KnownOfTimers). k.id.name) first.timers) (ap (λ (k : KnownOfTimers). k.id.split) first.timers);
+  objects = none (ap (λ v. v.pass.id.name) first.objects) (ap (λ v. v.pass.id.split) first.objects);
+  clock = none (ap (λ v. v.pass.id.name) first.clock) (ap (λ v. v.pass.id.split) first.clock);
 }
+  where
+    none : {l : PassId} → l.name ≡ [] → l.split ≡ [] → LeadsFor l []
+    none {l} name alone = (name, covers_none l alone)
 
 -- the first passes, and lanes, that have run
 pub main_ran : {x : WorldOf} {p q : WorldPass} (old new : List Lane) → ArePassesOf x q → KeepPasses p q → length new ≡ length old
@@ -131,16 +135,10 @@ pub main_ran : {x : WorldOf} {p q : WorldPass} (old new : List Lane) → ArePass
 main_ran {p = p} {q = q} old new pass keeps len each is = record {
   pass = pass;
   unclaimed = keeps.claims ∙ is.unclaimed;
-  timers_first = ap (λ (l : PassId). l.name) keeps.timers ∙ is.timers_first;
-  objects_first = ap (λ (l : PassId). l.name) keeps.objects ∙ is.objects_first;
-  clock_first = ap (λ (l : PassId). l.name) keeps.clock ∙ is.clock_first;
-  timers = covers_same keeps.timers (names_same (λ l. l.pass.timers.known.id) old new len (λ k d h. (each k d h).timers)) is.timers;
-  objects = covers_same keeps.objects (names_same (λ l. l.pass.objects.knows.pass.id) old new len (λ k d h. (each k d h).objects)) is.objects;
-  clock = covers_same keeps.clock (names_same (λ l. l.pass.clock.knows.pass.id) old new len (λ k d h. (each k d h).clock)) is.clock;
+  timers = leads_same (λ l. l.pass.timers.known.id) old new keeps.timers len (λ k d h. (each k d h).timers) is.timers;
+  objects = leads_same (λ l. l.pass.objects.knows.pass.id) old new keeps.objects len (λ k d h. (each k d h).objects) is.objects;
+  clock = leads_same (λ l. l.pass.clock.knows.pass.id) old new keeps.clock len (λ k d h. (each k d h).clock) is.clock;
 }
-  where
-    covers_same : {l m : PassId} {these those : List (List ℕ)} → m ≡ l → these ≡ those → Covers l these → Covers m those
-    covers_same {l} {m} {these} {those} same names covers = subst (Covers m) names (subst (λ i. Covers i these) (sym same) covers)
 
 -- a lane behind the first that has run
 pub lane_ran : {x : WorldOf} {r : Round} {old new : Lane} → RunsLane x r old new → IsLaneOf x old → IsLaneOf x new
@@ -157,7 +155,7 @@ lane_ran ran is = record {
 pub first_can : {x : WorldOf} {lanes : List Lane} (first : Lane) {p : WorldPass} → first.pass ≡ p → IsMain x p lanes → CanRun x first
 first_can {x} first same is = record {
   pass = subst (ArePassesOf x) (sym same) is.pass;
-  first = λ here. ap (λ (q : WorldPass). q.timers.known.id.name) same ∙ is.timers_first;
+  first = λ here. ap (λ (q : WorldPass). q.timers.known.id.name) same ∙ is.timers.0;
 }
 
 pub lane_can : {x : WorldOf} {l : Lane} → IsLaneOf x l → CanRun x l

@@ -1,4 +1,9 @@
 -- Each call is kept, of whatever kind: so a run of lanes leaves a record that fits its script, and shows all that its last passes have seen.
+use Rattle.std.proofs.Common.{[]}
+use Rattle.std.specs.Prelude.{IfOk, Ok, Result}
+use Rattle.std.specs.declared.alloc.AllocError.{AllocError}
+use Rattle.lane_run.proofs.Mains.{main_last}
+use Rattle.lane_world.specs.Rounds.{IsMain}
 use Rattle.std.proofs.Common.{length, sym, subst, ◌≡◌, ℕ, refl}
 use Rattle.lane_notes.specs.Records.{record_from}
 use Rattle.record_text.specs.declared.record.RunRecord.{RunRecord}
@@ -8,7 +13,7 @@ use Rattle.script_text.specs.Scripts.{IsInRange}
 use Rattle.script_text.specs.declared.script.Script.{Script}
 use Rattle.lane_world.proofs.Left.{AreLastOf, ending_of}
 use Rattle.lane_world.specs.Runs.{MakesRun, ShowsAllSeen}
-use Rattle.lane_world.specs.Worlds.{AreFirst, AreLast, ArePassesOf, IsWorldOf, WorldOf}
+use Rattle.lane_world.specs.Worlds.{AreFirst, IsWorldOf, WorldOf}
 use Rattle.lane_world.specs.declared.WorldPass.{WorldPass}
 use Rattle.record_laws.proofs.ClockLines.{clock_writes}
 use Rattle.record_laws.proofs.Ended.{is_ending, is_run}
@@ -78,11 +83,12 @@ pub record IsWholeRecord (s : Script) (r : RunRecord) (q : WorldPass) : Type 0 w
 
 -- law: so is the record of a run from the first passes on
 pub run_recorded : (s : Script) (x : WorldOf) (p : WorldPass) (r : RunRecord) (q : WorldPass) → IsInRange s → IsWorldOf s x → AreFirst x p
-    → ArePassesOf x q → AreLast q → MakesRun x s p r q → IsWholeRecord s r q
-run_recorded s x p r q range world first passes last run =
+    → IsMain x q [] → {made : Result RunRecord AllocError} → made ≡ Ok r → IfOk made (λ k. MakesRun x s p k q) → IsWholeRecord s r q
+run_recorded s x p r q range world first main ok makes =
+    let run : MakesRun x s p r q = subst (λ (k : Result RunRecord AllocError). IfOk k (λ y. MakesRun x s p y q)) ok makes in
     let whole = whole_of s x range world in
     let left = left_by_rounds s x p q run.left (keeps_call s x) world range whole first run.rounds in
-    let of : AreLastOf s x q = record { range = range; world = world; whole = whole; passes = passes; last = last } in
+    let of : AreLastOf s x q = record { range = range; world = world; whole = whole; passes = main.pass; last = main_last main } in
     let record_is = record_from s.version run.shows.sorted s.bases (length s.timers) run.left.answers in
     let e = ending_of record_is q left.0 left.1 in
     subst (λ y. IsWholeRecord s y q) (sym run.shows.shows) (record {

@@ -30,7 +30,7 @@ pub record SplitsSoFar (x : WorldOf) (r : Round) (p : WorldPass) (left : LeftOf)
 pub splits_none : {x : WorldOf} {r : Round} {p : WorldPass} {left : LeftOf} → IsMain x p [] → SplitsSoFar x r p left 1 p []
 splits_none {r = r} is = record {
   main = is;
-  split = record { timers = refl; timers_mine = refl; objects = refl; objects_mine = refl; clock = refl; clock_mine = refl };
+  split = record { timers = (refl, refl); objects = (refl, refl); clock = (refl, refl) };
   lanes = λ k d h. absurd (omega (arith, h));
   begins = λ k d h. absurd (omega (arith, h));
   behind = omega arith;
@@ -64,12 +64,9 @@ splits_more {x} {r} {p} {left} {i} {lanes = lanes} lane here calls split fresh s
     let s = split.splits in record {
       main = main_split lane so_far.main split;
       split = record {
-        timers = ap (λ k. k.seen) s.timers ∙ so_far.split.timers;
-        timers_mine = ap (λ k. k.mine) s.timers ∙ so_far.split.timers_mine;
-        objects = ap (λ k. k.pass.seen) s.objects ∙ so_far.split.objects;
-        objects_mine = ap (λ k. k.pass.mine) s.objects ∙ so_far.split.objects_mine;
-        clock = ap (λ k. k.pass.seen) s.clock ∙ so_far.split.clock;
-        clock_mine = ap (λ k. k.pass.mine) s.clock ∙ so_far.split.clock_mine;
+        timers = (ap (λ k. k.seen) s.timers ∙ so_far.split.timers.0, ap (λ k. k.mine) s.timers ∙ so_far.split.timers.1);
+        objects = (ap (λ k. k.pass.seen) s.objects ∙ so_far.split.objects.0, ap (λ k. k.pass.mine) s.objects ∙ so_far.split.objects.1);
+        clock = (ap (λ k. k.pass.seen) s.clock ∙ so_far.split.clock.0, ap (λ k. k.pass.mine) s.clock ∙ so_far.split.clock.1);
       };
       lanes = All-push (λ (l : Lane). IsLaneOf x l) lanes lane so_far.lanes
           (lane_new (subst (λ n. 0 < n) (sym (ap (λ (l : Label). l.lane) fresh.label)) so_far.behind) split);
@@ -78,12 +75,9 @@ splits_more {x} {r} {p} {left} {i} {lanes = lanes} lane here calls split fresh s
         within = subst (λ n. n < length left.answers) (sym (ap (λ (l : Label). l.lane) fresh.label)) here;
         call = ap (λ (l : Label). l.call) fresh.label
             ∙ sym (ap (λ (l : Label). as_index (length (get_or left.answers l.lane []))) fresh.label);
-        timers = ap (λ k. k.seen) s.timers_new ∙ so_far.split.timers;
-        timers_mine = ap (λ k. k.mine) s.timers_new;
-        objects = ap (λ k. k.pass.seen) s.objects_new ∙ so_far.split.objects;
-        objects_mine = ap (λ k. k.pass.mine) s.objects_new;
-        clock = ap (λ k. k.pass.seen) s.clock_new ∙ so_far.split.clock;
-        clock_mine = ap (λ k. k.pass.mine) s.clock_new;
+        timers = (ap (λ k. k.seen) s.timers_new ∙ so_far.split.timers.0, ap (λ k. k.mine) s.timers_new);
+        objects = (ap (λ k. k.pass.seen) s.objects_new ∙ so_far.split.objects.0, ap (λ k. k.pass.mine) s.objects_new);
+        clock = (ap (λ k. k.pass.seen) s.clock_new ∙ so_far.split.clock.0, ap (λ k. k.pass.mine) s.clock_new);
         notes = fresh.notes;
         answers = fresh.answers;
       });

@@ -1,11 +1,12 @@
 -- What a lane keeps of one call, of each kind the same: its log, the notes that it added, and the promise that the call fits in every run that goes on
--- from what the lane's passes have seen. And what is carried to passes that have seen more.
+-- from what the lane's passes have seen.
 use Rattle.std.specs.List.{AllByRecursion, slice_get}
 use Rattle.std.specs.List.Sorted.{IsPermutation}
-use Rattle.std.proofs.Common.{ℕ, ◌≡◌, ◌≤◌, ◌<◌, ◌+◌, nat_eq, Some, List, [], ◌∷◌, length, map, take, arith, refl, sym, ap, ◌∙◌, subst, ◌++◌, filter}
+use Rattle.std.proofs.Common.{ℕ, ◌≡◌, ◌≤◌, ◌<◌, ◌+◌, nat_eq, Some, List, [], ◌∷◌, length, map, take, arith, ◌∙◌, ◌++◌, filter}
 use Rattle.clock_cell.specs.Views.{reading_after, writes}
 use Rattle.clock_model.specs.Clocks.{last_stamp}
-use Rattle.lane_notes.specs.Notes.{NotesOf, both_noted}
+use Rattle.lane_notes.specs.Notes.{NotesOf, both_noted, no_notes}
+use Rattle.record_text.proofs.Lists.{All-append}
 use Rattle.lane_notes.specs.declared.notes.BaseNote.{BaseNote}
 use Rattle.lane_notes.specs.declared.notes.EntryNote.{EntryNote}
 use Rattle.lane_notes.specs.declared.notes.LookNote.{LookNote}
@@ -18,7 +19,7 @@ use Rattle.record_text.specs.declared.record.Answer.{Answer}
 use Rattle.record_text.specs.declared.record.CallbackReply.{CallbackReply}
 use Rattle.record_text.specs.declared.record.Label.{Label}
 use Rattle.record_text.specs.declared.record.ObjectEntry.{ObjectEntry}
-use Rattle.run_history.specs.Witnesses.{OfBase, OfTimer, Owner, Shown, TimersList, Trace}
+use Rattle.run_history.specs.Witnesses.{OfBase, OfTimer, Shown, TimersList, Trace}
 use Rattle.run_history.specs.Fits.{Seen}
 use Rattle.run_history.specs.Promises as promises
 use Rattle.run_history.specs.Promises.{GoesOnClock, IsPromised}
@@ -36,15 +37,6 @@ use Rattle.timer_objects.specs.Known.{row_of, seen_of}
 use Rattle.lane_world.specs.Called.{LaneOf}
 use Rattle.lane_world.specs.Worlds.{IsWhole, IsWorldOf, WorldOf}
 use Rattle.lane_world.specs.declared.WorldPass.{WorldPass}
-use Rattle.std.proofs.lemmas.List.{take-append-le, append-nil, append_assoc}
-use Rattle.std.proofs.lemmas.Option.{slice_get_within}
-use Rattle.run_history.proofs.Known.{made_goes_on}
-use Rattle.run_history.proofs.Lists.{at_left}
-use Rattle.lane_world.specs.Rounds.{BeginsRound, HasSplit, LeftOf, TakesInPass}
-use Rattle.lane_world.specs.declared.Lane.{Lane}
-use Rattle.pass_names.proofs.Passes.{begins_length, begins_trans}
-use Rattle.seq_timer.specs.declared.system.SystemEntry.{SystemEntry}
-use Rattle.run_history.proofs.Owners.{count-append}
 use Rattle.lane_world.specs.Runs.{AreObjectLines, ObjectMove, ShowsObjectCall}
 
 -- ---- what passes have seen
@@ -112,6 +104,20 @@ list_of SkipNotes notes = notes.skips
 list_of BaseNotes notes = notes.bases
 list_of WriteNotes notes = notes.writes
 
+-- law: nothing holds of each of none, and what holds of each of both holds of each of both together
+pub each_none : (k : NoteKind) (P : NoteOf k → Type 0) → AllByRecursion P (list_of k no_notes)
+each_none EntryNotes P = tt
+each_none k P = tt
+
+pub each_both : (k : NoteKind) (P : NoteOf k → Type 0) (a b : NotesOf) → AllByRecursion P (list_of k a) → AllByRecursion P (list_of k b)
+    → AllByRecursion P (list_of k (both_noted a b))
+each_both EntryNotes P a b = All-append P a.entries b.entries
+each_both LookNotes P a b = All-append P a.looks b.looks
+each_both ObjectNotes P a b = All-append P a.objects b.objects
+each_both SkipNotes P a b = All-append P a.skips b.skips
+each_both BaseNotes P a b = All-append P a.bases b.bases
+each_both WriteNotes P a b = All-append P a.writes b.writes
+
 abbrev pub label_of : (k : NoteKind) → NoteOf k → Label
 label_of EntryNotes n = n.label
 label_of LookNotes n = n.label
@@ -150,9 +156,6 @@ told_notes notes = map of_entry notes.entries ++ map of_base notes.bases
 -- what such a note says but for its label
 abbrev pub told_in : ToldNote → ℕ × Shown
 told_in n = (n.number, n.shown)
-
-abbrev pub entry_in_note : EntryNote → ℕ × Shown
-entry_in_note n = told_in (of_entry n)
 
 abbrev pub entries_told : NotesOf → List (ℕ × Shown)
 entries_told notes = map told_in (told_notes notes)
@@ -211,16 +214,6 @@ pub record AddsPlaces (many : ℕ) (p q : WorldPass) (added : NotesOf) : Type 0 
   pub clock : (n : ℕ) → count (is_place 0 n) q.clock.knows.pass.mine
       ≡ count (is_place 0 n) p.clock.knows.pass.mine + count (is_place 0 n) (map (λ e. (0, e.stamp)) added.writes)
 
--- a look stands behind an entry of its timer that was seen
-pub record IsLookNote (q : WorldPass) (n : LookNote) : Type 0 where
-  pub some : 0 < n.number
-  pub seen : n.number ≤ receipts.count (TimersList n.timer) q.timers.known.seen
-
--- a refused expiry stands behind an entry of its object that was seen
-pub record IsSkipNote (q : WorldPass) (n : SkipNote) : Type 0 where
-  pub some : 0 < n.number
-  pub seen : n.number ≤ length (seen_of q.objects n.object)
-
 -- the write of a note stands in what was seen, in its call's span, and its line shows the clock after it
 pub record IsWriteLeft (q : WorldPass) (log : CallLog) (n : WriteNote) : Type 0 where
   pub before : ℕ
@@ -238,12 +231,13 @@ pub record IsObjectLeft (q : WorldPass) (log : CallLog) (n : ObjectNote) : Type 
   pub there : slice_get (seen_of q.objects n.object) before ≡ Some step
   pub shows : (e : Ending) → GoesOnClock (writes q.clock.knows) e → ShowsObjectCall e.run.clock step.call.call step.reply n.entry
 
--- a note is of something that was seen, and that its call did; of an entry the receipts say it
+-- A note is of something that was seen, and that its call did; of an entry the receipts say it. A look stands behind an entry of its timer that was
+-- seen, and a refused expiry behind one of its object.
 abbrev pub IsNoteSeen : (k : NoteKind) → WorldPass → CallLog → NoteOf k → Type 0
 IsNoteSeen EntryNotes q log n = Unit
-IsNoteSeen LookNotes q log n = IsLookNote q n
+IsNoteSeen LookNotes q log n = (0 < n.number) × (n.number ≤ receipts.count (TimersList n.timer) q.timers.known.seen)
 IsNoteSeen ObjectNotes q log n = IsObjectLeft q log n
-IsNoteSeen SkipNotes q log n = IsSkipNote q n
+IsNoteSeen SkipNotes q log n = (0 < n.number) × (n.number ≤ length (seen_of q.objects n.object))
 IsNoteSeen BaseNotes q log n = Unit
 IsNoteSeen WriteNotes q log n = IsWriteLeft q log n
 
@@ -283,128 +277,3 @@ pub record KeepsCall (s : Script) (l : LaneOf) (call : Call) (a : Answer) (m : L
   pub stand : StandAt m.pass (log_of l.pass m.pass notes trace)
   -- the promise
   pub promised : IsPromised s l.label.lane l.label.call (log_of l.pass m.pass notes trace) (Follows m.pass) call a (seen_by l.pass) (seen_by m.pass)
-
--- a lane has seen no less
-pub record IsNoLess (before after : Seen) : Type 0 where
-  pub clock : before.clock ≤ after.clock
-  pub moves : before.moves ≤ after.moves
-  pub objects : (i : ℕ) → before.objects i ≤ after.objects i
-
--- ---- passes that have seen more than others
-
--- law: a run that goes on from what was seen goes on from what was seen before
-pub goes_before : {A : Type 0} {xs ys all : List A} → Begins xs ys → (later : List A) × (all ≡ ys ++ later) → (later : List A) × (all ≡ xs ++ later)
-goes_before {xs = xs} begins on = (begins.rest ++ on.0, on.1 ∙ ap (λ zs. zs ++ on.0) begins.whole ∙ append_assoc xs begins.rest on.0)
-
--- a list has no fewer entries where more was seen
-pub count_begins : (o : Owner) {xs ys : List SystemEntry} → Begins xs ys → receipts.count o xs ≤ receipts.count o ys
-count_begins o {xs} begins = omega (arith, ap (receipts.count o) begins.whole, count-append o xs begins.rest)
-
--- an equal list begins with it
-pub begins_same : {A : Type 0} {xs ys : List A} → ys ≡ xs → Begins xs ys
-begins_same {xs = xs} same = record { rest = []; whole = same ∙ sym (append-nil xs) }
-
--- an item of a list stands in each that begins with it
-pub stands_on : {X : Type 0} {xs ys : List X} (i : ℕ) {x : X} → Begins xs ys → slice_get xs i ≡ Some x → slice_get ys i ≡ Some x
-stands_on {xs = xs} i {x} begins at = ap (λ zs. slice_get zs i) begins.whole ∙ at_left xs begins.rest i x at
-
--- of each list what was seen goes on
-pub record SeesMore (p q : WorldPass) : Type 0 where
-  pub timers : Begins p.timers.known.seen q.timers.known.seen
-  pub clock : Begins (writes p.clock.knows) (writes q.clock.knows)
-  pub objects : (i : ℕ) → Begins (seen_of p.objects i) (seen_of q.objects i)
-
--- ---- which have seen more
-
--- where they have seen the same
-more_equal : {p q : WorldPass} → q.timers.known.seen ≡ p.timers.known.seen → q.objects.knows.pass.seen ≡ p.objects.knows.pass.seen
-    → q.clock.knows.pass.seen ≡ p.clock.knows.pass.seen → SeesMore p q
-more_equal timers objects clock = record {
-  timers = begins_same timers;
-  clock = begins_same (ap (λ seen. entries 0 seen) clock);
-  objects = λ i. begins_same (ap (λ seen. entries i seen) objects);
-}
-
-pub more_same : {p : WorldPass} → SeesMore p p
-more_same = more_equal refl refl refl
-
--- twice more
-pub more_trans : {p q r : WorldPass} → SeesMore p q → SeesMore q r → SeesMore p r
-more_trans one two = record {
-  timers = begins_trans one.timers two.timers;
-  clock = begins_trans one.clock two.clock;
-  objects = λ i. begins_trans (one.objects i) (two.objects i);
-}
-
--- a lane's passes after a call
-pub more_called : {p q : WorldPass} → SeesOn p q → SeesMore p q
-more_called sees = record { timers = sees.timers; clock = sees.clock; objects = λ i. sees.objects.each i }
-
--- passes that others were split off, as the first lane begins a round by them
-pub more_split : {p q : WorldPass} → HasSplit p q → SeesMore p q
-more_split split = more_equal split.timers split.objects split.clock
-
--- a lane's passes at the begin of a round
-pub more_begun : {p : WorldPass} {left : LeftOf} {lane : Lane} → BeginsRound p left lane → SeesMore p lane.pass
-more_begun begins = more_equal begins.timers begins.objects begins.clock
-
--- law: passes that have taken in others have seen more than before
-pub more_taken : {p other q : WorldPass} → TakesInPass p other q → SeesMore p q
-more_taken takes = record { timers = takes.timers.seen; clock = takes.clock.seen.each 0; objects = λ i. takes.objects.seen.each i }
-
--- and than those have that they took in
-pub more_heard : {p other q : WorldPass} → TakesInPass p other q → SeesMore other q
-more_heard takes = record { timers = takes.timers.heard; clock = takes.clock.heard.each 0; objects = λ i. takes.objects.heard.each i }
-
--- ---- what follows of it
-
--- law: so they have seen no less
-pub no_less : {p q : WorldPass} → SeesMore p q → IsNoLess (seen_by p) (seen_by q)
-no_less more = record { clock = begins_length more.clock; moves = begins_length more.timers; objects = λ i. begins_length (more.objects i) }
-
--- law: a run that goes on from what the ones have seen goes on from what the others have
-pub follows_less : {p q : WorldPass} {e : Ending} → SeesMore p q → Follows q e → Follows p e
-follows_less more follows = record {
-  few = follows.few;
-  timers = goes_before more.timers follows.timers;
-  clock = goes_before more.clock follows.clock;
-  objects = λ i. let its = follows.objects i in
-      record { history = its.history; goes_on = begins_trans (more.objects i) its.goes_on; lines = its.lines };
-}
-
--- ---- what stands in what was seen
-
--- law: a call's receipts
-pub stand_later : {p q : WorldPass} {log : CallLog} → SeesMore p q → StandAt p log → StandAt q log
-stand_later {log = log} more stand = record {
-  rise = stand.rise;
-  below = stand.below;
-  made = (made_goes_on _ _ more.timers.rest log.moves.0 log.moves.1 log.notes more.timers.whole
-      (record { rise = stand.rise; below = stand.below; made = stand.made })).made;
-  shows = λ e follows. stand.shows e (follows_less more follows);
-}
-
--- law: what a note is of
-pub seen_later : (k : NoteKind) {p q : WorldPass} (log : CallLog) (n : NoteOf k) → SeesMore p q → IsNoteSeen k p log n → IsNoteSeen k q log n
-seen_later EntryNotes log n more is = tt
-seen_later LookNotes log n more is = record { some = is.some; seen = omega (arith, is.seen, count_begins (TimersList n.timer) more.timers) }
-seen_later ObjectNotes log n more is = record {
-  before = is.before;
-  number = is.number;
-  inside = is.inside;
-  step = is.step;
-  there = stands_on is.before (more.objects n.object) is.there;
-  shows = λ e on. is.shows e (goes_before more.clock on);
-}
-seen_later BaseNotes log n more is = tt
-seen_later SkipNotes log n more is = record { some = is.some; seen = omega (arith, is.seen, begins_length (more.objects n.object)) }
-seen_later WriteNotes {p = p} {q = q} log n more is =
-    let inside = slice_get_within (writes p.clock.knows) is.before n.line.write is.there in
-    let same : take n.stamp (writes q.clock.knows) ≡ take n.stamp (writes p.clock.knows) =
-    ap (take n.stamp) more.clock.whole ∙ take-append-le n.stamp (writes p.clock.knows) more.clock.rest (omega (arith, inside, is.number)) in record {
-      before = is.before;
-      number = is.number;
-      inside = is.inside;
-      there = stands_on is.before more.clock is.there;
-      shows = subst (λ ws. ShowsReading n.line (reading_after ws)) (sym same) is.shows;
-    }

@@ -3,3 +3,4 @@ pub mod Declared
 pub mod ObjectSeen
 pub mod Kept
 pub mod Left
+pub mod SeenMore

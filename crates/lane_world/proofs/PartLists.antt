@@ -2,7 +2,7 @@
 use Rattle.std.proofs.Common.{◌≡◌, ◌≤◌, ◌<◌, ℕ, ◌+◌, true, false, nat_eq, Option, List, [], ◌∷◌, ◌++◌, map, arith, refl, ap, ◌∙◌, Bool}
 use Rattle.std.specs.List.{AllByRecursion}
 use Rattle.std.proofs.lemmas.List.{map-append}
-use Rattle.run_history.specs.Actions.{Action, also, Entered, Looked, looked, Made, Shifted, numbers_of_object, Skipped, skipped, Wrote, wrote}
+use Rattle.run_history.specs.Actions.{Action, also, Looked, looked, Made, numbers_of_object, Skipped}
 use Rattle.run_history.specs.Objects.{present}
 use Rattle.run_history.specs.Order.{NeverFall}
 use Rattle.lane_notes.proofs.Receipts.{present-append}
@@ -16,7 +16,6 @@ use Rattle.std.proofs.Common.{sym}
 use Rattle.std.proofs.lemmas.List.{append_assoc, append-nil}
 use Rattle.clock_cell.specs.Views.{writes}
 use Rattle.lane_notes.specs.Notes.{both_noted, no_notes, NotesOf}
-use Rattle.run_history.specs.Actions.{made}
 use Rattle.std.proofs.lemmas.Bool.{eqb-true}
 
 -- ---- what holds of each
@@ -101,24 +100,12 @@ looked-append t [] es = refl
 looked-append t (Looked timer number reply ∷ ds) es = also-append (nat_eq timer t) (number, reply) _ _ _ (looked-append t ds es)
 looked-append t (d ∷ ds) es = looked-append t ds es
 
--- the refused expiries of two parts
-pub skipped-append : (i : ℕ) (ds es : List Action) → skipped i (ds ++ es) ≡ skipped i ds ++ skipped i es
-skipped-append i [] es = refl
-skipped-append i (Skipped j number generation ∷ ds) es = also-append (nat_eq j i) (number, generation) _ _ _ (skipped-append i ds es)
-skipped-append i (d ∷ ds) es = skipped-append i ds es
-
 -- the numbers of an object in two parts
 pub numbers-append : (i : ℕ) (ds es : List Action) → numbers_of_object i (ds ++ es) ≡ numbers_of_object i ds ++ numbers_of_object i es
 numbers-append i [] es = refl
 numbers-append i (Made j number entry ∷ ds) es = also-append (nat_eq j i) number _ _ _ (numbers-append i ds es)
 numbers-append i (Skipped j number generation ∷ ds) es = also-append (nat_eq j i) number _ _ _ (numbers-append i ds es)
 numbers-append i (d ∷ ds) es = numbers-append i ds es
-
--- two parts without a write have none
-pub wrote-append : (ds es : List Action) → wrote ds ≡ [] → wrote es ≡ [] → wrote (ds ++ es) ≡ []
-wrote-append [] es one two = two
-wrote-append (Wrote number write ∷ ds) es one two = absurd (cc)
-wrote-append (d ∷ ds) es one two = wrote-append ds es one two
 
 -- the notes of two logs, of each kind
 pub notes-append : {R N : Type 0} (note : R → Option N) (xs ys : List R) → present (map note (xs ++ ys)) ≡ present (map note xs) ++ present (map note ys)
@@ -146,29 +133,3 @@ both_noted-assoc a b c =
     notes_same (both_noted (both_noted a b) c) (both_noted a (both_noted b c)) (append_assoc a.entries b.entries c.entries)
     (append_assoc a.looks b.looks c.looks) (append_assoc a.objects b.objects c.objects) (append_assoc a.skips b.skips c.skips)
     (append_assoc a.bases b.bases c.bases) (append_assoc a.writes b.writes c.writes)
-
--- ---- entries of timers and bases, and nothing else
-
-abbrev pub IsEntered : Action → Type 0
-IsEntered (Entered timer number entry) = Unit
-IsEntered (Shifted base number event) = Unit
-IsEntered d = ⊥
-
--- there is nothing else among them
-pub record HasNoOther (ds : List Action) : Type 0 where
-  pub wrote : wrote ds ≡ []
-  pub looked : (t : ℕ) → looked t ds ≡ []
-  pub made : (i : ℕ) → made i ds ≡ []
-  pub skipped : (i : ℕ) → skipped i ds ≡ []
-  pub numbers : (i : ℕ) → numbers_of_object i ds ≡ []
-
--- law: entries of timers and bases are no writes, looks or entries of objects
-pub no_other : (ds : List Action) → AllByRecursion IsEntered ds → HasNoOther ds
-no_other [] all = record { wrote = refl; looked = λ t. refl; made = λ i. refl; skipped = λ i. refl; numbers = λ i. refl }
-no_other (Entered timer number entry ∷ ds) all =
-    let rest = no_other ds all.1 in
-    record { wrote = rest.wrote; looked = rest.looked; made = rest.made; skipped = rest.skipped; numbers = rest.numbers }
-no_other (Shifted base number event ∷ ds) all =
-    let rest = no_other ds all.1 in
-    record { wrote = rest.wrote; looked = rest.looked; made = rest.made; skipped = rest.skipped; numbers = rest.numbers }
-no_other (d ∷ ds) all = absurd all.0

@@ -149,17 +149,15 @@ expire_told reading fired (expiries.BaseBusy count timer generation) = answers.B
 
 abbrev pub settime_told : SettimeAnswer → Answer
 settime_told (settings.Old left interval) = answers.Old left interval
-settime_told settings.BadFlags = answers.Invalid
-settime_told settings.BadTime = answers.Invalid
 settime_told (settings.Spent stamp) = answers.Spent stamp
 settime_told (settings.Unarmed stamp) = answers.Unarmed stamp
 settime_told settings.Canceled = answers.Canceled
+settime_told refused = answers.Invalid
 
 abbrev pub gettime_told : Kind → ℕ → Gettime → Answer
 gettime_told kind reading (gettimes.Spent stamp) = answers.Spent stamp
 gettime_told over.Fd reading (gettimes.Left left interval stamp) = answers.Left left interval
-gettime_told over.Raw reading (gettimes.Left left interval stamp) = answers.LeftAt left interval reading stamp
-gettime_told over.Posix reading (gettimes.Left left interval stamp) = answers.LeftAt left interval reading stamp
+gettime_told kind reading (gettimes.Left left interval stamp) = answers.LeftAt left interval reading stamp
 
 abbrev pub accept_told : AcceptAnswer → Answer
 accept_told (acceptances.Accepted overrun) = answers.Accepted overrun
@@ -196,13 +194,8 @@ with_shift notes label base number event = with_base_note notes (record { label 
 
 -- that of a base that went off line, where it did
 abbrev pub with_offline_told : NotesOf → Label → ℕ → ℕ → OfflineAnswer → NotesOf
-with_offline_told notes label base heir (offs.AlreadyOffline stamp) = notes
-with_offline_told notes label base heir (offs.HeirOffline stamp) = notes
-with_offline_told notes label base heir (offs.BaseSpent stamp) = notes
-with_offline_told notes label base heir (offs.Busy moved timer generation) = notes
 with_offline_told notes label base heir (offs.Offline moved stamp) = with_shift notes label base stamp (shifts.Offline heir)
-with_offline_told notes label base heir (offs.More moved) = notes
-with_offline_told notes label base heir (offs.Spent moved timer stamp) = notes
+with_offline_told notes label base heir answer = notes
 
 -- and of one that came on line
 abbrev pub with_online_told : NotesOf → Label → ℕ → OnlineAnswer → NotesOf

@@ -1,4 +1,5 @@
 -- Rounds: the calls of a lane in turn; passes of its own for each lane, which are taken in again; and all rounds of a script.
+use Rattle.pass_names.specs.declared.PassId.{PassId}
 use Rattle.std.specs.Prelude.{ℕ, ◌≡◌, ◌+◌, ◌-◌, ◌^◌, ◌<◌, min, nat_eq, Bool, zero, suc, List, [], ◌∷◌, ◌++◌, All, false, filter, get_or, length, map, replicate, set}
 use Rattle.std.specs.List.{list_any}
 use Rattle.run_history.specs.Actions.{also}
@@ -73,23 +74,17 @@ with_lane left l = with_left left l.label.lane l.notes l.answers.items
 pub record BeginsRound (main : WorldPass) (left : LeftOf) (lane : Lane) : Type 0 where
   pub within : lane.label.lane < length left.answers
   pub call : lane.label.call ≡ as_index (length (get_or left.answers lane.label.lane []))
-  pub timers : lane.pass.timers.known.seen ≡ main.timers.known.seen
-  pub timers_mine : lane.pass.timers.known.mine ≡ []
-  pub objects : lane.pass.objects.knows.pass.seen ≡ main.objects.knows.pass.seen
-  pub objects_mine : lane.pass.objects.knows.pass.mine ≡ []
-  pub clock : lane.pass.clock.knows.pass.seen ≡ main.clock.knows.pass.seen
-  pub clock_mine : lane.pass.clock.knows.pass.mine ≡ []
+  pub timers : (lane.pass.timers.known.seen ≡ main.timers.known.seen) × (lane.pass.timers.known.mine ≡ [])
+  pub objects : (lane.pass.objects.knows.pass.seen ≡ main.objects.knows.pass.seen) × (lane.pass.objects.knows.pass.mine ≡ [])
+  pub clock : (lane.pass.clock.knows.pass.seen ≡ main.clock.knows.pass.seen) × (lane.pass.clock.knows.pass.mine ≡ [])
   pub notes : lane.notes ≡ no_notes
   pub answers : lane.answers.items ≡ []
 
 -- passes were split off, and nothing but names has changed by it
 pub record HasSplit (p q : WorldPass) : Type 0 where
-  pub timers : q.timers.known.seen ≡ p.timers.known.seen
-  pub timers_mine : q.timers.known.mine ≡ p.timers.known.mine
-  pub objects : q.objects.knows.pass.seen ≡ p.objects.knows.pass.seen
-  pub objects_mine : q.objects.knows.pass.mine ≡ p.objects.knows.pass.mine
-  pub clock : q.clock.knows.pass.seen ≡ p.clock.knows.pass.seen
-  pub clock_mine : q.clock.knows.pass.mine ≡ p.clock.knows.pass.mine
+  pub timers : (q.timers.known.seen ≡ p.timers.known.seen) × (q.timers.known.mine ≡ p.timers.known.mine)
+  pub objects : (q.objects.knows.pass.seen ≡ p.objects.knows.pass.seen) × (q.objects.knows.pass.mine ≡ p.objects.knows.pass.mine)
+  pub clock : (q.clock.knows.pass.seen ≡ p.clock.knows.pass.seen) × (q.clock.knows.pass.mine ≡ p.clock.knows.pass.mine)
 
 -- The first lane begins a round by the first passes, from which those of the others were split off. Nothing is noted, and its next call is the one
 -- behind those that it has answers of.
@@ -112,26 +107,17 @@ TakesInLanes p left [] q now = (q ≡ p) × (now ≡ left)
 TakesInLanes p left (lane ∷ lanes) q now =
     (m : WorldPass) × (n : LeftOf) × TakesInLanes p left lanes m n × TakesInPass m lane.pass q × (now ≡ with_lane n lane)
 
--- the names of lanes' passes, of each kind
-abbrev pub timer_names : List Lane → List (List ℕ)
-timer_names lanes = map (λ l. l.pass.timers.known.id.name) lanes
-
-abbrev pub object_names : List Lane → List (List ℕ)
-object_names lanes = map (λ l. l.pass.objects.knows.pass.id.name) lanes
-
-abbrev pub clock_names : List Lane → List (List ℕ)
-clock_names lanes = map (λ l. l.pass.clock.knows.pass.id.name) lanes
+-- a pass is a first one, and answers for those of these names and for no others
+abbrev pub LeadsFor : PassId → List (List ℕ) → Type 0
+LeadsFor id names = (id.name ≡ []) × Covers id names
 
 -- the first passes, which answer for those of these lanes and for no others
 pub record IsMain (x : WorldOf) (p : WorldPass) (lanes : List Lane) : Type 0 where
   pub pass : ArePassesOf x p
   pub unclaimed : p.timers.known.claims ≡ []
-  pub timers_first : p.timers.known.id.name ≡ []
-  pub objects_first : p.objects.knows.pass.id.name ≡ []
-  pub clock_first : p.clock.knows.pass.id.name ≡ []
-  pub timers : Covers p.timers.known.id (timer_names lanes)
-  pub objects : Covers p.objects.knows.pass.id (object_names lanes)
-  pub clock : Covers p.clock.knows.pass.id (clock_names lanes)
+  pub timers : LeadsFor p.timers.known.id (map (λ l. l.pass.timers.known.id.name) lanes)
+  pub objects : LeadsFor p.objects.knows.pass.id (map (λ l. l.pass.objects.knows.pass.id.name) lanes)
+  pub clock : LeadsFor p.clock.knows.pass.id (map (λ l. l.pass.clock.knows.pass.id.name) lanes)
 
 -- the passes of a lane behind the first are the world's, answer for no others and have no claims
 pub record IsLaneOf (x : WorldOf) (l : Lane) : Type 0 where

@@ -1,4 +1,6 @@
 -- The sorted notes of entries, each with the place that its call's receipt has: they are what a record's lines of timers and bases are made of.
+use Rattle.script_text.proofs.Lists.{All-map}
+use Rattle.lane_notes.specs.Sorted.{Place}
 use Rattle.run_history.specs.Receipts as receipts
 use mathlib.Core.Bool.{cond}
 use Rattle.std.proofs.Common.{◌≡◌, ℕ, ◌+◌, ◌<◌, ◌≤◌, true, false, nat_eq, Some, List, [], ◌∷◌, filter, length, map, take, arith, refl, sym, ap, ◌∙◌, subst}
@@ -99,38 +101,24 @@ told_rise t k (e ∷ es) bs rise behind =
 
 -- ---- notes of one list
 
--- of a timer's list the notes are those of the timer's entries, and of a base's those of the base's
-timers_on : (t : ℕ) (es : List EntryNote)
-    → map line_told (filter (is_on (TimersList t)) (map of_entry es))
-    ≡ map (λ n. record { label = n.label; shown = OfTimer t n.entry }) (filter (is_of_list place_of_entry t) es)
-timers_on t [] = refl
-timers_on t (e ∷ es) =
-    let notes = filter (is_on (TimersList t)) (map of_entry es) in
-    let own = filter (is_of_list place_of_entry t) es in
-    elim (nat_eq e.timer t) as (λ b. nat_eq e.timer t ≡ b → map line_told (cond b (of_entry e ∷ notes) notes)
-    ≡ map (λ (n : EntryNote). record { label = n.label; shown = OfTimer t n.entry }) (cond b (e ∷ own) own)) [
-      | true ↦ λ is. ap (λ u. record { label = e.label; shown = OfTimer u e.entry } ∷ map line_told notes) (eqb-true e.timer t is)
-          ∙ ap (λ zs. record { label = e.label; shown = OfTimer t e.entry } ∷ zs) (timers_on t es)
-      | false ↦ λ is. timers_on t es
+-- the notes of a kind that are of a list give its lines
+lines_on : {X : Type 0} (of : X → ToldNote) (place : X → Place) (o : Owner) (l : ℕ) (line : X → ShownLine)
+    → ((x : X) → is_on o (of x) ≡ nat_eq (place x).list l) → ((x : X) → (place x).list ≡ l → line_told (of x) ≡ line x) → (xs : List X)
+    → map line_told (filter (is_on o) (map of xs)) ≡ map line (filter (is_of_list place l) xs)
+lines_on of place o l line test same [] = refl
+lines_on of place o l line test same (x ∷ xs) =
+    let notes = filter (is_on o) (map of xs) in
+    let own = filter (is_of_list place l) xs in
+    let rest = lines_on of place o l line test same xs in
+    ap (λ b. map line_told (cond b (of x ∷ notes) notes)) (test x) ∙ elim (nat_eq (place x).list l) as (λ b. nat_eq (place x).list l ≡ b
+    → map line_told (cond b (of x ∷ notes) notes) ≡ map line (cond b (x ∷ own) own)) [
+      | true ↦ λ is. ap (λ y. y ∷ map line_told notes) (same x (eqb-true (place x).list l is)) ∙ ap (λ zs. line x ∷ zs) rest
+      | false ↦ λ is. rest
     ] refl
 
 no_timers_on : (b : ℕ) (es : List EntryNote) → filter (is_on (BasesList b)) (map of_entry es) ≡ []
 no_timers_on b [] = refl
 no_timers_on b (e ∷ es) = no_timers_on b es
-
-bases_on : (b : ℕ) (bs : List BaseNote)
-    → map line_told (filter (is_on (BasesList b)) (map of_base bs))
-    ≡ map (λ n. record { label = n.label; shown = OfBase b n.event }) (filter (is_of_list place_of_base b) bs)
-bases_on b [] = refl
-bases_on b (e ∷ bs) =
-    let notes = filter (is_on (BasesList b)) (map of_base bs) in
-    let own = filter (is_of_list place_of_base b) bs in
-    elim (nat_eq e.base b) as (λ x. nat_eq e.base b ≡ x → map line_told (cond x (of_base e ∷ notes) notes)
-    ≡ map (λ (n : BaseNote). record { label = n.label; shown = OfBase b n.event }) (cond x (e ∷ own) own)) [
-      | true ↦ λ is. ap (λ u. record { label = e.label; shown = OfBase u e.event } ∷ map line_told notes) (eqb-true e.base b is)
-          ∙ ap (λ zs. record { label = e.label; shown = OfBase b e.event } ∷ zs) (bases_on b bs)
-      | false ↦ λ is. bases_on b bs
-    ] refl
 
 no_bases_on : (t : ℕ) (bs : List BaseNote) → filter (is_on (TimersList t)) (map of_base bs) ≡ []
 no_bases_on t [] = refl
@@ -141,13 +129,16 @@ of_timer_told : (t : ℕ) (ns : NotesOf) → map line_told (filter (is_on (Timer
 of_timer_told t ns =
     ap (map line_told) (filter-append (is_on (TimersList t)) (map of_entry ns.entries) (map of_base ns.bases)
     ∙ ap (λ zs. filter (is_on (TimersList t)) (map of_entry ns.entries) ++ zs) (no_bases_on t ns.bases)
-    ∙ append-nil (filter (is_on (TimersList t)) (map of_entry ns.entries))) ∙ timers_on t ns.entries
+    ∙ append-nil (filter (is_on (TimersList t)) (map of_entry ns.entries))) ∙ lines_on of_entry place_of_entry (TimersList t) t _ (λ e. refl)
+    (λ e is. ap (λ u. record { label = e.label; shown = OfTimer u e.entry }) is) ns.entries
 
 of_base_told : (b : ℕ) (ns : NotesOf) → map line_told (filter (is_on (BasesList b)) (told_notes ns))
     ≡ map (λ n. record { label = n.label; shown = OfBase b n.event }) (filter (is_of_list place_of_base b) ns.bases)
 of_base_told b ns =
     ap (map line_told) (filter-append (is_on (BasesList b)) (map of_entry ns.entries) (map of_base ns.bases)
-    ∙ ap (λ zs. zs ++ filter (is_on (BasesList b)) (map of_base ns.bases)) (no_timers_on b ns.entries)) ∙ bases_on b ns.bases
+    ∙ ap (λ zs. zs ++ filter (is_on (BasesList b)) (map of_base ns.bases)) (no_timers_on b ns.entries)) ∙ lines_on of_base place_of_base (BasesList b) b _
+    (λ e. refl)
+    (λ e is. ap (λ u. record { label = e.label; shown = OfBase u e.event }) is) ns.bases
 
 -- ---- the record's lines
 
@@ -246,16 +237,9 @@ module _ {s : Script} {x : WorldOf} {q : WorldPass} {notes sorted : NotesOf} {lo
   -- a note's label is a call's
   note_called : (n : ToldNote) → HasPlace (told_notes notes) n → IsLabel s n.label
   note_called n st = all_at (λ (m : ToldNote). IsLabel s m.label) (told_notes notes) st.0 n (All-append (λ (m : ToldNote). IsLabel s m.label)
-      (map of_entry notes.entries) (map of_base notes.bases) (of_entries notes.entries (each_weaker notes.entries (λ e in_it. in_it.0) (left.seen EntryNotes)))
-      (of_bases notes.bases (each_weaker notes.bases (λ e in_it. in_it.0) (left.seen BaseNotes)))) st.1
-    where
-      of_entries : (es : List EntryNote) → AllByRecursion (λ e. IsLabel s e.label) es → AllByRecursion (λ m. IsLabel s m.label) (map of_entry es)
-      of_entries [] all = tt
-      of_entries (e ∷ es) all = (all.0, of_entries es all.1)
-
-      of_bases : (bs : List BaseNote) → AllByRecursion (λ b. IsLabel s b.label) bs → AllByRecursion (λ m. IsLabel s m.label) (map of_base bs)
-      of_bases [] all = tt
-      of_bases (b ∷ bs) all = (all.0, of_bases bs all.1)
+      (map of_entry notes.entries) (map of_base notes.bases)
+      (All-map _ of_entry notes.entries (each_weaker notes.entries (λ e in_it. in_it.0) (left.seen EntryNotes)))
+      (All-map _ of_base notes.bases (each_weaker notes.bases (λ e in_it. in_it.0) (left.seen BaseNotes)))) st.1
 
   -- law: receipts are of calls of the script, in their calls' spans
   pub receipts_inside : (c : Label) → AllByRecursion (λ y. IsLabel s c × ((logs c).moves.0 ≤ y.place) × (y.place < (logs c).moves.1)) (logs c).notes

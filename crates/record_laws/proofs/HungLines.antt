@@ -1,4 +1,5 @@
 -- The record has under its lines the looks and refused expiries that calls noted, each under the line of its number.
+use Rattle.lane_world.proofs.Kept.{IsNoteSeen}
 use Rattle.run_history.specs.Receipts as receipts
 use Rattle.run_history.specs.Witnesses.{TimersList}
 use Rattle.std.proofs.Common.{◌≡◌, ℕ, ◌+◌, ◌≤◌, List, filter, length, map, arith, refl, sym, ap, ◌∙◌, subst}
@@ -27,7 +28,7 @@ use Rattle.run_history.specs.Receipts.{Rises}
 use Rattle.run_history.specs.Runs.{CallLog}
 use Rattle.run_history.proofs.Lists.{all_at, each}
 use Rattle.run_history.proofs.Looks.{of_call, own_looks_are, own_skips_are}
-use Rattle.lane_world.proofs.Kept.{IsLookNote, IsSkipNote, LookNotes, SkipNotes, looks_on, skips_on}
+use Rattle.lane_world.proofs.Kept.{LookNotes, SkipNotes, looks_on, skips_on}
 use Rattle.lane_world.proofs.Left.{AreLastOf, AreLeft}
 use Rattle.lane_world.specs.Worlds.{WorldOf}
 use Rattle.lane_world.specs.declared.WorldPass.{WorldPass}
@@ -57,8 +58,8 @@ module _ {s : Script} {x : WorldOf} {q : WorldPass} {notes sorted : NotesOf} {lo
       (subst (Rises 1) (ap (map (λ (y : ℕ × CallbackReply). y.0)) (sym (own_looks_noted c t))
       ∙ map-map (λ (y : ℕ × CallbackReply). y.0) told (own_on place_of_look t c notes.looks)) ((left.tell c).tells.looks_rise t)))
 
-  look_noted : (n : LookNote) → HasPlace notes.looks n → IsLabel s n.label × IsLookNote q n
-  look_noted n st = all_at (λ m. IsLabel s m.label × IsLookNote q m) notes.looks st.0 n (left.seen LookNotes) st.1
+  look_noted : (n : LookNote) → HasPlace notes.looks n → IsLabel s n.label × IsNoteSeen LookNotes q (logs n.label) n
+  look_noted n st = all_at (λ m. IsLabel s m.label × IsNoteSeen LookNotes q (logs m.label) m) notes.looks st.0 n (left.seen LookNotes) st.1
 
   -- law: a call's looks under the record's lines are what it was told
   pub looks_own : (c : Label) (t : ℕ) → own_looks c 1 (lines_of_timer (record_from s.version sorted s.bases (length s.timers) answers) t) ≡ looked t (logs c).trace.actions
@@ -69,8 +70,8 @@ module _ {s : Script} {x : WorldOf} {q : WorldPass} {notes sorted : NotesOf} {lo
       (all_under_lines place_of_look (λ n. n.reply) timer_line (λ line. line.looks) (λ l. l.label) (λ l. l.reply) (λ k n us. map-map _ look_of us)
       place_of_entry t sorted.entries is.looks (λ n st of.
       let its = (look_noted n st).1 in
-      let seen = subst (λ u. n.number ≤ receipts.count (TimersList u) q.timers.known.seen) of its.seen in
-      (omega (arith, its.some), omega (arith, seen, as_many is.entries (entries_once last left t)))))
+      let seen = subst (λ u. n.number ≤ receipts.count (TimersList u) q.timers.known.seen) of its.1 in
+      (omega (arith, its.0), omega (arith, seen, as_many is.entries (entries_once last left t)))))
       (subst (IsPermutation (of_call c shapes)) (own_looks_noted c t) (hung_own place_of_look (λ n. n.reply) t c is.looks))
       (rise_in 1 (looked t (logs c).trace.actions) ((left.tell c).tells.looks_rise t))
 
@@ -86,8 +87,8 @@ module _ {s : Script} {x : WorldOf} {q : WorldPass} {notes sorted : NotesOf} {lo
 
   -- ---- refused expiries
 
-  skip_noted : (n : SkipNote) → HasPlace notes.skips n → IsLabel s n.label × IsSkipNote q n
-  skip_noted n st = all_at (λ m. IsLabel s m.label × IsSkipNote q m) notes.skips st.0 n (left.seen SkipNotes) st.1
+  skip_noted : (n : SkipNote) → HasPlace notes.skips n → IsLabel s n.label × IsNoteSeen SkipNotes q (logs n.label) n
+  skip_noted n st = all_at (λ m. IsLabel s m.label × IsNoteSeen SkipNotes q (logs m.label) m) notes.skips st.0 n (left.seen SkipNotes) st.1
 
   -- law: a call's refused expiries under the record's lines are those that it noted, in some order
   pub skips_own : (c : Label) (i : ℕ)
@@ -99,8 +100,8 @@ module _ {s : Script} {x : WorldOf} {q : WorldPass} {notes sorted : NotesOf} {lo
       (all_under_lines place_of_skip (λ n. n.generation) object_line (λ line. line.skips) (λ l. l.label) (λ l. l.generation) (λ k n us. map-map _ skip_of us)
       place_of_object i sorted.objects is.skips (λ n st of.
       let its = (skip_noted n st).1 in
-      let seen = subst (λ j. n.number ≤ length (seen_of q.objects j)) of its.seen in
-      (omega (arith, its.some), omega (arith, seen, as_many is.objects (objects_once last left i)))))
+      let seen = subst (λ j. n.number ≤ length (seen_of q.objects j)) of its.1 in
+      (omega (arith, its.0), omega (arith, seen, as_many is.objects (objects_once last left i)))))
       (subst (IsPermutation (of_call c shapes))
       (sym (told_of (skips_on i) (is_of_list place_of_skip i) (λ n. (n.number, n.generation)) refl (λ n ns. refl)
       (filter (λ n. is_label c n.label) notes.skips)) ∙ (left.tell c).tells.skips i) (hung_own place_of_skip (λ n. n.generation) i c is.skips)))

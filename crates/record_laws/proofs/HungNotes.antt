@@ -93,9 +93,9 @@ module _ {U A : Type 0} (place : U → Place) (thing : U → A) where
             subst (λ ys. IsPermutation ys all) (ap (λ n. ((place u).label, (n, thing u)) ∷ (at_number k here ++ rest)) same
             ∙ ap (λ ys. at_number k (u ∷ here) ++ ys) (sym (lower_hangs (k + 1) m u us (omega (arith, same))))) (IsPermutation-refl all)
         | false ↦ λ not.
-            let more = strictly from (λ e. eqb-false (place u).number k not (sym e)) in
             IsPermutation-trans _ _ _
-            (IsPermutation-append_right (at_number k here) _ _ (one_hangs (k + 1) m u us (omega (arith, more)) (omega (arith, below))))
+            (IsPermutation-append_right (at_number k here) _ _ (one_hangs (k + 1) m u us
+            (omega (arith, (strictly from (λ e. eqb-false (place u).number k not (sym e))))) (omega (arith, below))))
             (IsPermutation-middle (at_number k here) (shape u) rest)
       ] refl
 

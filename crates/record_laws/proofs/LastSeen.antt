@@ -124,8 +124,7 @@ module _ {s : Script} {q : WorldPass} {notes : NotesOf} {logs : Label → CallLo
       → (n : ToldNote) × HasPlace (told_notes notes) n × (n.label ≡ c) × (y ≡ noted_at y.place n)
   is_told c i y at =
       let o = stands_in_map receipt (logs c).notes y (i, at) in
-      let b = stands_permuted (map receipt (logs c).notes) (map told_in (own c)) o.0 (receipt y) (told_so c) o.1 in
-      let m = map_stands_in told_in (own c) (receipt y) b in
+      let m = map_stands_in told_in (own c) (receipt y) (stands_permuted (map receipt (logs c).notes) (map told_in (own c)) o.0 (receipt y) (told_so c) o.1) in
       let f = filter_stands_in (λ n. is_label c n.label) (told_notes notes) m.0 m.1 in
       (m.0, f.0, same_label c m.0.label f.1, told_at y m.0 (sym m.2))
 
@@ -147,18 +146,12 @@ no_number : (n : ℕ) → one_if (within n 0) ≡ 0
 no_number zero = refl
 no_number (suc n) = ap one_if (and_right _ _ (lt-leb (suc n) 0 (omega arith)))
 
--- no base's note stands at a timer's place, and no timer's at a base's
-no_base_at : (many t n : ℕ) (bs : List BaseNote) → t < many → count (is_place t n) (map (base_note_place many) bs) ≡ 0
-no_base_at many t n [] less = refl
-no_base_at many t n (b ∷ bs) less =
-    ap (λ c. one_if (c && (b.number == n)) + count (is_place t n) (map (base_note_place many) bs)) (ne_eqb (many + b.base) t (λ is. omega (arith, is, less)))
-    ∙ omega (arith, no_base_at many t n bs less)
-
-no_entry_at : (many b n : ℕ) (es : List EntryNote) → AllByRecursion (λ e. e.timer < many) es → count (is_place (many + b) n) (map note_place es) ≡ 0
-no_entry_at many b n [] all = refl
-no_entry_at many b n (e ∷ es) all =
-    ap (λ c. one_if (c && (e.number == n)) + count (is_place (many + b) n) (map note_place es)) (ne_eqb e.timer (many + b) (λ is. omega (arith, is, all.0)))
-    ∙ omega (arith, no_entry_at many b n es all.1)
+-- no note stands at the place of a list that none is of
+none_at : {X : Type 0} (place : X → ℕ × ℕ) (i n : ℕ) (xs : List X) → AllByRecursion (λ x. (place x).0 ≡ i → ⊥) xs
+    → count (is_place i n) (map place xs) ≡ 0
+none_at place i n [] all = refl
+none_at place i n (x ∷ xs) all =
+    ap (λ c. one_if (c && ((place x).1 == n)) + count (is_place i n) (map place xs)) (ne_eqb (place x).0 i all.0) ∙ omega (arith, none_at place i n xs all.1)
 
 same_test : (many b c : ℕ) → (many + c == many + b) ≡ (c == b)
 same_test many b c = grind (arith, nat_tests)
@@ -224,7 +217,8 @@ module _ {s : Script} {x : WorldOf} {q : WorldPass} (last : AreLastOf s x q) whe
     pub entries_once : (t : ℕ) → AreEachOnce place_of_entry t (receipts.count (TimersList t) q.timers.known.seen) notes.entries
     entries_once t = ⊎_elim
         (λ (less : t < length s.timers). once_from q.timers.known.mine
-        (λ n. omega (arith, left.places.timers t n, no_base_at (length s.timers) t n notes.bases less))
+        (λ n. let none = none_at (base_note_place (length s.timers)) t n notes.bases (each _ notes.bases (λ p b at is. omega (arith, is, less))) in
+        omega (arith, left.places.timers t n, none))
         (λ n. (last.passes.timers.knows.whole last.last.timers).once t n (subst (λ m. t < m) (sym many_timers) less)))
         (λ (past : length s.timers ≤ t). none_noted_past place_of_entry t notes.entries (TimersList t) (λ less. omega (arith, less, past))
         (λ e st is. subst (λ u. u < length s.timers) is (note_within (of_entry e) (entry_stands left e st))))
@@ -238,8 +232,8 @@ module _ {s : Script} {x : WorldOf} {q : WorldPass} (last : AreLastOf s x q) whe
             arith,
             left.places.timers (length s.timers + b) n,
             base_at (length s.timers) b n notes.bases,
-            no_entry_at (length s.timers) b n notes.entries
-                (each (λ (e : EntryNote). e.timer < length s.timers) notes.entries (λ p e at. note_within (of_entry e) (entry_stands left e (p, at)))),
+            none_at note_place (length s.timers + b) n notes.entries (each _ notes.entries (λ p e at is.
+                let there = note_within (of_entry e) (entry_stands left e (p, at)) in omega (arith, is, there))),
             subst (λ m. count (is_place (m + b) n) q.timers.known.mine ≡ one_if (within n (length (shifts_of b q.timers.known.seen)))) many_timers
                 ((last.passes.timers.knows.shifts last.last.timers) b n (subst (λ m. b < m) (sym many_bases) less)),
           );

@@ -104,9 +104,9 @@ module _ {X : Type 0} (place : X → Place) (l : ℕ) where
             (λ (more : k < n). let none = ap length (none_lower k x xs order.0 of more) in
             absurd (omega (arith, here, none, others k x xs (apart k (λ e. omega (arith, e, more))))))
             (λ (less : n ≤ k). omega (arith, less, bounds.0)) (cases_lt k n) in
-            let none = AtMostOne-head (is_at place l k) x xs (and_from _ _ is (eq-eqb n k first)) (omega (arith, here)) in
             let differ : (y : X) → HasPlace xs y → (place y).list ≡ l → k ≡ (place y).number → ⊥ = λ y s is_of e. both_ways (is_at place l k y)
-            (all_at (λ z. is_at place l k z ≡ false) xs s.0 y none s.1) (and_from _ _ (eq-eqb (place y).list l is_of) (eq-eqb (place y).number k (sym e))) in
+            (all_at (λ z. is_at place l k z ≡ false) xs s.0 y (AtMostOne-head (is_at place l k) x xs (and_from _ _ is (eq-eqb n k first)) (omega (arith, here)))
+            s.1) (and_from _ _ (eq-eqb (place y).list l is_of) (eq-eqb (place y).number k (sym e))) in
             let rest = numbered (k + 1) top xs order.1
             (λ m some less. others m x xs (apart m (λ e. omega (arith, e, first, some))) ∙ once m (omega (arith, some)) less)
             (λ y s is_of. let b = only y (suc s.0, s.1) is_of in (omega (arith, strictly b.0 (differ y s is_of)), b.1)) (omega (arith, bounds.0, bounds.1)) in
@@ -122,8 +122,7 @@ module _ {X : Type 0} {place : X → Place} {l many : ℕ} {xs sorted : List X} 
   number_within x s of =
       let n = (place x).number in
       let f = stands_in_filter (is_at place l n) xs x (and_from _ _ (eq-eqb (place x).list l of) (eq-eqb n n refl)) s in
-      let some = slice_get_within (filter (is_at place l n) xs) f.0 x f.1 in
-      within_parts n many (within n many) refl (subst (λ m. 0 < m) (once.each n) (omega (arith, some)))
+      within_parts n many (within n many) refl (subst (λ m. 0 < m) (once.each n) (omega (arith, (slice_get_within (filter (is_at place l n) xs) f.0 x f.1))))
 
   pub at_most_one : (n : ℕ) → AtMostOne (is_at place l n) xs
   at_most_one n = subst (λ m. m ≤ 1) (sym (once.each n)) (one_most (within n many))

@@ -5,7 +5,8 @@ use Rattle.run_history.specs.Witnesses.{Trace}
 use Rattle.run_history.specs.Fits.{Seen}
 use Rattle.run_history.specs.Receipts.{PlacedEntry}
 use Rattle.run_history.specs.Runs.{CallLog}
-use Rattle.lane_world.proofs.Kept.{IsNoLess, log_of, seen_by}
+use Rattle.lane_world.proofs.Kept.{log_of, seen_by}
+use Rattle.lane_world.proofs.SeenMore.{IsNoLess}
 use Rattle.lane_world.specs.declared.WorldPass.{WorldPass}
 
 -- one of the lists: how much of it was seen, and where a call's span stands on it
@@ -113,13 +114,12 @@ lies_pushed {x} {past} {now} {round} lies = record {
 pub lies_new : (x : ListOf) (before : List Seen) {base : Seen} (p q : WorldPass) (notes : List PlacedEntry) (trace : Trace) → IsNoLess base (seen_by p)
     → IsNoLess (seen_by p) (seen_by q) → LiesIn x (before ++ base ∷ []) (seen_by q) (length before) (log_of p q notes trace)
 lies_new x before {base} p q notes trace old new =
-    let past = before ++ base ∷ [] in
     let from : (x.span (log_of p q notes trace)).0 ≡ x.seen (seen_by p) = ap (λ n. n.0) (x.of_log p q notes trace) in
     let to : (x.span (log_of p q notes trace)).1 ≡ x.seen (seen_by q) = ap (λ n. n.1) (x.of_log p q notes trace) in
     record {
       begun = omega (arith, length-append before (base ∷ []));
       from = omega (arith, from, ap x.seen (get_or_push before base (seen_by q) (length before) refl), x.rises old);
       order = omega (arith, from, to, x.rises new);
-      to = omega (arith, to, ap x.seen (get_or_past past (length before + 1) (seen_by q) (omega (arith, length-append before (base ∷ [])))));
+      to = omega (arith, to, ap x.seen (get_or_past (before ++ base ∷ []) (length before + 1) (seen_by q) (omega (arith, length-append before (base ∷ [])))));
       most = omega (arith, to);
     }

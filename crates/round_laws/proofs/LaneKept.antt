@@ -11,7 +11,8 @@ use Rattle.run_history.specs.Witnesses.{Witness}
 use Rattle.run_history.specs.Fits.{FitsCall, FitsLane, Seen}
 use Rattle.run_history.specs.Rounds.{label_at}
 use Rattle.lane_world.specs.Called.{Called, LaneOf}
-use Rattle.lane_world.proofs.Kept.{IsNextCall, IsNoLess, KeepsCall, no_less}
+use Rattle.lane_world.proofs.Kept.{IsNextCall, KeepsCall}
+use Rattle.lane_world.proofs.SeenMore.{IsNoLess, no_less}
 use Rattle.lane_world.specs.Worlds.{WorldOf}
 use Rattle.lane_world.proofs.PartLists.{falls_lower}
 

@@ -1,4 +1,8 @@
 -- What a lane leaves of one round: what it kept of its calls in it, one after another, behind what was kept of it so far.
+use Rattle.run_history.specs.Promises.{HasLog, IsSoFar}
+use Rattle.run_history.specs.Runs.{Ending, IsJoined}
+use Rattle.run_history.specs.Fits.{FitsLane, unseen}
+use Rattle.run_history.proofs.Lists.{at_left, at_seam}
 use Rattle.std.proofs.Common.{◌≡◌, ◌≤◌, ℕ, ◌+◌, suc, get_or, List, [], ◌∷◌, ◌++◌, length, length-append, arith, refl, sym, ap, ◌∙◌, subst, ⊎_elim, inl, inr, Some, zero, map, ◌⊎◌}
 use Rattle.std.specs.List.{AllByRecursion, slice_get}
 use Rattle.std.proofs.lemmas.List.{append_assoc, append-nil, length-map, map-append}
@@ -6,7 +10,7 @@ use Rattle.lane_notes.specs.Notes.{NotesOf, both_noted, no_notes}
 use Rattle.record_text.specs.declared.record.Answer.{Answer}
 use Rattle.record_text.specs.declared.record.Label.{Label}
 use Rattle.run_history.specs.Fits.{Seen}
-use Rattle.run_history.specs.Promises.{IsPromisedSoFar, IsPromised}
+use Rattle.run_history.specs.Promises.{IsPromised}
 use Rattle.run_history.specs.Runs.{CallLog, witness_of}
 use Rattle.run_history.specs.Order.{CallInRound, calls_of}
 use Rattle.script_text.specs.Scripts.{IsInRange}
@@ -14,7 +18,8 @@ use Rattle.script_text.specs.declared.script.Call.{Call}
 use Rattle.script_text.specs.declared.script.Round.{Round}
 use Rattle.script_text.specs.declared.script.Script.{Script}
 use Rattle.lane_world.specs.Called.{lane_of, LaneOf, Called}
-use Rattle.lane_world.proofs.Kept.{Follows, KeepsCall, log_of, seen_by, StandAt, Tallies, follows_less, more_begun, more_called, more_split, more_trans, no_less, SeesMore, stand_later}
+use Rattle.lane_world.proofs.Kept.{Follows, KeepsCall, log_of, seen_by, StandAt, Tallies}
+use Rattle.lane_world.proofs.SeenMore.{follows_less, more_begun, more_called, more_split, more_trans, no_less, SeesMore, stand_later}
 use Rattle.lane_world.specs.Rounds.{as_index, BeginsFirst, BeginsRound, IsLaneOf, lane_calls, LeftOf, MakesLane, next_of, CalledAll}
 use Rattle.lane_world.specs.Worlds.{ArePassesOf, IsWhole, IsWorldOf, WorldOf}
 use Rattle.lane_world.specs.declared.Lane.{Lane}
@@ -27,11 +32,10 @@ use Rattle.lane_world.proofs.PartLists.{both_noted-assoc, each_weaker, no_notes-
 use Rattle.round_laws.proofs.Tallies.{tallies_none, tallies_more, tallies_split}
 use Rattle.std.proofs.lemmas.Option.{slice_get_within, same_Some}
 use Rattle.pass_names.specs.Passes.{Begins}
-use Rattle.run_history.proofs.Lists.{at_left, all_at, at_seam}
+use Rattle.run_history.proofs.Lists.{all_at}
 use Rattle.pass_names.proofs.Passes.{begins_length, begins_trans, begins_refl, begins_more}
 use Rattle.timer_objects.specs.Known.{row_of}
 use Rattle.run_history.specs.Rounds.{label_at}
-use Rattle.run_history.proofs.Promise.{promised_push}
 use Rattle.record_text.proofs.Lists.{All-append}
 
 -- ---- a lane so far
@@ -50,11 +54,12 @@ pub record LaneSoFar : Type 0 where
 abbrev pub calls_in : List DoneCall → List CallInRound
 calls_in done = map (λ k. k.at) done
 
-abbrev pub logs_of : List DoneCall → List CallLog
-logs_of done = map (λ k. k.log) done
-
 abbrev pub answers_in : List DoneCall → List Answer
 answers_in done = map (λ k. k.answer) done
+
+-- a run has of a lane's calls what was kept of each
+abbrev pub HaveLogs : Ending → ℕ → List DoneCall → Type 0
+HaveLogs e lane done = (j : ℕ) (k : DoneCall) → slice_get done j ≡ Some k → HasLog e (label_at lane j) k.log
 
 -- what was kept of a call stands in what passes have seen, and along each list in its round
 pub record Stands (past : List Seen) (p : WorldPass) (k : DoneCall) : Type 0 where
@@ -64,7 +69,8 @@ pub record Stands (past : List Seen) (p : WorldPass) (k : DoneCall) : Type 0 whe
 -- it is what the lane kept, by where rounds began and what passes have seen
 pub record IsKeptOf (s : Script) (past : List Seen) (p : WorldPass) (lane : ℕ) (d : LaneSoFar) : Type 0 where
   pub parts : calls_of s lane ≡ calls_in d.done ++ d.rest
-  pub promised : IsPromisedSoFar s lane (length d.done) (logs_of d.done) (Follows p) (seen_by p) d.rest (answers_in d.done)
+  pub promised : (e : Ending) → Follows p e → HaveLogs e lane d.done → IsJoined s e
+      → IsSoFar (witness_of s e) lane (length d.done) (seen_by p) (calls_of s lane) d.rest (answers_in d.done)
   pub each : AllByRecursion (Stands past p) d.done
   pub next : (x : ListOf) (j : ℕ) (g h : DoneCall) → slice_get d.done j ≡ Some g → slice_get d.done (suc j) ≡ Some h → (x.span g.log).1 ≤ (x.span h.log).0
 
@@ -126,24 +132,24 @@ module _ {s : Script} {l : LaneOf} {call : Call} {a : Answer} {m : LaneOf} (kept
       let more = more_called kept.sees in
       let promise : IsPromised s lane (length done) log (Follows m.pass) call a (seen_by l.pass) (seen_by m.pass) =
       subst (λ (c : Label). IsPromised s c.lane c.call log (Follows m.pass) call a (seen_by l.pass) (seen_by m.pass)) label kept.promised in
-      let pushed = promised_push s lane (length done) (logs_of done) log (Follows l.pass) (Follows m.pass) (seen_by l.pass) (seen_by m.pass) at rest
-      (answers_in done) a (sym (length-map done (λ (d : DoneCall). d.log))) (λ e follows. follows_less more follows) so_far.promised promise in
       record {
         parts = so_far.parts ∙ sym (append_assoc (calls_in done) (at ∷ []) rest)
             ∙ ap (λ ps. ps ++ rest) (sym (map-append (λ (d : DoneCall). d.at) done (one ∷ [])));
-        promised = rw (
-          map-append (λ (d : DoneCall). d.log) done (one ∷ []),
-          map-append (λ (d : DoneCall). d.answer) done (one ∷ []),
-          length-append done (one ∷ []),
-        ) pushed;
+        promised = λ e follows has joined later fits. subst (FitsLane (witness_of s e) lane 0 unseen (calls_of s lane))
+            (sym (append_assoc (answers_in done) (a ∷ []) later) ∙ ap (λ xs. xs ++ later) (sym (map-append (λ (d : DoneCall). d.answer) done (one ∷ []))))
+            (so_far.promised e (follows_less more follows) (λ j k there. has j k (at_left done (one ∷ []) j k there)) joined (a ∷ later) (
+              seen_by m.pass,
+              promise e follows (has (length done) one (at_seam done [] one)) joined,
+              subst (λ n. FitsLane (witness_of s e) lane n (seen_by m.pass) rest later) (length-append done (one ∷ [])) fits,
+            ));
         each = All-append (Stands (before ++ seen_by base ∷ []) m.pass) done (one ∷ []) (kept_later more so_far).each
             (record { stand = kept.stand; lies = λ x. lies_new x before l.pass m.pass kept.notes kept.trace (no_less sees) (no_less more) }, tt);
         next = λ x j g h this that.
-            let last = slice_get_within (done ++ one ∷ []) (suc j) h that in
             ⊎_elim (λ there. ⊎_elim (λ behind. so_far.next x j g h there behind)
             (λ new. let most = ((all_at (Stands (before ++ seen_by base ∷ []) l.pass) done j g so_far.each there).lies x).most in
             omega (arith, most, ap (λ n. n.0) (x.of_log l.pass m.pass kept.notes kept.trace), ap (λ (d : DoneCall). (x.span d.log).0) new.1))
-            (at_push done one (suc j) h that)) (λ new. absurd (omega (arith, new.0, last, length-append done (one ∷ []))))
+            (at_push done one (suc j) h that))
+            (λ new. absurd (omega (arith, new.0, slice_get_within (done ++ one ∷ []) (suc j) h that, length-append done (one ∷ []))))
             (at_push done one j g this);
       }
 
@@ -200,7 +206,7 @@ begins_behind begins of = record {
   sees = more_begun begins;
   notes = begins.notes;
   answers = begins.answers;
-  tallies = tallies_none begins.timers_mine begins.objects_mine begins.clock_mine;
+  tallies = tallies_none begins.timers.1 begins.objects.1 begins.clock.1;
 }
 
 -- law: and the first lane, whose passes are the first ones
@@ -226,9 +232,8 @@ module _ {s : Script} {x : WorldOf} (each : KeepsEach s x) (world : IsWorldOf s 
       let there : slice_get (calls_of s lane) (length done) ≡ Some at =
       subst (λ k. slice_get (calls_of s lane) k ≡ Some at) (length-map done (λ (d : DoneCall). d.at))
       (ap (λ ps. slice_get ps (length (calls_in done))) old.kept.parts ∙ at_seam (calls_in done) rest at) in
-      let within = slice_get_within (calls_of s lane) (length done) at there in
       let label : l.label ≡ label_at lane (length done) =
-      old.label ∙ ap (label_at lane) (omega (arith, within, calls_bound s lane range)) in
+      old.label ∙ ap (label_at lane) (omega (arith, (slice_get_within (calls_of s lane) (length done) at there), calls_bound s lane range)) in
       let has = subst (λ (d : Label). slice_get (calls_of s d.lane) d.call ≡ Some at) (sym label) there in
       let kept = each l n c a (record { world = world; range = range; whole = whole; objects = old.opening; at = at; there = has; is = refl }) called in
       let k = one kept before lane done label in

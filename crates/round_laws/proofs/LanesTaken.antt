@@ -8,7 +8,8 @@ use Rattle.run_history.specs.Runs.{CallLog}
 use Rattle.run_history.specs.Order.{CallInRound}
 use Rattle.script_text.specs.declared.script.Script.{Script}
 use Rattle.lane_notes.specs.Notes.{NotesOf, both_noted, no_notes}
-use Rattle.lane_world.proofs.Kept.{seen_by, SeesMore, Tallies, more_heard, more_same, more_taken, no_less, stands_on}
+use Rattle.lane_world.proofs.Kept.{seen_by, Tallies}
+use Rattle.lane_world.proofs.SeenMore.{SeesMore, more_heard, more_same, more_taken, no_less, stands_on}
 use Rattle.lane_world.specs.Rounds.{LeftOf, TakesInPass, with_lane}
 use Rattle.lane_world.specs.declared.Lane.{Lane}
 use Rattle.lane_world.specs.declared.WorldPass.{WorldPass}

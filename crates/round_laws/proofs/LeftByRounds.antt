@@ -1,5 +1,5 @@
 -- From the rounds of a run to what all lanes leave in the end, and to where calls stand by rounds.
-use Rattle.std.proofs.Common.{◌≡◌, ◌≤◌, ◌<◌, ℕ, ◌+◌, suc, Some, get_or, List, [], ◌∷◌, ◌++◌, length, map, arith, refl, sym, ap, ◌∙◌, subst, ⊎_elim}
+use Rattle.std.proofs.Common.{◌≡◌, ◌≤◌, ◌<◌, ℕ, ◌+◌, Some, get_or, List, [], ◌∷◌, ◌++◌, length, map, arith, refl, sym, ap, ◌∙◌, subst, ⊎_elim}
 use Rattle.std.specs.List.{slice_get}
 use Rattle.std.proofs.lemmas.Bool.{cases_lt}
 use Rattle.std.proofs.lemmas.List.Sorted.{IsPermutation-refl}
@@ -8,37 +8,27 @@ use Rattle.std.proofs.lemmas.Option.{get_or_from_slice_get, slice_get-get_or, sl
 use Rattle.lane_notes.specs.Notes.{no_notes}
 use Rattle.record_text.specs.declared.record.Label.{Label}
 use Rattle.run_history.specs.Fits.{FitsLane, Seen, unseen}
-use Rattle.run_history.specs.Promises.{HasLog, HasLogs, IsPromisedSoFar}
+use Rattle.run_history.specs.Promises.{HasLog}
 use Rattle.run_history.specs.Rounds.{IsLedger, label_at, Spans}
-use Rattle.run_history.specs.Runs.{CallLog, witness_of, Ending, RoundStarts}
+use Rattle.run_history.specs.Runs.{CallLog, witness_of, RoundStarts}
 use Rattle.run_history.proofs.Lists.{all_at, at_map}
-use Rattle.run_history.proofs.Promise.{promised_all}
 use Rattle.run_history.specs.Order.{CallInRound, calls_of, IsLabel, round_of}
 use Rattle.script_text.specs.Scripts.{all_calls, IsInRange}
 use Rattle.script_text.specs.declared.script.Call.TheVariants as calls
 use Rattle.script_text.specs.declared.script.Script.{Script}
 use Rattle.record_text.specs.declared.record.Answer.TheVariants as answers
-use Rattle.lane_world.proofs.Kept.{Follows, seen_by, label_of, StandAt, list_of, IsNoteSeen, TellLog, own_notes}
+use Rattle.lane_world.proofs.Kept.{seen_by, label_of, StandAt, list_of, IsNoteSeen, TellLog, own_notes}
 use Rattle.lane_world.proofs.Left.{AreByRounds, AreLeft}
 use Rattle.lane_world.specs.Rounds.{LeftOf, MakesRounds, none_left}
 use Rattle.lane_world.specs.Worlds.{AreFirst, IsWhole, IsWorldOf, WorldOf}
 use Rattle.lane_world.specs.declared.WorldPass.{WorldPass}
 use Rattle.round_laws.proofs.Chains.{clock_list, LiesIn, ListOf, moves_list, object_list, start_of}
-use Rattle.round_laws.proofs.LaneRound.{LaneSoFar, calls_in, Stands, logs_of, DoneCall, answers_in}
+use Rattle.round_laws.proofs.LaneRound.{LaneSoFar, calls_in, Stands, DoneCall, answers_in}
 use Rattle.round_laws.proofs.LanesTaken.{AreLeftSoFar}
 use Rattle.round_laws.proofs.NotesJoined.{own_notes-none}
 use Rattle.lane_world.proofs.PartLists.{each_weaker}
 use Rattle.round_laws.proofs.RoundsLeft.{left_first, rounds_left}
 use Rattle.round_laws.proofs.LaneKept.{KeepsEach}
-
--- a run has of a lane's calls what it kept of each
-has_from : (e : Ending) (lane index : ℕ) (done : List DoneCall)
-    → ((j : ℕ) (k : DoneCall) → slice_get done j ≡ Some k → HasLog e (label_at lane (index + j)) k.log) → HasLogs e lane index (logs_of done)
-has_from e lane index [] has = tt
-has_from e lane index (k ∷ done) has = (
-  subst (λ n. HasLog e (label_at lane n) k.log) (omega arith) (has 0 k refl),
-  has_from e lane (index + 1) done (λ j h at. subst (λ n. HasLog e (label_at lane n) h.log) (omega arith) (has (suc j) h at)),
-)
 
 -- a call of which nothing is kept
 abbrev pub no_call : DoneCall
@@ -155,13 +145,11 @@ module _ {s : Script} {past : List Seen} {q : WorldPass} {left : LeftOf} (of : �
     objects_most = λ i c is. (lies_of (object_list i) c is).most;
     lanes = so_far.lanes;
     calls = λ e follows has joined lane.
-        let kept = so_far.kept lane in
         let done = (of lane).done in
-        subst (FitsLane (witness_of s e) lane 0 unseen (calls_of s lane)) (sym (so_far.given lane))
-        (promised_all s lane (length done) (logs_of done) (Follows q) (seen_by q) (answers_in done)
-        (subst (λ ps. IsPromisedSoFar s lane (length done) (logs_of done) (Follows q) (seen_by q) ps (answers_in done)) (rest lane) kept.promised)
-        e follows (has_from e lane 0 done (λ j k at. subst (λ n. HasLog e (label_at lane n) k.log) (omega arith)
-        (subst (λ (h : DoneCall). HasLog e (label_at lane j) h.log) (get_or_from_slice_get done j k no_call at) (has (label_at lane j))))) joined);
+        let fits = (so_far.kept lane).promised e follows (λ j k at. subst (λ (h : DoneCall). HasLog e (label_at lane j) h.log)
+        (get_or_from_slice_get done j k no_call at) (has (label_at lane j))) joined [] (subst
+        (λ ps. FitsLane (witness_of s e) lane (length done) (seen_by q) ps []) (sym (rest lane)) tt) in
+        subst (FitsLane (witness_of s e) lane 0 unseen (calls_of s lane)) (append-nil (answers_in done) ∙ sym (so_far.given lane)) fits;
   }
 
 -- law: rounds in turn, from the first passes on, leave notes of calls that their lanes kept, and calls that stand by rounds

@@ -1,4 +1,5 @@
 -- Notes of some calls and of others, joined: each call's own notes are among its own, and each note is still of something that passes have seen.
+use Rattle.lane_world.proofs.Kept.{each_both, each_none}
 use Rattle.std.proofs.Common.{◌≡◌, ◌⊎◌, filter, List, [], ◌∷◌, refl, sym, ap, ◌∙◌, subst, ⊎_elim}
 use Rattle.std.specs.List.{AllByRecursion}
 use Rattle.std.proofs.lemmas.Bool.{cond-false, cond-true}
@@ -12,10 +13,10 @@ use Rattle.run_history.specs.Order.{is_label}
 use Rattle.script_text.specs.declared.script.Call.{Call}
 use Rattle.script_text.specs.declared.script.Script.{Script}
 use Rattle.lane_world.specs.Called.{LaneOf}
-use Rattle.lane_world.proofs.Kept.{KeepsCall, log_of, label_of, list_of, IsNoteSeen, TellLog, BaseNotes, SkipNotes, ObjectNotes, LookNotes, EntryNotes, NoteOf, NoteKind, WriteNotes, SeesMore, seen_later, own_notes}
+use Rattle.lane_world.proofs.Kept.{KeepsCall, log_of, label_of, list_of, IsNoteSeen, TellLog, BaseNotes, SkipNotes, ObjectNotes, LookNotes, EntryNotes, NoteKind, WriteNotes, own_notes}
+use Rattle.lane_world.proofs.SeenMore.{SeesMore, seen_later}
 use Rattle.lane_world.specs.declared.WorldPass.{WorldPass}
 use Rattle.lane_world.proofs.PartLists.{no_notes-joins, notes_same, each_weaker}
-use Rattle.record_text.proofs.Lists.{All-append}
 use Rattle.run_history.specs.Actions.{also}
 
 -- notes of calls, with what was kept of each, and of something that the passes have seen; which calls, and what was kept of them, is `Of`
@@ -74,27 +75,10 @@ are_later {notes = notes} more are = record {
 pub none_noted : {p : WorldPass} {Of : Label → CallLog → Type 0} → ((c : Label) (g : CallLog) → Of c g → ⊥) → AreOf p no_notes Of
 none_noted {p} {Of} never = record {
   tell = λ c g of. absurd (never c g of);
-  seen = λ k. elim k as (λ j. AllByRecursion (λ n. (g : CallLog) × Of (label_of j n) g × IsNoteSeen j p g n) (list_of j no_notes)) [
-    | EntryNotes ↦ tt
-    | LookNotes ↦ tt
-    | ObjectNotes ↦ tt
-    | SkipNotes ↦ tt
-    | BaseNotes ↦ tt
-    | WriteNotes ↦ tt
-  ];
+  seen = λ k. each_none k (λ n. (g : CallLog) × Of (label_of k n) g × IsNoteSeen k p g n);
 }
 
 -- ---- some notes and others
-
--- what holds of each of both holds of each of both together
-each_both : (k : NoteKind) (P : NoteOf k → Type 0) (a b : NotesOf) → AllByRecursion P (list_of k a) → AllByRecursion P (list_of k b)
-    → AllByRecursion P (list_of k (both_noted a b))
-each_both EntryNotes P a b = All-append P a.entries b.entries
-each_both LookNotes P a b = All-append P a.looks b.looks
-each_both ObjectNotes P a b = All-append P a.objects b.objects
-each_both SkipNotes P a b = All-append P a.skips b.skips
-each_both BaseNotes P a b = All-append P a.bases b.bases
-each_both WriteNotes P a b = All-append P a.writes b.writes
 
 module _ {p : WorldPass} {a b : NotesOf} {Of Also Both : Label → CallLog → Type 0} (one : AreOf p a Of) (two : AreOf p b Also)
     (apart : (c : Label) (g h : CallLog) → Of c g → Also c h → ⊥)

@@ -171,10 +171,9 @@ module _ {s : Script} {x : WorldOf} (each : KeepsEach s x) (world : IsWorldOf s 
       let here : name_of after ≡ 0 = makes.first_made.name ∙ led in
       let its = leaves_by (subst (λ n. n < s.lanes) (sym led) some) (begins_first makes.leads so_far.tallies) makes.first_made in
       let end : LaneSoFar = record { done = its.0.all; rest = rest (name_of after) } in
-      let since = put was (name_of after) end in
       let those = each_leaves makes.begun makes.ended makes.as_many (recursion_from_All (BeginsRound base left) makes.begun makes.begins)
       (recursion_from_All (IsLaneOf x) makes.begun makes.of) makes.made in
-      let taken = lanes_taken after.pass (with_lane left after) since (left_first_lane was after its.0 its.1 (round_begun so_far))
+      let taken = lanes_taken after.pass (with_lane left after) (put was (name_of after) end) (left_first_lane was after its.0 its.1 (round_begun so_far))
       (λ j behind. put_at (λ e. e ≡ was j) was (name_of after) end j (λ is. absurd (omega (arith, behind, is, here))) (λ other. refl))
       (length left.answers - 1) 1 makes.ended q now (omega arith) (omega (arith, so_far.lanes)) those.0 (those.1 ∙ makes.lanes) makes.taken in
       record {

@@ -55,7 +55,7 @@ module _ {many : ℕ} where
   -- law: passes that others were split off have made what they had made
   pub tallies_split : {p q : WorldPass} {notes : NotesOf} → HasSplit p q → Tallies many p notes → Tallies many q notes
   tallies_split split so_far = record {
-    timers = λ i n. ap (count (is_place i n)) split.timers_mine ∙ so_far.timers i n;
-    objects = λ i n. ap (count (is_place i n)) split.objects_mine ∙ so_far.objects i n;
-    clock = λ n. ap (count (is_place 0 n)) split.clock_mine ∙ so_far.clock n;
+    timers = λ i n. ap (count (is_place i n)) split.timers.1 ∙ so_far.timers i n;
+    objects = λ i n. ap (count (is_place i n)) split.objects.1 ∙ so_far.objects i n;
+    clock = λ n. ap (count (is_place 0 n)) split.clock.1 ∙ so_far.clock n;
   }

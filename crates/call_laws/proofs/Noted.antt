@@ -1,0 +1,189 @@
+-- What a call noted, as its actions say it.
+use Rattle.std.proofs.Common.{◌≡◌, ℕ, ◌+◌, nat_eq, List, [], ◌∷◌, ◌++◌, map, refl, sym, ap, ◌∙◌, subst}
+use Rattle.std.specs.List.{AllByRecursion}
+use Rattle.std.specs.List.Sorted.{IsPermutation}
+use Rattle.std.proofs.lemmas.List.{append-nil, map-append}
+use Rattle.std.proofs.lemmas.List.Sorted.{IsPermutation-append, IsPermutation-cons, IsPermutation-map, IsPermutation-middle, IsPermutation-refl, IsPermutation-sym, IsPermutation-trans}
+use Rattle.seq_timer.specs.Histories as seq
+use Rattle.base_row.specs.Logs.{receipts_of}
+use Rattle.base_row.specs.declared.log.Receipt.{Receipt}
+use Rattle.timer_objects.specs.declared.log.ObjectReceipt.{ObjectReceipt}
+use Rattle.record_text.specs.declared.record.Label.{Label}
+use Rattle.run_history.specs.Actions.{Action, Entered, Looked, Made, Shifted, Skipped, Wrote, also, looked, made, numbers_of_object, skipped}
+use Rattle.run_history.specs.Traces.{all_entered}
+use Rattle.run_history.proofs.Known.{numbered}
+use Rattle.run_history.proofs.Stamped.{entry_stamped}
+use Rattle.lane_notes.specs.Entries.{entry_note, entry_notes, look_note, look_notes}
+use Rattle.lane_notes.specs.Notes.{NotesOf, both_noted, no_notes}
+use Rattle.lane_notes.specs.Objects.{object_note, object_notes, skip_note, skip_notes}
+use Rattle.lane_notes.proofs.Standing.{All-permuted}
+use Rattle.lane_world.specs.Called.{with_done, with_shift}
+use Rattle.seq_timer.specs.declared.standing.BaseEvent.{BaseEvent}
+use Rattle.run_history.specs.Witnesses.{OfBase, OfTimer, Shown}
+use Rattle.lane_world.proofs.Kept.{BaseNotes, EntryNotes, LookNotes, NoteKind, NoteOf, ObjectNotes, SkipNotes, WriteNotes, each_both, each_none, entries_told, label_of, list_of, looks_on, made_on, of_base, of_entry, skips_on, told_in}
+use Rattle.lane_world.proofs.PartLists.{both_noted-assoc, notes-append, notes_same, same_order}
+
+-- ---- of actions
+
+-- the note of one action; that of a write is made of the clock's reading too
+abbrev pub one_noted : Label → Action → NotesOf
+one_noted label (Entered timer number entry) =
+    record no_notes { entries = record { label = label; timer = timer; number = number; entry = entry } ∷ [] }
+one_noted label (Looked timer number reply) = record no_notes { looks = record { label = label; timer = timer; number = number; reply = reply } ∷ [] }
+one_noted label (Made i number entry) = record no_notes { objects = record { label = label; object = i; number = number; entry = entry } ∷ [] }
+one_noted label (Skipped i number generation) =
+    record no_notes { skips = record { label = label; object = i; number = number; generation = generation } ∷ [] }
+one_noted label (Shifted base number event) = record no_notes { bases = record { label = label; base = base; number = number; event = event } ∷ [] }
+one_noted label (Wrote number write) = no_notes
+
+-- the notes of what a call did, in its order
+abbrev pub noted : Label → List Action → NotesOf
+noted label [] = no_notes
+noted label (d ∷ ds) = both_noted (one_noted label d) (noted label ds)
+
+-- law: of two parts
+pub noted-append : (label : Label) (ds es : List Action) → noted label (ds ++ es) ≡ both_noted (noted label ds) (noted label es)
+noted-append label [] es = refl
+noted-append label (d ∷ ds) es =
+    ap (both_noted (one_noted label d)) (noted-append label ds es) ∙ sym (both_noted-assoc (one_noted label d) (noted label ds) (noted label es))
+
+-- law: they bear the call's label
+pub noted_bears : (k : NoteKind) (label : Label) (ds : List Action) → AllByRecursion (λ n. label_of k n ≡ label) (list_of k (noted label ds))
+noted_bears k label [] = each_none k (λ n. label_of k n ≡ label)
+noted_bears k label (d ∷ ds) = each_both k _ (one_noted label d) (noted label ds) (one k d) (noted_bears k label ds)
+  where
+    one : (k : NoteKind) (d : Action) → AllByRecursion (λ n. label_of k n ≡ label) (list_of k (one_noted label d))
+    one EntryNotes (Entered timer number entry) = (refl, tt)
+    one LookNotes (Looked timer number reply) = (refl, tt)
+    one ObjectNotes (Made i number entry) = (refl, tt)
+    one SkipNotes (Skipped i number generation) = (refl, tt)
+    one BaseNotes (Shifted base number event) = (refl, tt)
+    one WriteNotes (Wrote number write) = tt
+    one k d = tt
+
+-- law: the looks at a timer, the entries of an object and the expiries that it refused
+pub noted_looks : (t : ℕ) (label : Label) (ds : List Action) → looks_on t (noted label ds).looks ≡ looked t ds
+noted_looks t label [] = refl
+noted_looks t label (Looked timer number reply ∷ ds) = ap (also (nat_eq timer t) (number, reply)) (noted_looks t label ds)
+noted_looks t label (d ∷ ds) = noted_looks t label ds
+
+pub noted_made : (i : ℕ) (label : Label) (ds : List Action) → made_on i (noted label ds).objects ≡ made i ds
+noted_made i label [] = refl
+noted_made i label (Made j number entry ∷ ds) = ap (also (nat_eq j i) (number, entry)) (noted_made i label ds)
+noted_made i label (d ∷ ds) = noted_made i label ds
+
+pub noted_skips : (i : ℕ) (label : Label) (ds : List Action) → skips_on i (noted label ds).skips ≡ skipped i ds
+noted_skips i label [] = refl
+noted_skips i label (Skipped j number generation ∷ ds) = ap (also (nat_eq j i) (number, generation)) (noted_skips i label ds)
+noted_skips i label (d ∷ ds) = noted_skips i label ds
+
+-- law: the entries of timers and bases, in another order
+pub noted_entries : (label : Label) (ds : List Action) → IsPermutation (all_entered ds) (entries_told (noted label ds))
+noted_entries label [] = IsPermutation-refl []
+noted_entries label (Entered timer number entry ∷ ds) = IsPermutation-cons _ _ _ (noted_entries label ds)
+noted_entries label (Shifted base number event ∷ ds) =
+    let rest = noted label ds in
+    let this : ℕ × Shown = (number, OfBase base event) in
+    let xs = map told_in (map of_entry rest.entries) in
+    let ys = map told_in (map of_base rest.bases) in
+    let split = map-append told_in (map of_entry rest.entries) in
+    IsPermutation-trans (this ∷ all_entered ds) (this ∷ (xs ++ ys)) _
+    (IsPermutation-cons this (all_entered ds) (xs ++ ys) (subst (IsPermutation (all_entered ds)) (split (map of_base rest.bases)) (noted_entries label ds)))
+    (subst (IsPermutation (this ∷ (xs ++ ys)))
+    (sym (split (map of_base (noted label (Shifted base number event ∷ ds)).bases)))
+    (IsPermutation-sym (xs ++ this ∷ ys) (this ∷ (xs ++ ys)) (IsPermutation-middle xs this ys)))
+noted_entries label (d ∷ ds) = noted_entries label ds
+
+-- law: no write's
+pub noted_writes : (label : Label) (ds : List Action) → (noted label ds).writes ≡ []
+noted_writes label [] = refl
+noted_writes label (Wrote number write ∷ ds) = noted_writes label ds
+noted_writes label (d ∷ ds) = noted_writes label ds
+
+-- ---- in another order
+
+-- the same notes, those of timers' entries in some order
+pub record SameNotes (a b : NotesOf) : Type 0 where
+  pub entries : IsPermutation a.entries b.entries
+  pub others : record a { entries = [] } ≡ record b { entries = [] }
+
+-- law: notes that are the same, and those of two parts
+pub same_notes : {a b : NotesOf} → a ≡ b → SameNotes a b
+same_notes is = record { entries = same_order (ap (λ n. n.entries) is); others = ap (λ (n : NotesOf). record n { entries = [] }) is }
+
+pub same-both : {a b c d : NotesOf} → SameNotes a c → SameNotes b d → SameNotes (both_noted a b) (both_noted c d)
+same-both one two =
+    record { entries = IsPermutation-append _ _ _ _ one.entries two.entries; others = λ i. both_noted (one.others i) (two.others i) }
+
+pub same-trans : {a b c : NotesOf} → SameNotes a b → SameNotes b c → SameNotes a c
+same-trans one two = record { entries = IsPermutation-trans _ _ _ one.entries two.entries; others = one.others ∙ two.others }
+
+module _ {a b : NotesOf} (same : SameNotes a b) where
+  -- law: what holds of each of the ones holds of each of the others
+  pub each_same : (k : NoteKind) (P : NoteOf k → Type 0) → AllByRecursion P (list_of k b) → AllByRecursion P (list_of k a)
+  each_same EntryNotes P all = All-permuted P _ _ (IsPermutation-sym _ _ same.entries) all
+  each_same LookNotes P all = subst (λ (n : NotesOf). AllByRecursion P n.looks) (sym same.others) all
+  each_same ObjectNotes P all = subst (λ (n : NotesOf). AllByRecursion P n.objects) (sym same.others) all
+  each_same SkipNotes P all = subst (λ (n : NotesOf). AllByRecursion P n.skips) (sym same.others) all
+  each_same BaseNotes P all = subst (λ (n : NotesOf). AllByRecursion P n.bases) (sym same.others) all
+  each_same WriteNotes P all = subst (λ (n : NotesOf). AllByRecursion P n.writes) (sym same.others) all
+
+  -- law: they tell the same entries
+  pub told_same : IsPermutation (entries_told b) (entries_told a)
+  told_same = IsPermutation-map told_in _ _ (IsPermutation-append _ _ _ _ (IsPermutation-map of_entry _ _ (IsPermutation-sym _ _ same.entries))
+      (same_order (ap (λ (n : NotesOf). map of_base n.bases) (sym same.others))))
+
+-- ---- of receipts
+
+-- the notes that a call's receipts give
+abbrev pub notes_of : Label → List Receipt → List ObjectReceipt → NotesOf
+notes_of label log object_log = record no_notes {
+  entries = entry_notes label log;
+  looks = look_notes label log;
+  objects = object_notes label object_log;
+  skips = skip_notes label object_log;
+}
+
+-- law: a lane adds them behind its own
+pub with_done-joins : (notes : NotesOf) (label : Label) (log : List Receipt) (object_log : List ObjectReceipt)
+    → with_done notes label log object_log ≡ both_noted notes (notes_of label log object_log)
+with_done-joins notes label log object_log =
+    notes_same (with_done notes label log object_log) (both_noted notes (notes_of label log object_log)) refl refl refl refl (sym (append-nil notes.bases))
+    (sym (append-nil notes.writes))
+
+-- law: and the note of a base's entry
+pub with_shift-joins : (notes : NotesOf) (label : Label) (base number : ℕ) (event : BaseEvent)
+    → with_shift notes label base number event ≡ both_noted notes (one_noted label (Shifted base number event))
+with_shift-joins notes label base number event =
+    notes_same (with_shift notes label base number event) (both_noted notes (one_noted label (Shifted base number event))) (sym (append-nil notes.entries))
+    (sym (append-nil notes.looks)) (sym (append-nil notes.objects)) (sym (append-nil notes.skips)) refl (sym (append-nil notes.writes))
+
+-- law: of two logs
+pub notes_of-append : (label : Label) (log more : List Receipt) (object_log object_more : List ObjectReceipt)
+    → notes_of label (log ++ more) (object_log ++ object_more) ≡ both_noted (notes_of label log object_log) (notes_of label more object_more)
+notes_of-append label log more object_log object_more =
+    notes_same _ _ (notes-append (entry_note label) log more) (notes-append (look_note label) log more)
+    (notes-append (object_note label) object_log object_more)
+    (notes-append (skip_note label) object_log object_more) refl refl
+
+-- ---- entries of a timer
+
+-- a timer's entries, behind so many, as what a call did
+abbrev pub entered_on : ℕ → ℕ → List seq.Entry → List Action
+entered_on t k [] = []
+entered_on t k (e ∷ es) = Entered t (k + 1) (entry_stamped e) ∷ entered_on t (k + 1) es
+
+-- law: their receipts are noted so
+pub entered_noted : (label : Label) (t k : ℕ) (es : List seq.Entry) → notes_of label (receipts_of t k es) [] ≡ noted label (entered_on t k es)
+entered_noted label t k [] = refl
+entered_noted label t k (e ∷ es) =
+    ap (both_noted (one_noted label (Entered t (k + 1) (entry_stamped e)))) (entered_noted label t (k + 1) es)
+
+pub entered_all : (t k : ℕ) (es : List seq.Entry) → numbered t k (map entry_stamped es) ≡ all_entered (entered_on t k es)
+entered_all t k [] = refl
+entered_all t k (e ∷ es) = ap (λ xs. (k + 1, OfTimer t (entry_stamped e)) ∷ xs) (entered_all t (k + 1) es)
+
+-- law: they are no looks and of no object
+pub entered_only : (t k i : ℕ) (es : List seq.Entry) → let ds = entered_on t k es in (looked i ds ≡ []) × (made i ds ≡ []) × (numbers_of_object i ds ≡ [])
+entered_only t k i [] = (refl, refl, refl)
+entered_only t k i (e ∷ es) = entered_only t (k + 1) i es
