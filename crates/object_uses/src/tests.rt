@@ -1,5 +1,6 @@
 //! The callers, run; and the calls of objects by one thread and by two.
 mod answers;
+mod awaited;
 mod beside;
 mod blocking;
 mod expected;

@@ -1,6 +1,6 @@
 use Rattle.object_uses.specs.Callers.{KeepsPasses}
 use Rattle.object_uses.specs.Stands.{KeepsClock}
-use Rattle.object_uses.proofs.tests.blocking.run_until.Given as goal
+use Rattle.object_uses.proofs.tests.awaited.run_until.Given as goal
 
 abbrev pub invariant-loop-turn : goal.invariant-loop-turn
 invariant-loop-turn g l = record {

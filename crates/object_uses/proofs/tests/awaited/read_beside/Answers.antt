@@ -3,7 +3,7 @@ use Rattle.pass_names.proofs.Names.{answers_split}
 use Rattle.counted_row.specs.declared.view.View.{View}
 use Rattle.clock_cell.specs.declared.view.ClockView.{ClockView}
 use Rattle.hr_timers.specs.Known.{KnownOfTimers}
-use Rattle.object_uses.proofs.tests.blocking.read_beside.Goals as goal
+use Rattle.object_uses.proofs.tests.awaited.read_beside.Goals as goal
 
 pub retire-requires-clause-answers : goal.retire-requires-clause-answers
 retire-requires-clause-answers g c =
