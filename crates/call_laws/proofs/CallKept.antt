@@ -106,12 +106,15 @@ clock_read looks = record { seen = looks.seen.each 0; mine = looks.mine }
 pub same_objects : (p q : WorldPass) → q.objects ≡ p.objects → GoesOn p.objects.knows.pass.seen q.objects.knows.pass.seen
 same_objects p q is = record { each = λ i. begins_same (ap (λ o. seen_of o i) is) }
 
--- law: in every run that goes on from the writes that were seen the record has the reading
+-- law: the reading after all writes that a pass has seen is the record's, in every run that goes on from there
+pub reading_of_seen : (e : Ending) (ws : List Write) → GoesOnClock ws e → reading_at e.run.clock (length ws) ≡ reading_after ws
+reading_of_seen e ws on = reading_seen e ws (length ws) on (omega arith) ∙ ap (clock_after (at_stamp 0)) (take_all _ ws (omega arith))
+
+-- law: so the record has the reading that the call took
 pub reading_goes_on : (p q : WorldPass) (r : ClockReading) → ReadsClock p q r → (e : Ending) → GoesOnClock (writes q.clock.knows) e
     → reading_at e.run.clock r.stamp ≡ r
 reading_goes_on p q r reads e goes =
-    ap (reading_at e.run.clock) reads.count ∙ reading_seen e (writes q.clock.knows) (length (writes q.clock.knows)) goes (omega arith)
-    ∙ ap (clock_after (at_stamp 0)) (take_all _ (writes q.clock.knows) (omega arith)) ∙ sym reads.shows
+    ap (reading_at e.run.clock) reads.count ∙ reading_of_seen e (writes q.clock.knows) goes ∙ sym reads.shows
 
 -- law: the receipts stand in what was seen
 pub stand_from : {s : Script} (IsSo : List ClockLine → Type 0) (p q : WorldPass) (notes : List PlacedEntry)
@@ -186,10 +189,6 @@ pub promised_from : {s : Script} {x : WorldOf} {l : LaneOf} {call : Call} (next 
 promised_from {s = s} {l = l} next m notes t a logged fits e follows has joined =
     let is : IsLabel s l.label = slice_get_within (calls_of s l.label.lane) l.label.call next.at next.there in
     fits e follows joined has (kept_from joined is has logged) (sym (ap (λ (g : CallLog). g.moves.0) has.kept))
-
--- law: the reading after all writes that a pass has seen is the record's, in every run that goes on from there
-pub reading_of_seen : (e : Ending) (ws : List Write) → GoesOnClock ws e → reading_at e.run.clock (length ws) ≡ reading_after ws
-reading_of_seen e ws on = reading_seen e ws (length ws) on (omega arith) ∙ ap (clock_after (at_stamp 0)) (take_all _ ws (omega arith))
 
 -- the timers of a script's world are on its clocks
 pub opened_timers : {s : Script} {x : WorldOf} {l : LaneOf} {call : Call} → IsNextCall s x l call

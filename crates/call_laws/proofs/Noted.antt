@@ -37,20 +37,20 @@ one_noted label (Shifted base number event) = record no_notes { bases = record {
 one_noted label (Wrote number write) = no_notes
 
 -- the notes of what a call did, in its order
-abbrev pub noted : Label → List Action → NotesOf
-noted label [] = no_notes
-noted label (d ∷ ds) = both_noted (one_noted label d) (noted label ds)
+abbrev pub noted_by : Label → List Action → NotesOf
+noted_by label [] = no_notes
+noted_by label (d ∷ ds) = both_noted (one_noted label d) (noted_by label ds)
 
 -- law: of two parts
-pub noted-append : (label : Label) (ds es : List Action) → noted label (ds ++ es) ≡ both_noted (noted label ds) (noted label es)
-noted-append label [] es = refl
-noted-append label (d ∷ ds) es =
-    ap (both_noted (one_noted label d)) (noted-append label ds es) ∙ sym (both_noted-assoc (one_noted label d) (noted label ds) (noted label es))
+pub noted_by-append : (label : Label) (ds es : List Action) → noted_by label (ds ++ es) ≡ both_noted (noted_by label ds) (noted_by label es)
+noted_by-append label [] es = refl
+noted_by-append label (d ∷ ds) es =
+    ap (both_noted (one_noted label d)) (noted_by-append label ds es) ∙ sym (both_noted-assoc (one_noted label d) (noted_by label ds) (noted_by label es))
 
 -- law: they bear the call's label
-pub noted_bears : (k : NoteKind) (label : Label) (ds : List Action) → AllByRecursion (λ n. label_of k n ≡ label) (list_of k (noted label ds))
+pub noted_bears : (k : NoteKind) (label : Label) (ds : List Action) → AllByRecursion (λ n. label_of k n ≡ label) (list_of k (noted_by label ds))
 noted_bears k label [] = each_none k (λ n. label_of k n ≡ label)
-noted_bears k label (d ∷ ds) = each_both k _ (one_noted label d) (noted label ds) (one k d) (noted_bears k label ds)
+noted_bears k label (d ∷ ds) = each_both k _ (one_noted label d) (noted_by label ds) (one k d) (noted_bears k label ds)
   where
     one : (k : NoteKind) (d : Action) → AllByRecursion (λ n. label_of k n ≡ label) (list_of k (one_noted label d))
     one EntryNotes (Entered timer number entry) = (refl, tt)
@@ -62,27 +62,27 @@ noted_bears k label (d ∷ ds) = each_both k _ (one_noted label d) (noted label 
     one k d = tt
 
 -- law: the looks at a timer, the entries of an object and the expiries that it refused
-pub noted_looks : (t : ℕ) (label : Label) (ds : List Action) → looks_on t (noted label ds).looks ≡ looked t ds
+pub noted_looks : (t : ℕ) (label : Label) (ds : List Action) → looks_on t (noted_by label ds).looks ≡ looked t ds
 noted_looks t label [] = refl
 noted_looks t label (Looked timer number reply ∷ ds) = ap (also (nat_eq timer t) (number, reply)) (noted_looks t label ds)
 noted_looks t label (d ∷ ds) = noted_looks t label ds
 
-pub noted_made : (i : ℕ) (label : Label) (ds : List Action) → made_on i (noted label ds).objects ≡ made i ds
+pub noted_made : (i : ℕ) (label : Label) (ds : List Action) → made_on i (noted_by label ds).objects ≡ made i ds
 noted_made i label [] = refl
 noted_made i label (Made j number entry ∷ ds) = ap (also (nat_eq j i) (number, entry)) (noted_made i label ds)
 noted_made i label (d ∷ ds) = noted_made i label ds
 
-pub noted_skips : (i : ℕ) (label : Label) (ds : List Action) → skips_on i (noted label ds).skips ≡ skipped i ds
+pub noted_skips : (i : ℕ) (label : Label) (ds : List Action) → skips_on i (noted_by label ds).skips ≡ skipped i ds
 noted_skips i label [] = refl
 noted_skips i label (Skipped j number generation ∷ ds) = ap (also (nat_eq j i) (number, generation)) (noted_skips i label ds)
 noted_skips i label (d ∷ ds) = noted_skips i label ds
 
 -- law: the entries of timers and bases, in another order
-pub noted_entries : (label : Label) (ds : List Action) → IsPermutation (all_entered ds) (entries_told (noted label ds))
+pub noted_entries : (label : Label) (ds : List Action) → IsPermutation (all_entered ds) (entries_told (noted_by label ds))
 noted_entries label [] = IsPermutation-refl []
 noted_entries label (Entered timer number entry ∷ ds) = IsPermutation-cons _ _ _ (noted_entries label ds)
 noted_entries label (Shifted base number event ∷ ds) =
-    let rest = noted label ds in
+    let rest = noted_by label ds in
     let this : ℕ × Shown = (number, OfBase base event) in
     let xs = map told_in (map of_entry rest.entries) in
     let ys = map told_in (map of_base rest.bases) in
@@ -90,12 +90,12 @@ noted_entries label (Shifted base number event ∷ ds) =
     IsPermutation-trans (this ∷ all_entered ds) (this ∷ (xs ++ ys)) _
     (IsPermutation-cons this (all_entered ds) (xs ++ ys) (subst (IsPermutation (all_entered ds)) (split (map of_base rest.bases)) (noted_entries label ds)))
     (subst (IsPermutation (this ∷ (xs ++ ys)))
-    (sym (split (map of_base (noted label (Shifted base number event ∷ ds)).bases)))
+    (sym (split (map of_base (noted_by label (Shifted base number event ∷ ds)).bases)))
     (IsPermutation-sym (xs ++ this ∷ ys) (this ∷ (xs ++ ys)) (IsPermutation-middle xs this ys)))
 noted_entries label (d ∷ ds) = noted_entries label ds
 
 -- law: no write's
-pub noted_writes : (label : Label) (ds : List Action) → (noted label ds).writes ≡ []
+pub noted_writes : (label : Label) (ds : List Action) → (noted_by label ds).writes ≡ []
 noted_writes label [] = refl
 noted_writes label (Wrote number write ∷ ds) = noted_writes label ds
 noted_writes label (d ∷ ds) = noted_writes label ds
@@ -174,7 +174,7 @@ entered_on t k [] = []
 entered_on t k (e ∷ es) = Entered t (k + 1) (entry_stamped e) ∷ entered_on t (k + 1) es
 
 -- law: their receipts are noted so
-pub entered_noted : (label : Label) (t k : ℕ) (es : List seq.Entry) → notes_of label (receipts_of t k es) [] ≡ noted label (entered_on t k es)
+pub entered_noted : (label : Label) (t k : ℕ) (es : List seq.Entry) → notes_of label (receipts_of t k es) [] ≡ noted_by label (entered_on t k es)
 entered_noted label t k [] = refl
 entered_noted label t k (e ∷ es) =
     ap (both_noted (one_noted label (Entered t (k + 1) (entry_stamped e)))) (entered_noted label t (k + 1) es)

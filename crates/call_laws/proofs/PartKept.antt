@@ -20,7 +20,7 @@ use Rattle.std.proofs.lemmas.Option.{slice_get_within}
 use Rattle.lane_world.proofs.Kept.{IsNextCall, IsNoteSeen, list_of, EntryNotes, LookNotes, ObjectNotes, SkipNotes, BaseNotes, KeepsCall, log_of, SeesOn}
 use Rattle.lane_world.specs.Worlds.{WorldOf}
 use Rattle.call_laws.proofs.CallKept.{FitsOn, IsStamp, logged_from, LooksAtClock, places_told, promised_from, stand_from}
-use Rattle.call_laws.proofs.Noted.{each_same, noted, noted_bears, noted_entries, noted_looks, noted_made, noted_skips, noted_writes, one_noted, told_same}
+use Rattle.call_laws.proofs.Noted.{each_same, noted_by, noted_bears, noted_entries, noted_looks, noted_made, noted_skips, noted_writes, one_noted, told_same}
 use Rattle.lane_notes.specs.Notes.{both_noted, NotesOf}
 use Rattle.lane_notes.specs.declared.notes.WriteNote.{WriteNote}
 use Rattle.std.specs.List.Sorted.{IsPermutation}
@@ -34,14 +34,14 @@ use Rattle.lane_world.specs.declared.WorldPass.{WorldPass}
 use Rattle.run_history.specs.Receipts.{receipt}
 use Rattle.lane_world.proofs.Kept.{each_both, each_none, entries_told, looks_on, made_on, NoteKind, skips_on}
 use Rattle.std.proofs.Common.{[], ◌∷◌, ◌++◌}
-use Rattle.call_laws.proofs.Parts.{IsDone, IsPart, object_place}
+use Rattle.call_laws.proofs.Parts.{IsActionSeen, IsPart, object_place}
 use Rattle.run_history.proofs.Known.{rises_lower}
 
 -- ---- the notes
 
 -- there is no write among the actions of a part
 no_write : (IsSo : List ClockLine → Type 0) (p : ObjectsPass) (w : KnownOfTimers) (q : ObjectsPass) (ds : List Action)
-    → AllByRecursion (IsDone IsSo p w q) ds → wrote ds ≡ []
+    → AllByRecursion (IsActionSeen IsSo p w q) ds → wrote ds ≡ []
 no_write IsSo p w q [] each = refl
 no_write IsSo p w q (Wrote number write ∷ ds) each = absurd each.0
 no_write IsSo p w q (d ∷ ds) each = no_write IsSo p w q ds each.1
@@ -49,13 +49,13 @@ no_write IsSo p w q (d ∷ ds) each = no_write IsSo p w q ds each.1
 -- what a part did stands in what was seen, by its notes
 noted_seen : (IsSo : List ClockLine → Type 0) (p q : WorldPass) (notes : List PlacedEntry) (t : Trace) (label : Label)
     → ((e : Ending) → promises.GoesOnClock (writes q.clock.knows) e → IsSo e.run.clock) → (k : NoteKind) (ds : List Action)
-    → AllByRecursion (IsDone IsSo p.objects q.timers.known q.objects) ds
-    → AllByRecursion (IsNoteSeen k q (log_of p q notes t)) (list_of k (noted label ds))
+    → AllByRecursion (IsActionSeen IsSo p.objects q.timers.known q.objects) ds
+    → AllByRecursion (IsNoteSeen k q (log_of p q notes t)) (list_of k (noted_by label ds))
 noted_seen IsSo p q notes t label so k [] each = each_none k (IsNoteSeen k q (log_of p q notes t))
 noted_seen IsSo p q notes t label so k (d ∷ ds) each =
-    each_both k (IsNoteSeen k q (log_of p q notes t)) (one_noted label d) (noted label ds) (one k d each.0) (noted_seen IsSo p q notes t label so k ds each.1)
+    each_both k (IsNoteSeen k q (log_of p q notes t)) (one_noted label d) (noted_by label ds) (one k d each.0) (noted_seen IsSo p q notes t label so k ds each.1)
   where
-    one : (k : NoteKind) (d : Action) → IsDone IsSo p.objects q.timers.known q.objects d
+    one : (k : NoteKind) (d : Action) → IsActionSeen IsSo p.objects q.timers.known q.objects d
         → AllByRecursion (IsNoteSeen k q (log_of p q notes t)) (list_of k (one_noted label d))
     one EntryNotes (Entered timer number entry) is = (tt, tt)
     one LookNotes (Looked timer number reply) is = (is, tt)
@@ -92,7 +92,7 @@ keeps_part {s = s} {l = l} {call = call} {IsSo = IsSo} {notes = notes} {added = 
     let none = no_write IsSo p.objects q.timers.known q.objects t.actions part.each in
     let no_writes : added.writes ≡ [] = ap (λ (n : NotesOf). n.writes) others ∙ noted_writes label t.actions in
     let told : IsPermutation (map receipt notes) (entries_told added) = IsPermutation-trans _ _ _
-    (subst (λ rs. IsPermutation rs (entries_told (noted label t.actions))) (sym part.are) (noted_entries label t.actions)) (told_same part.told) in
+    (subst (λ rs. IsPermutation rs (entries_told (noted_by label t.actions))) (sym part.are) (noted_entries label t.actions)) (told_same part.told) in
     let sees : SeesOn p q = record { timers = part.enters.seen; clock = clock.seen; objects = part.goes_on; opening = part.opening } in
     record {
       notes = notes;

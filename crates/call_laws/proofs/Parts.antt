@@ -29,7 +29,7 @@ use Rattle.lane_world.specs.Runs.{ObjectMove, ShowsObjectCall}
 use Rattle.lane_world.proofs.Kept.{FollowsObject}
 use Rattle.lane_world.proofs.SeenMore.{begins_same, count_begins}
 use Rattle.call_laws.proofs.Entering.{enters-append, enters_at, enters_none, EntersNotes, EntersOne}
-use Rattle.call_laws.proofs.Noted.{entered_all, entered_noted, entered_on, entered_only, noted, noted-append, notes_of, notes_of-append, one_noted, same-both, same_notes, SameNotes}
+use Rattle.call_laws.proofs.Noted.{entered_all, entered_noted, entered_on, entered_only, noted_by, noted_by-append, notes_of, notes_of-append, one_noted, same-both, same_notes, SameNotes}
 use Rattle.lane_notes.specs.Notes.{both_noted, no_notes, NotesOf}
 use Rattle.script_text.specs.Declarations.{declareds_of, terms_of}
 use Rattle.run_history.specs.Actions.{Shifted, Skipped, Wrote}
@@ -94,12 +94,12 @@ noted_at reading call reply entry noted no_skip shows =
 -- ---- parts
 
 -- what an action did stands in what was seen; parts make no write
-abbrev pub IsDone : (List ClockLine → Type 0) → ObjectsPass → KnownOfTimers → ObjectsPass → Action → Type 0
-IsDone IsSo p w q (Looked t number reply) = (0 < number) × (number ≤ count (TimersList t) w.seen)
-IsDone IsSo p w q (Made i number entry) = IsMadeIn IsSo p q i number entry
-IsDone IsSo p w q (Skipped i number generation) = (0 < number) × (number ≤ length (seen_of q i))
-IsDone IsSo p w q (Wrote number write) = ⊥
-IsDone IsSo p w q d = Unit
+abbrev pub IsActionSeen : (List ClockLine → Type 0) → ObjectsPass → KnownOfTimers → ObjectsPass → Action → Type 0
+IsActionSeen IsSo p w q (Looked t number reply) = (0 < number) × (number ≤ count (TimersList t) w.seen)
+IsActionSeen IsSo p w q (Made i number entry) = IsMadeIn IsSo p q i number entry
+IsActionSeen IsSo p w q (Skipped i number generation) = (0 < number) × (number ≤ length (seen_of q i))
+IsActionSeen IsSo p w q (Wrote number write) = ⊥
+IsActionSeen IsSo p w q d = Unit
 
 -- the place of a note of an object
 abbrev pub object_place : ObjectNote → ℕ × ℕ
@@ -110,11 +110,11 @@ pub record IsPart (s : Script) (IsSo : List ClockLine → Type 0) (label : Label
     (actions : List Action) (notes : List PlacedEntry) (added : NotesOf) : Type 0 where
   pub enters : EntersNotes s IsSo v w notes
   pub are : map receipt notes ≡ all_entered actions
-  pub told : SameNotes added (noted label actions)
+  pub told : SameNotes added (noted_by label actions)
   pub goes_on : GoesOn p.knows.pass.seen q.knows.pass.seen
   pub opening : q.knows.opening ≡ p.knows.opening
-  pub mine : q.knows.pass.mine ≡ p.knows.pass.mine ++ map object_place (noted label actions).objects
-  pub each : AllByRecursion (IsDone IsSo p w q) actions
+  pub mine : q.knows.pass.mine ≡ p.knows.pass.mine ++ map object_place (noted_by label actions).objects
+  pub each : AllByRecursion (IsActionSeen IsSo p w q) actions
   pub looks_rise : (t : ℕ) → RisesTo (count (TimersList t) v.seen + 1) (looked t actions) (count (TimersList t) w.seen + 1)
   pub rise : (i : ℕ) → RisesTo (length (seen_of p i) + 1) (made i actions) (length (seen_of q i) + 1)
   pub steps : (i : ℕ) → NeverFall (length (seen_of p i)) (numbers_of_object i actions) (length (seen_of q i))
@@ -134,7 +134,7 @@ none_between le = rises_none (omega (arith, le))
 
 -- what was done stands there when more was seen, and behind less
 done_in : (IsSo : List ClockLine → Type 0) (o p q r : ObjectsPass) (u w : KnownOfTimers) → GoesOn o.knows.pass.seen p.knows.pass.seen
-    → GoesOn q.knows.pass.seen r.knows.pass.seen → Begins u.seen w.seen → (d : Action) → IsDone IsSo p u q d → IsDone IsSo o w r d
+    → GoesOn q.knows.pass.seen r.knows.pass.seen → Begins u.seen w.seen → (d : Action) → IsActionSeen IsSo p u q d → IsActionSeen IsSo o w r d
 done_in IsSo o p q r u w less more seen (Looked t number reply) is =
     let le = count_begins (TimersList t) seen in (is.0, omega (arith, is.1, le))
 done_in IsSo o p q r u w less more seen (Made i number entry) is =
@@ -175,8 +175,8 @@ module _ {s : Script} {IsSo : List ClockLine → Type 0} {label : Label} where
 
   -- a part that made entries of timers and bases, and nothing else
   timers_only : {v : KnownOfTimers} {p : ObjectsPass} {w : KnownOfTimers} {ds : List Action} {notes : List PlacedEntry} {added : NotesOf}
-      → EntersNotes s IsSo v w notes → map receipt notes ≡ all_entered ds → added ≡ noted label ds → (noted label ds).objects ≡ []
-      → AllByRecursion (IsDone IsSo p w p) ds → ((i : ℕ) → (looked i ds ≡ []) × (made i ds ≡ []) × (numbers_of_object i ds ≡ []))
+      → EntersNotes s IsSo v w notes → map receipt notes ≡ all_entered ds → added ≡ noted_by label ds → (noted_by label ds).objects ≡ []
+      → AllByRecursion (IsActionSeen IsSo p w p) ds → ((i : ℕ) → (looked i ds ≡ []) × (made i ds ≡ []) × (numbers_of_object i ds ≡ []))
       → IsPart s IsSo label v p w p ds notes added
   timers_only {p = p} enters are told none each only = record {
     enters = enters;
@@ -205,7 +205,7 @@ module _ {s : Script} {IsSo : List ClockLine → Type 0} {label : Label} where
             (λ i. entered_only t k i es),
       )
     where
-      all_done : (k : ℕ) (es : List seq.Entry) → AllByRecursion (IsDone IsSo p w p) (entered_on t k es)
+      all_done : (k : ℕ) (es : List seq.Entry) → AllByRecursion (IsActionSeen IsSo p w p) (entered_on t k es)
       all_done k [] = tt
       all_done k (e ∷ es) = (tt, all_done (k + 1) es)
 
@@ -251,10 +251,10 @@ module _ {s : Script} {IsSo : List ClockLine → Type 0} {label : Label} where
   part_then {o = o} {v = v} {p = p} {w = w} {q = q} {ds = ds} {es = es} {xs = xs} {ys = ys} one two = record {
     enters = enters-append one.enters two.enters;
     are = rw (map-append receipt xs ys, one.are, two.are) (sym (all_entered-append ds es));
-    told = rw (noted-append label ds es) (same-both one.told two.told);
+    told = rw (noted_by-append label ds es) (same-both one.told two.told);
     goes_on = record { each = λ i. begins_trans (one.goes_on.each i) (two.goes_on.each i) };
     opening = two.opening ∙ one.opening;
-    mine = two.mine ∙ rw (one.mine, noted-append label ds es, map-append object_place, append_assoc) refl;
+    mine = two.mine ∙ rw (one.mine, noted_by-append label ds es, map-append object_place, append_assoc) refl;
     each = each_joined ds es (done_in IsSo o o p q v w (record { each = λ i. begins_same refl }) two.goes_on two.enters.seen)
         (done_in IsSo o p q q w w one.goes_on (record { each = λ i. begins_same refl }) (begins_same refl)) one.each two.each;
     looks_rise = λ t. rw (looked-append t ds es) (rises_on (one.looks_rise t) (two.looks_rise t));

@@ -6,17 +6,14 @@ use Rattle.std.proofs.Common.{◌≡◌, ◌≤◌, ◌<◌, ℕ, ◌+◌, is_so
 use Rattle.ktime.specs.Readings.{ClockReading}
 use Rattle.seq_timer.specs.Calls.{entries_along, step_all}
 use Rattle.seq_timer.specs.Events.{Asked, Event}
-use Rattle.seq_timer.specs.Histories as seq
 use Rattle.seq_timer.specs.Steps.{Timer, after, placement_of}
-use Rattle.seq_timer.specs.Systems.{entries_of, openings}
+use Rattle.seq_timer.specs.Systems.{openings}
 use Rattle.seq_timer.specs.Tables.{timer_at}
 use Rattle.seq_timer.specs.declared.context.Declared.{Declared}
 use Rattle.seq_timer.specs.declared.context.Terms.{Terms}
 use Rattle.seq_timer.specs.declared.system.SystemEntry.{SystemEntry}
-use Rattle.seq_timer.proofs.Limits.{stamp-after}
 use Rattle.base_row.specs.Calls.{opening_of}
 use Rattle.base_row.specs.declared.view.Opening.{Opening}
-use Rattle.hr_timers.proofs.Moments.{timer_own}
 use Rattle.hr_timers.specs.Known.{timer_then}
 use Rattle.script_text.specs.Declarations.{declareds_of, terms_of}
 use Rattle.script_text.specs.declared.script.Script.{Script}

@@ -2,7 +2,7 @@
 -- from what the lane's passes have seen.
 use Rattle.std.specs.List.{AllByRecursion, slice_get}
 use Rattle.std.specs.List.Sorted.{IsPermutation}
-use Rattle.std.proofs.Common.{ℕ, ◌≡◌, ◌≤◌, ◌<◌, ◌+◌, nat_eq, Some, List, [], ◌∷◌, length, map, take, arith, ◌∙◌, ◌++◌, filter}
+use Rattle.std.proofs.Common.{ℕ, ◌≡◌, ◌≤◌, ◌<◌, ◌+◌, nat_eq, Some, List, [], ◌∷◌, length, map, take, ◌++◌, filter}
 use Rattle.clock_cell.specs.Views.{reading_after, writes}
 use Rattle.clock_model.specs.Clocks.{last_stamp}
 use Rattle.lane_notes.specs.Notes.{NotesOf, both_noted, no_notes}
@@ -14,7 +14,7 @@ use Rattle.lane_notes.specs.declared.notes.ObjectNote.{ObjectNote}
 use Rattle.lane_notes.specs.declared.notes.SkipNote.{SkipNote}
 use Rattle.lane_notes.specs.declared.notes.WriteNote.{WriteNote}
 use Rattle.pass_names.specs.Counts.{count}
-use Rattle.pass_names.specs.Passes.{Begins, GoesOn, is_place, entries}
+use Rattle.pass_names.specs.Passes.{Begins, GoesOn, is_place}
 use Rattle.record_text.specs.declared.record.Answer.{Answer}
 use Rattle.record_text.specs.declared.record.CallbackReply.{CallbackReply}
 use Rattle.record_text.specs.declared.record.Label.{Label}

@@ -1,14 +1,12 @@
 -- What holds of what passes have seen is carried to passes that have seen more.
 use Rattle.std.specs.List.{slice_get}
-use Rattle.std.proofs.Common.{ℕ, ◌≡◌, ◌≤◌, ◌<◌, ◌+◌, Some, List, [], ◌∷◌, take, arith, refl, sym, ap, ◌∙◌, subst, ◌++◌}
+use Rattle.std.proofs.Common.{ℕ, ◌≡◌, ◌≤◌, Some, List, [], take, arith, refl, sym, ap, ◌∙◌, subst, ◌++◌}
 use Rattle.clock_cell.specs.Views.{reading_after, writes}
-use Rattle.pass_names.specs.Counts.{count}
 use Rattle.pass_names.specs.Passes.{Begins, entries}
 use Rattle.run_history.specs.Witnesses.{Owner, TimersList}
 use Rattle.run_history.specs.Fits.{Seen}
 use Rattle.run_history.specs.Receipts as receipts
 use Rattle.run_history.specs.Runs.{CallLog, Ending}
-use Rattle.run_history.specs.Actions.{made}
 use Rattle.run_history.specs.Histories.{ShowsReading}
 use Rattle.timer_objects.specs.Known.{seen_of}
 use Rattle.lane_world.specs.declared.WorldPass.{WorldPass}

@@ -1,4 +1,5 @@
 -- Notes of some calls and of others, joined: each call's own notes are among its own, and each note is still of something that passes have seen.
+use Rattle.run_history.proofs.Lists.{all_at, each}
 use Rattle.lane_world.proofs.Kept.{each_both, each_none}
 use Rattle.std.proofs.Common.{◌≡◌, ◌⊎◌, filter, List, [], ◌∷◌, refl, sym, ap, ◌∙◌, subst, ⊎_elim}
 use Rattle.std.specs.List.{AllByRecursion}
@@ -25,12 +26,6 @@ pub record AreOf (p : WorldPass) (notes : NotesOf) (Of : Label → CallLog → T
   pub seen : (k : NoteKind) → AllByRecursion (λ n. (g : CallLog) × Of (label_of k n) g × IsNoteSeen k p g n) (list_of k notes)
 
 -- ---- lists of labelled items
-
--- two facts of each are one
-each_two : {X : Type 0} (P Q R : X → Type 0) (xs : List X) → ((x : X) → P x → Q x → R x) → AllByRecursion P xs → AllByRecursion Q xs
-    → AllByRecursion R xs
-each_two P Q R [] to one two = tt
-each_two P Q R (x ∷ xs) to one two = (to x one.0 two.0, each_two P Q R xs to one.1 two.1)
 
 -- none of them is of this call
 filter_none : {X : Type 0} (label : X → Label) (c : Label) (xs : List X) → AllByRecursion (λ x. label x ≡ c → ⊥) xs
@@ -113,7 +108,7 @@ pub call_notes : {s : Script} {l : LaneOf} {call : Call} {a : Answer} {m : LaneO
 call_notes {l = l} {m = m} kept =
     let log = log_of l.pass m.pass kept.notes kept.trace in record {
       tell = λ c g is. subst (λ h. TellLog h (own_notes c kept.added)) is.1 (subst (TellLog log) (own c is.0) kept.tells);
-      seen = λ k. each_two _ _ _ (list_of k kept.added) (λ n bears seen. (log, (bears, refl), seen)) (kept.bears k) (kept.seen k);
+      seen = λ k. each _ (list_of k kept.added) (λ i n at. (log, (all_at _ _ i n (kept.bears k) at, refl), all_at _ _ i n (kept.seen k) at));
     }
   where
     own : (c : Label) → c ≡ l.label → kept.added ≡ own_notes c kept.added
