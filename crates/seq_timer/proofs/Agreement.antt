@@ -80,6 +80,7 @@ module _ (bases count : ℕ) where
   pub agrees_one : (w : System) (x : SystemEntry) → MayCome bases count w x → Agrees w → Agrees (after_one w x)
   agrees_one w (entries.Timer e) ok agrees = agrees_next w e ok agrees
   agrees_one w (entries.Base c) ok agrees = agrees_shift w c agrees
+  agrees_one w (entries.Rise k) ok agrees = agrees
 
   agrees_all : (w : System) (log : List SystemEntry) → AreSystemSteps bases count w log → Agrees w → Agrees (after_entries w log)
   agrees_all w [] all agrees = agrees
@@ -89,6 +90,7 @@ module _ (bases count : ℕ) where
   pub parts : (w : System) (log : List SystemEntry) → AreSystemSteps bases count w log → (t : ℕ) → seq.AreSteps (w.timers t) (entries_of t log)
   parts w [] all t = tt
   parts w (entries.Base c ∷ es) all t = subst (λ x. seq.AreSteps (x t) (entries_of t es)) (all_timers_shift w c) (parts (after_shift w c) es all.1 t)
+  parts w (entries.Rise k ∷ es) all t = parts w es all.1 t
   parts w (entries.Timer e ∷ es) all t =
       let rest : seq.AreSteps ((after_entry w e).timers t) (entries_of t es) = parts (after_entry w e) es all.1 t in
       let here : seq.Entry = record { event = e.event; reply = e.reply } in

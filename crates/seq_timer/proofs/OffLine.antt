@@ -182,6 +182,7 @@ module _ (bases count : ℕ) where
   clear_one : (w : System) (x : SystemEntry) → MayCome bases count w x → Agrees w → IsClearOff count w → IsClearOff count (after_one w x)
   clear_one w (entries.Timer e) ok agrees clear = clear_next w e ok agrees clear
   clear_one w (entries.Base c) ok agrees clear = clear_shift w c ok clear
+  clear_one w (entries.Rise k) ok agrees clear = clear
 
   pub clear_after : (w : System) (log : List SystemEntry) → AreSystemSteps bases count w log → Agrees w → IsClearOff count w
       → IsClearOff count (after_entries w log)

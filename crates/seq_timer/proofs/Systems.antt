@@ -16,7 +16,7 @@ use Rattle.seq_timer.specs.declared.system.SystemEntry.TheVariants as entries
 use Rattle.seq_timer.specs.declared.system.TimerEntry.{TimerEntry}
 use Rattle.seq_timer.specs.Standings.{AreShifts, standing_after, standing_after_all}
 use Rattle.seq_timer.specs.Systems.{BaseContent, System, updated, first_system, system_after, changed, shifted, after_entry, after_shift, after_one, after_entries}
-use Rattle.seq_timer.specs.Systems.{IsSystemStep, MayCome, AreSystemSteps, entries_of, shifts_of, IsOn, Shows}
+use Rattle.seq_timer.specs.Systems.{IsSystemStep, MayCome, AreSystemSteps, entries_of, rises_of, shifts_of, IsOn, Shows}
 use Rattle.seq_timer.proofs.Effects.{IsSent, by_effect}
 
 pub updated_here : {A : Type 0} (f : ℕ → A) (i : ℕ) (x : A) → updated f i x i ≡ x
@@ -209,6 +209,7 @@ module _ (bases count : ℕ) where
   shows_one : (w : System) (x : SystemEntry) → MayCome bases count w x → Shows count w → Shows count (after_one w x)
   shows_one w (entries.Timer e) ok shows = shows_next w e ok shows
   shows_one w (entries.Base c) ok shows = shows_shift w c shows
+  shows_one w (entries.Rise k) ok shows = shows
 
   shows_all : (w : System) (es : List SystemEntry) → AreSystemSteps bases count w es → Shows count w → Shows count (after_entries w es)
   shows_all w [] all shows = shows
@@ -231,6 +232,7 @@ pub untouched : (bases count : ℕ) (w : System) (log : List SystemEntry) (t : �
     → (after_entries w log).timers t ≡ w.timers t
 untouched bases count w [] t past all = refl
 untouched bases count w (entries.Base c ∷ es) t past all = untouched bases count (after_shift w c) es t past all.1 ∙ timers_shift w c t
+untouched bases count w (entries.Rise k ∷ es) t past all = untouched bases count w es t past all.1
 untouched bases count w (entries.Timer e ∷ es) t past all =
     untouched bases count (after_entry w e) es t past all.1 ∙ timer_else w e t (λ same. absurd (omega (arith, same, all.0.within)))
 
@@ -239,6 +241,7 @@ untouched bases count w (entries.Timer e ∷ es) t past all =
 pub entries_of-append : (t : ℕ) (xs ys : List SystemEntry) → entries_of t (xs ++ ys) ≡ entries_of t xs ++ entries_of t ys
 entries_of-append t [] ys = refl
 entries_of-append t (entries.Base c ∷ xs) ys = entries_of-append t xs ys
+entries_of-append t (entries.Rise k ∷ xs) ys = entries_of-append t xs ys
 entries_of-append t (entries.Timer x ∷ xs) ys = pick (record { event = x.event; reply = x.reply }) (entries_of t (xs ++ ys)) (entries_of t xs)
     (entries_of t ys) (eqb x.timer t) (entries_of-append t xs ys)
   where
@@ -249,6 +252,7 @@ entries_of-append t (entries.Timer x ∷ xs) ys = pick (record { event = x.event
 -- a timer's state is what its own history leads to
 pub after_entries-entries_of : (w : System) (t : ℕ) (es : List SystemEntry) → (after_entries w es).timers t ≡ seq.after_all (w.timers t) (entries_of t es)
 after_entries-entries_of w t [] = refl
+after_entries-entries_of w t (entries.Rise k ∷ es) = after_entries-entries_of w t es
 after_entries-entries_of w t (entries.Base c ∷ es) =
     after_entries-entries_of (after_shift w c) t es ∙ ap (λ (x : Timer). seq.after_all x (entries_of t es)) (timers_shift w c t)
 after_entries-entries_of w t (entries.Timer e ∷ es) =
@@ -262,11 +266,24 @@ after_entries-entries_of w t (entries.Timer e ∷ es) =
     (after_entries-entries_of (after_entry w e) t es ∙ ap (λ (x : Timer). seq.after_all x (entries_of t es)) (timer_else w e t n)))
     (cases_eq t e.timer)
 
+-- ---- counters
+
+pub rises_of-append : (k : ℕ) (xs ys : List SystemEntry) → rises_of k (xs ++ ys) ≡ rises_of k xs + rises_of k ys
+rises_of-append k [] ys = refl
+rises_of-append k (entries.Timer e ∷ xs) ys = rises_of-append k xs ys
+rises_of-append k (entries.Base c ∷ xs) ys = rises_of-append k xs ys
+rises_of-append k (entries.Rise j ∷ xs) ys = pick (eqb j k) (rises_of-append k xs ys)
+  where
+    pick : {a b c : ℕ} (q : Bool) → a ≡ b + c → (if q then a + 1 else a) ≡ (if q then b + 1 else b) + c
+    pick true e = omega (arith, e)
+    pick false e = e
+
 -- ---- a base's own history
 
 pub shifts_of-append : (b : ℕ) (xs ys : List SystemEntry) → shifts_of b (xs ++ ys) ≡ shifts_of b xs ++ shifts_of b ys
 shifts_of-append b [] ys = refl
 shifts_of-append b (entries.Timer x ∷ xs) ys = shifts_of-append b xs ys
+shifts_of-append b (entries.Rise k ∷ xs) ys = shifts_of-append b xs ys
 shifts_of-append b (entries.Base c ∷ xs) ys = pick c.event (shifts_of b (xs ++ ys)) (shifts_of b xs) (shifts_of b ys) (eqb c.base b) (shifts_of-append b xs ys)
   where
     pick : (x : BaseEvent) (a b c : List BaseEvent) (q : Bool) → a ≡ b ++ c → (if q then x ∷ a else a) ≡ (if q then x ∷ b else b) ++ c
@@ -277,6 +294,7 @@ shifts_of-append b (entries.Base c ∷ xs) ys = pick c.event (shifts_of b (xs ++
 pub after_entries-shifts_of : (w : System) (b : ℕ) (es : List SystemEntry)
     → ((after_entries w es).bases b).standing ≡ standing_after_all (w.bases b).standing (shifts_of b es)
 after_entries-shifts_of w b [] = refl
+after_entries-shifts_of w b (entries.Rise k ∷ es) = after_entries-shifts_of w b es
 after_entries-shifts_of w b (entries.Timer e ∷ es) =
     after_entries-shifts_of (after_entry w e) b es ∙ ap (λ (x : Standing). standing_after_all x (shifts_of b es)) (standing_same w e b)
 after_entries-shifts_of w b (entries.Base c ∷ es) =
@@ -296,6 +314,7 @@ after_entries-shifts_of w b (entries.Base c ∷ es) =
 pub shifts_by_turns : (bases count : ℕ) (w : System) (b : ℕ) (es : List SystemEntry) → AreSystemSteps bases count w es
     → AreShifts b (w.bases b).standing (shifts_of b es)
 shifts_by_turns bases count w b [] all = tt
+shifts_by_turns bases count w b (entries.Rise k ∷ es) all = shifts_by_turns bases count w b es all.1
 shifts_by_turns bases count w b (entries.Timer e ∷ es) all =
     subst (λ (x : Standing). AreShifts b x (shifts_of b es)) (standing_same w e b) (shifts_by_turns bases count (after_entry w e) b es all.1)
 shifts_by_turns bases count w b (entries.Base c ∷ es) all =

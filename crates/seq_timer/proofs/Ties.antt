@@ -228,6 +228,9 @@ module _ (bases timers : ℕ) where
   pub ordered_all : (w : System) (armed : ℕ → ℕ) (count : ℕ) (log : List SystemEntry) → AreSystemSteps bases timers w log → Agrees w
       → Ordered w armed count → Ordered (after_entries w log) (armed_after w armed count log) (count + length log)
   ordered_all w armed count [] all agrees o = subst (λ n. Ordered w armed n) (omega arith) o
+  ordered_all w armed count (entries.Rise k ∷ es) all agrees o =
+      subst (λ n. Ordered (after_entries w es) (armed_after w armed (count + 1) es) n) (omega arith)
+      (ordered_all w armed (count + 1) es all.1 agrees (record { below = λ t. omega (arith, o.below t); each = o.each }))
   ordered_all w armed count (entries.Base c ∷ es) all agrees o =
       subst (λ n. Ordered (after_entries (after_shift w c) es) (armed_after (after_shift w c) armed (count + 1) es) n) (omega arith)
       (ordered_all (after_shift w c) armed (count + 1) es all.1 (agrees_shift bases timers w c agrees) (ordered_shift w armed count c o))
@@ -361,6 +364,7 @@ module _ (bases : ℕ) (terms : Terms) (list : List Declared) (before later : Li
 module _ (bases : ℕ) (terms : Terms) (list : List Declared) (before later : List SystemEntry) where
   pub may_stand_behind : (x : SystemEntry) → IsSystemHistory bases list terms (before ++ x ∷ later) → MayStandBehind bases list terms before x
   may_stand_behind (entries.Timer e) history = may_follow bases terms list before later e history
+  may_stand_behind (entries.Rise k) history = tt
   may_stand_behind (entries.Base c) history =
       let w = system_of list terms before in
       let step = step_at bases (length list) (first_system (openings list terms)) before later (entries.Base c) history in

@@ -1,5 +1,6 @@
 -- The history of all timers and bases: one list of entries. Each is a step of its timer, and of the base that the timer is on, or takes a base off line
--- or on line; the list alone says what each timer is and what each base has after it.
+-- or on line; the list alone says what each timer is and what each base has after it. Among them stand the rises of counters, which change neither and
+-- give other things a place in the same order.
 use Rattle.std.specs.Prelude.{ℕ, ◌≡◌, ◌+◌, ◌<◌, Bool, true, false, ◌==◌, List, [], ◌∷◌, length, map, set, Option, Some, None, if◌then◌else◌}
 use Rattle.ktime.specs.Readings.{ClockReading}
 use Rattle.seq_timer.specs.declared.context.Context.{Context}
@@ -70,10 +71,11 @@ after_entry w e = record {
 unfoldable pub after_shift : System → BaseEntry → System
 after_shift w c = record w { bases = updated w.bases c.base (shifted c.event (w.bases c.base)) }
 
--- an entry of a timer or of a base
+-- an entry of a timer, of a base or of a counter
 abbrev pub after_one : System → SystemEntry → System
 after_one w (entries.Timer e) = after_entry w e
 after_one w (entries.Base c) = after_shift w c
+after_one w (entries.Rise k) = w
 
 -- all timers and bases after entries
 abbrev pub after_entries : System → List SystemEntry → System
@@ -118,6 +120,7 @@ pub record IsBaseStep (bases count : ℕ) (w : System) (c : BaseEntry) : Type 0 
 abbrev pub MayCome : ℕ → ℕ → System → SystemEntry → Type 0
 MayCome bases count w (entries.Timer e) = IsSystemStep bases count w e
 MayCome bases count w (entries.Base c) = IsBaseStep bases count w c
+MayCome bases count w (entries.Rise k) = Unit {0}
 
 -- each of the entries may come in its turn
 abbrev pub AreSystemSteps : ℕ → ℕ → System → List SystemEntry → Type 0
@@ -142,6 +145,7 @@ armed_after w armed count [] = armed
 armed_after w armed count (entries.Timer e ∷ es) = armed_after (after_entry w e) (if arms (w.timers e.timer) e.event then updated armed e.timer
     (count + 1) else armed) (count + 1) es
 armed_after w armed count (entries.Base c ∷ es) = armed_after (after_shift w c) armed (count + 1) es
+armed_after w armed count (entries.Rise k ∷ es) = armed_after w armed (count + 1) es
 
 -- of each timer the number of the entry that armed it last; 0 where none did
 abbrev pub armed_in : List Declared → Terms → List SystemEntry → ℕ → ℕ
@@ -152,12 +156,21 @@ abbrev pub entries_of : ℕ → List SystemEntry → List seq.Entry
 entries_of t [] = []
 entries_of t (entries.Timer e ∷ es) = if e.timer == t then record { event = e.event; reply = e.reply } ∷ entries_of t es else entries_of t es
 entries_of t (entries.Base c ∷ es) = entries_of t es
+entries_of t (entries.Rise k ∷ es) = entries_of t es
 
 -- the history of one base
 abbrev pub shifts_of : ℕ → List SystemEntry → List BaseEvent
 shifts_of b [] = []
 shifts_of b (entries.Timer e ∷ es) = shifts_of b es
 shifts_of b (entries.Base c ∷ es) = if c.base == b then c.event ∷ shifts_of b es else shifts_of b es
+shifts_of b (entries.Rise k ∷ es) = shifts_of b es
+
+-- how often a counter rose
+abbrev pub rises_of : ℕ → List SystemEntry → ℕ
+rises_of k [] = 0
+rises_of k (entries.Timer e ∷ es) = rises_of k es
+rises_of k (entries.Base c ∷ es) = rises_of k es
+rises_of k (entries.Rise j ∷ es) = if j == k then rises_of k es + 1 else rises_of k es
 
 -- nothing has happened to the timer yet
 pub record IsFresh (t : Timer) : Type 0 where

@@ -42,10 +42,11 @@ pub record MayShiftAfter (bases : ℕ) (declareds : List Declared) (terms : Term
   pub clear : (heir : ℕ) → c.event ≡ shifts.Offline heir → IsUnused (system_of declareds terms before).timers c.base
   pub reach : (t : ℕ) → t < length declareds → 0 < ((system_of declareds terms before).timers t).terms.reach
 
--- an entry of a timer or of a base
+-- an entry of a timer or of a base; a rise of a counter may stand anywhere
 abbrev pub MayStandBehind : ℕ → List Declared → Terms → List SystemEntry → SystemEntry → Type 0
 MayStandBehind bases declareds terms before (entries.Timer e) = MayFollow bases declareds terms before e
 MayStandBehind bases declareds terms before (entries.Base c) = MayShiftAfter bases declareds terms before c
+MayStandBehind bases declareds terms before (entries.Rise k) = Unit
 
 -- each entry may stand behind those before it
 abbrev pub IsInTurn : ℕ → List Declared → Terms → List SystemEntry → Type 0

@@ -1,4 +1,5 @@
-//! The history of all timers and bases: one list of entries, each a step of its timer and of the base that the timer is on, or of a base.
+//! The history of all timers and bases: one list of entries, each a step of its timer and of the base that the timer is on, or of a base, or of a
+//! counter that stands in the same order.
 ghost use Rattle.std.specs.Prelude.{◌≡◌, ◌<◌, ◌≤◌, ℕ, true, false, Some, None, List, length, slice_get};
 ghost use Rattle.ktime.specs.declared.clock_id.ClockId.{ClockId};
 ghost use Rattle.ktime.specs.Readings.{ClockReading, value_of};
@@ -34,6 +35,8 @@ pub struct BaseEntry {
 pub enum SystemEntry {
     Timer(TimerEntry),
     Base(BaseEntry),
+    /// The counter of this number rose by one. It changes no timer and no base.
+    Rise(u64),
 }
 
 /// Each timer's part of a history of all timers is a legal history of that timer.
