@@ -36,7 +36,8 @@ impl Timers {
             limit: max_events,
             reach,
         };
-        Timers::make_counting(alloc, bases, timers, terms, 0)
+        let made = Timers::make_counting(alloc, bases, timers, terms, 0)?;
+        Ok(made)
     }
 
     /// Takes a base off line (`hrtimers_cpu_dying`): moves its armed timers to the heir, at most `budget` of them, each for the times that it was armed
