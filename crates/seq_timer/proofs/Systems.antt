@@ -1,6 +1,6 @@
 -- A history of all timers: an entry leaves other timers and bases as they are, bases keep the timers that are on them, and a timer is what its own
 -- entries lead to.
-use Rattle.std.proofs.Common.{◌≡◌, ℕ, ◌<◌, ◌≤◌, ◌≢◌, eqb, Bool, true, false, List, [], ◌∷◌, ◌++◌, length, Option, Some, None, refl, ap, sym, ◌∙◌, subst, ◌⊎◌, inl, inr, ⊎_elim, arith, if◌then◌else◌}
+use Rattle.std.proofs.Common.{◌≡◌, ◌+◌, ℕ, ◌<◌, ◌≤◌, ◌≢◌, eqb, Bool, true, false, List, [], ◌∷◌, ◌++◌, length, Option, Some, None, refl, ap, sym, ◌∙◌, subst, ◌⊎◌, inl, inr, ⊎_elim, arith, if◌then◌else◌}
 use Rattle.std.proofs.lemmas.Bool.{cases_eq, ne_eqb, eq-eqb, true≢false}
 use Rattle.std.proofs.lemmas.List.{get_or-set_same, get_or-set_other, length-set}
 use Rattle.seq_timer.specs.Events.{Event}
@@ -269,14 +269,14 @@ after_entries-entries_of w t (entries.Timer e ∷ es) =
 -- ---- counters
 
 pub rises_of-append : (k : ℕ) (xs ys : List SystemEntry) → rises_of k (xs ++ ys) ≡ rises_of k xs + rises_of k ys
-rises_of-append k [] ys = refl
+rises_of-append k [] ys = omega arith
 rises_of-append k (entries.Timer e ∷ xs) ys = rises_of-append k xs ys
 rises_of-append k (entries.Base c ∷ xs) ys = rises_of-append k xs ys
-rises_of-append k (entries.Rise j ∷ xs) ys = pick (eqb j k) (rises_of-append k xs ys)
+rises_of-append k (entries.Rise j ∷ xs) ys = pick (rises_of k (xs ++ ys)) (rises_of k xs) (rises_of k ys) (eqb j k) (rises_of-append k xs ys)
   where
-    pick : {a b c : ℕ} (q : Bool) → a ≡ b + c → (if q then a + 1 else a) ≡ (if q then b + 1 else b) + c
-    pick true e = omega (arith, e)
-    pick false e = e
+    pick : (a b c : ℕ) (q : Bool) → a ≡ b + c → (if q then a + 1 else a) ≡ (if q then b + 1 else b) + c
+    pick a b c true e = omega (arith, e)
+    pick a b c false e = e
 
 -- ---- a base's own history
 
