@@ -1,5 +1,5 @@
 -- One entry more, of a timer or a base, by a pass that holds the base which it changes: the rule stays.
-use Rattle.base_row.specs.Places.{lock_at, word_at}
+use Rattle.base_row.specs.Places.{counter_at, lock_at, word_at}
 use Rattle.std.proofs.Common.{◌≡◌, ℕ, eqb, ◌&&◌, ◌+◌, ◌<◌, ◌≢◌, ◌⊎◌, ◌%◌, ◌/◌, true, List, [], ◌∷◌, ◌++◌, length, set, refl, ap, sym, ◌∙◌, subst, inl, inr, ⊎_elim, arith}
 use Rattle.std.specs.Prelude.{slice_index, slice_set, Option, Some}
 use Rattle.std.proofs.lemmas.Bool.{cases_eq, eq-eqb, ne_eqb}
@@ -12,7 +12,8 @@ use Rattle.pass_names.specs.Passes.{within, is_place}
 use Rattle.pass_names.proofs.Counts.{total_at}
 use Rattle.pass_names.proofs.Passes.{begins_more, count_place, within_more}
 use Rattle.seq_timer.specs.declared.system.SystemEntry.{SystemEntry}
-use Rattle.seq_timer.specs.Systems.{BaseContent, System, first_system, system_after, shifts_of, AreSystemSteps}
+use Rattle.seq_timer.specs.Systems.{BaseContent, System, first_system, rises_of, system_after, shifts_of, AreSystemSteps}
+use Rattle.seq_timer.proofs.Systems.{rises_of-append}
 use Rattle.base_row.specs.Plays.{having_added}
 use Rattle.base_row.specs.declared.view.Claimed.{Claimed}
 use Rattle.base_row.proofs.Frames.{kept_tree, fits_on, holds_one, fits_whole, counted}
@@ -96,7 +97,11 @@ module _ (o : Opening) (log : List SystemEntry) (s : State (Option BaseContent) 
       (claimed : (t g b : ℕ) → count (is_base_claim t g b) claims + one_if (runs g b (w.timers t)) ≡ has o (Claim t g b) v + one_if (runs g b (w'.timers t)))
       (carried : (t : ℕ) → carried_in t carry + one_if (w.timers t).moving ≡ has o (Carry t) v + one_if (w'.timers t).moving)
       (alone : (t : ℕ) → (total (has o (Carry t)) s.views ≡ has o (Carry t) v) ⊎ (w'.timers t ≡ w.timers t))
-      (shifts : ((v.id.live ≡ true) × (v.id.name ≡ [])) ⊎ ((b : ℕ) → shifts_of b log' ≡ shifts_of b log)) where
+      (shifts : ((v.id.live ≡ true) × (v.id.name ≡ [])) ⊎ ((b : ℕ) → shifts_of b log' ≡ shifts_of b log))
+      (no_rise : (j : ℕ) → rises_of j (x ∷ []) ≡ 0) where
+    no_more : (j : ℕ) → rises_of j log' ≡ rises_of j log
+    no_more j = omega (arith, rises_of-append j log (x ∷ []), no_rise j)
+
     one : total (has o (Hold h.base)) s.views ≡ has o (Hold h.base) v
     one = omega (arith, holds_one v h held, home.tokens (Hold h.base) holds.within, total_at (has o (Hold h.base)) s.views id v at)
 
@@ -129,6 +134,9 @@ module _ (o : Opening) (log : List SystemEntry) (s : State (Option BaseContent) 
       each_slot = each_slot;
       each_timer = λ t r. stored t _ _ _ _ (timers t r) (home.each_timer t r);
       each_standing = λ b r. stored (base_place (length o.timers) b) _ _ _ _ (bases b r) (home.each_standing b r);
+      each_counter = λ j r. word_same (counter_at j) (λ q. omega arith) ∙ (home.each_counter j r ∙ sym (no_more j));
+      no_counter = λ j past. no_more j ∙ home.no_counter j past;
+      counters_len = home.counters_len;
       each_view = fits_on o log s home id v v' at refl log' words (begins_more log (x ∷ [])) (λ b r. omega (arith, lock_same b r))
           (λ b r. ⊎_elim (λ (e : b ≡ h.base). inl (subst (λ q. total (has o (Hold q)) s.views ≡ has o (Hold q) v) (sym e) one))
           (λ n. inr (bases_else b n, lock_same b r)) (cases_eq b h.base)) alone shifts (fits' is);

@@ -1,6 +1,6 @@
 -- The rule holds of a new row: every base is free, and nothing has happened.
-use Rattle.base_row.specs.Places.{lock_at, word_at}
-use Rattle.std.proofs.Common.{◌≡◌, ℕ, zero, suc, ◌+◌, ◌<◌, List, [], ◌∷◌, length, map, replicate, refl, ap, sym, ◌∙◌, subst, arith, ◌%◌}
+use Rattle.base_row.specs.Places.{counter_at, lock_at, most_counters, word_at}
+use Rattle.std.proofs.Common.{◌≡◌, ℕ, zero, suc, ◌+◌, ◌<◌, ◌≤◌, List, [], ◌∷◌, length, map, replicate, refl, ap, sym, ◌∙◌, subst, arith, ◌%◌}
 use Rattle.std.specs.Prelude.{slice_index, Option, Some}
 use Rattle.std.proofs.lemmas.Bool.Decides.{nat_tests}
 use Rattle.std.proofs.lemmas.List.{length-replicate, length-map}
@@ -44,7 +44,7 @@ fresh_standing : standing_number first_standing ≡ 0
 unfolding standing_number
 fresh_standing = refl
 
-module _ (o : Opening) (fresh : AreFresh o.timers) where
+module _ (o : Opening) (fresh : AreFresh o.timers) (few : o.counters ≤ most_counters o.bases (length o.timers)) where
   abbrev first : BaseView BaseContent
   first = first_base_view o
 
@@ -81,6 +81,9 @@ module _ (o : Opening) (fresh : AreFresh o.timers) where
         ∙ ap (λ n. some (slot_of n (no_base o.timers))) (sym (even_word (lock_at b)));
     each_timer = λ t h. zero_word (word_at o.bases t) ∙ sym (fresh_word (timer_at o.timers t) (fresh.each t));
     each_standing = λ b h. zero_word (word_at o.bases (length o.timers + b)) ∙ sym fresh_standing;
+    each_counter = λ k h. zero_word (counter_at k);
+    no_counter = λ k past. refl;
+    counters_len = few;
     each_view = λ j v e. here j v e;
     tree = first_tree;
     tokens = λ x h. none_owed x;

@@ -163,6 +163,7 @@ module _ (o : Opening) (id : ℕ) (v : BaseView BaseContent) (h : HeldContent Ba
         carried
         (λ k. each (λ k was is. (total (has o (Carry k)) s.views ≡ has o (Carry k) v) ⊎ (is ≡ was)) (inl moves) (λ k n. inr refl) k)
         (inr (λ b. shifts_of-append b log (entries.Timer e ∷ []) ∙ append-nil (shifts_of b log)))
+        (λ j. refl)
 
   -- the store of the timer's new word adds the entry
   pub enters : (slots : ℕ) (slot : List (ℕ × Option BaseContent)) → GoAlong t e v claims carry

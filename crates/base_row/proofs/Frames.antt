@@ -1,5 +1,5 @@
 -- What a step has to show of the base or the timer and the seat that it changes; all else stays.
-use Rattle.base_row.specs.Places.{lock_at, word_at}
+use Rattle.base_row.specs.Places.{counter_at, lock_at, word_at}
 use Rattle.std.proofs.Common.{◌≡◌, ℕ, ◌+◌, ◌<◌, ◌≤◌, ◌≢◌, true, List, [], ◌∷◌, ◌++◌, length, map, set, refl, ap, sym, ◌∙◌, subst, ⊎_elim, arith, true≢false, ◌⊎◌, ◌%◌, inl, inr, None}
 use Rattle.std.specs.Prelude.{slice_index, slice_set, Option, Some}
 use Rattle.std.proofs.lemmas.Bool.{cases_eq, eq-eqb}
@@ -93,6 +93,9 @@ module _ (o : Opening) (log : List SystemEntry) (s : State (Option BaseContent) 
     each_slot = home.each_slot;
     each_timer = home.each_timer;
     each_standing = home.each_standing;
+    each_counter = home.each_counter;
+    no_counter = home.no_counter;
+    counters_len = home.counters_len;
     each_view = each;
     tree = tree;
     tokens = λ x h. same x ∙ home.tokens x h;
@@ -174,6 +177,9 @@ module _ (o : Opening) (log : List SystemEntry) (s : State (Option BaseContent) 
             (λ h. set_here s.homes b slot (omega (arith, home.homes_len)) ∙ ap some slot_is) (λ c n h. set_else s.homes b c slot n ∙ home.each_slot c h);
         each_timer = λ t h. word_else (word_at o.bases t) (λ e. omega arith) ∙ home.each_timer t h;
         each_standing = λ c h. word_else (word_at o.bases (base_place (length o.timers) c)) (λ e. omega arith) ∙ home.each_standing c h;
+        each_counter = λ k h. word_else (counter_at k) (λ e. omega arith) ∙ home.each_counter k h;
+        no_counter = home.no_counter;
+        counters_len = home.counters_len;
         each_view = fits_on log (set s.words (lock_at b) word) (begins_refl log)
             (λ c h. each_lock (λ q x. slice_index s.words (lock_at q) ≤ x) rises (λ q n. omega arith) c)
             (λ c h. each_lock (λ q x. HasAll (Hold q) ⊎ ((w.bases q ≡ w.bases q) × (x ≡ slice_index s.words (lock_at q)))) (inl all) (λ q n. inr (refl, refl)) c)

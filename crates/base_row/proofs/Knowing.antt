@@ -50,4 +50,5 @@ module _ (o : Opening) (s : State (Option BaseContent) (BaseView BaseContent)) (
     all_carried = λ last t h moving. carried_one t v.carry (all last (Carry t) h ∙ ap one_if moving);
     all_takes = λ last b k h some_one below. all last (Take b k) h
         ∙ in_range k ((slice_index s.words (lock_at b) + 1) / 2) some_one (omega (arith, fits.met b h));
+    counters = home.no_counter;
   }

@@ -39,7 +39,7 @@ newer_one bases words met b word inside le below top = record {
 
 module _ (o : Opening) where
   module _ (slots id : ℕ) (v : BaseView BaseContent) (carried : List (ℕ × Option BaseContent)) (live : v.id.live ≡ true) where
-    looks_with : (log : List SystemEntry) (s : State (Option BaseContent) (BaseView BaseContent)) (home : RowHolds o log s)
+    pub looks_with : (log : List SystemEntry) (s : State (Option BaseContent) (BaseView BaseContent)) (home : RowHolds o log s)
         → get_elem? s.views id ≡ some v → (i : ℕ) (met : List ℕ) → Newer o.bases s.words v.met met
         → ((h : HeldContent BaseContent) → v.held ≡ Some h → slice_index met h.base ≡ slice_index v.met h.base)
         → RowHolds o log (stepped s i (slice_index s.words i) id carried (having_met log met v) keeps)
@@ -77,6 +77,7 @@ module _ (o : Opening) where
             knows = l.1;
             timer = λ t e h. ap (λ i. slice_index s.words i) e ∙ home.each_timer t h;
             standing = λ b e h. ap (λ i. slice_index s.words i) e ∙ home.each_standing b h;
+            counter = λ k e h. ap (λ i. slice_index s.words i) e ∙ home.each_counter k h;
           },
         )
 

@@ -31,7 +31,7 @@ use Rattle.seq_timer.specs.Systems.{BaseContent, System, first_system, after_ent
 use Rattle.base_row.specs.Rules.{number_of, base_seen, timer_seen}
 use Rattle.base_row.specs.Plays.{KnowsBases}
 use Rattle.base_row.specs.Calls.{AreFresh}
-use Rattle.seq_timer.proofs.Systems.{after_entries-entries_of, timer_here, timer_else, timers_shift}
+use Rattle.seq_timer.proofs.Systems.{after_entries-entries_of, timer_here, timer_else, timers_shift, untouched}
 use Rattle.seq_timer.proofs.Agreement.{agrees, agrees_first}
 use Rattle.seq_timer.proofs.Firsts.{next_on-next, next_on-none}
 use Rattle.seq_timer.proofs.Fronts.{front-armed, front-clear, front-unarmed}
@@ -51,6 +51,7 @@ module _ (bases count : ℕ) where
   pub placed : (w : System) (log : List SystemEntry) → ((t : ℕ) → (w.timers t).base < bases) → AreSystemSteps bases count w log → (t : ℕ)
       → ((after_entries w log).timers t).base < bases
   placed w [] first all t = first t
+  placed w (entries.Rise k ∷ es) first all t = placed w es first all.1 t
   placed w (entries.Base c ∷ es) first all t = placed (after_shift w c) es (λ k. subst (λ (x : Timer). x.base < bases) (sym (timers_shift w c k)) (first k)) all.1 t
   placed w (entries.Timer e ∷ es) first all t = placed (after_entry w e) es (λ k. ⊎_elim
       (λ (same : k ≡ e.timer). subst (λ i. ((after_entry w e).timers i).base < bases) (sym same)
@@ -59,12 +60,6 @@ module _ (bases count : ℕ) where
       (first e.timer))))
       (λ apart. subst (λ (x : Timer). x.base < bases) (sym (timer_else w e k apart)) (first k))
       (cases_eq k e.timer)) all.1 t
-
-  -- nothing happens to a timer that isn't there
-  pub untouched : (w : System) (log : List SystemEntry) (t : ℕ) → count ≤ t → AreSystemSteps bases count w log → (after_entries w log).timers t ≡ w.timers t
-  untouched w [] t past all = refl
-  untouched w (entries.Base c ∷ es) t past all = untouched (after_shift w c) es t past all.1 ∙ timers_shift w c t
-  untouched w (entries.Timer e ∷ es) t past all = untouched (after_entry w e) es t past all.1 ∙ timer_else w e t (λ same. absurd (omega (arith, same, all.0.within)))
 
 -- what the first due pair of a held base says of all timers
 pub record TellsFirst (o : Opening) (v : BaseView BaseContent) (h : HeldContent BaseContent) (x : Context) (reading : ClockReading)
@@ -102,6 +97,7 @@ fresh_left t f = record { few = grind (arith, nat_tests, f.armed, f.running, f.s
 within_all : (bases count : ℕ) (w : System) (log : List SystemEntry) → ((t : ℕ) → IsWithin (w.timers t)) → AreSystemSteps bases count w log
     → (t : ℕ) → IsWithin ((after_entries w log).timers t)
 within_all bases count w [] first all t = first t
+within_all bases count w (entries.Rise k ∷ es) first all t = within_all bases count w es first all.1 t
 within_all bases count w (entries.Base c ∷ es) first all t =
     within_all bases count (after_shift w c) es (λ k. subst (λ (x : Timer). IsWithin x) (sym (timers_shift w c k)) (first k)) all.1 t
 within_all bases count w (entries.Timer e ∷ es) first all t = within_all bases count (after_entry w e) es (λ k. ⊎_elim

@@ -112,7 +112,7 @@ module _ (o : Opening) (id : ℕ) (v : BaseView BaseContent) (h : HeldContent Ba
         (cases_eq b h.base))
         (λ t g b. ap (λ (x : Timer). has o (Claim t g b) v + one_if (runs g b x)) (sym (timers_same t)))
         (λ t. ap (λ (x : Timer). has o (Carry t) v + one_if x.moving) (sym (timers_same t)))
-        (λ t. inr (timers_same t)) (inl (live, may.first))
+        (λ t. inr (timers_same t)) (inl (live, may.first)) (λ j. refl)
 
   pub shifts_word : (slots : ℕ) (slot : List (ℕ × Option BaseContent))
       → Allows (HasOneHistory o) slots id (v, slot) (word_at o.bases place) (λ _. number) (λ _. EnteredShift o h event (v, slot))

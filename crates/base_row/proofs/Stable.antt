@@ -32,12 +32,16 @@ module _ (o : Opening) (log : List SystemEntry) (s : State (Option BaseContent) 
     pub stable_own : entries_of t log ≡ entries_of t v.seen
     stable_own = same_own (first_system o.timers) t v.seen log fits.seen stable
 
-  -- where a pass has seen the whole history, it is steady
-  pub steady_own : {w : BaseView BaseContent} → v.id.live ≡ true → w.seen ≡ log → Steady v w
-  steady_own {w} live whole = record {
-    carried = λ t e. ap (entries_of t) whole ∙ same_own (first_system o.timers) t v.seen log fits.seen (sym (fits.carry t e));
-    shifts = λ name b. ap (shifts_of b) whole ∙ sym (fits.first live name b);
+  -- where a pass has seen the whole history, and no entry of a timer or a base behind it, it is steady
+  pub steady_along : {w : BaseView BaseContent} → v.id.live ≡ true → ((t : ℕ) → entries_of t w.seen ≡ entries_of t log)
+      → ((b : ℕ) → shifts_of b w.seen ≡ shifts_of b log) → Steady v w
+  steady_along {w} live entries shifts = record {
+    carried = λ t e. entries t ∙ same_own (first_system o.timers) t v.seen log fits.seen (sym (fits.carry t e));
+    shifts = λ name b. shifts b ∙ sym (fits.first live name b);
   }
+
+  pub steady_own : {w : BaseView BaseContent} → v.id.live ≡ true → w.seen ≡ log → Steady v w
+  steady_own {w} live whole = steady_along live (λ t. ap (entries_of t) whole) (λ b. ap (shifts_of b) whole)
 
 -- two looks that are steady, one after the other
 pub steady_trans : {v x w : BaseView BaseContent} → Steady v x → Steady x w → x.carry ≡ v.carry → x.id ≡ v.id → Steady v w

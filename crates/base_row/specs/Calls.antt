@@ -37,9 +37,13 @@ pub record IsBasePassOf (r : BaseRowOf) (p : BasePassOf) : Type 0 where
   pub row : p.row ≡ r.id
   pub about : p.knows.opening ≡ r.about
 
--- what a row of so many bases and of timers that are declared so begins with
+-- what a row of so many bases, of timers that are declared so, and of so many counters begins with
+abbrev pub opening_with : ℕ → List Declared → Terms → ℕ → Opening
+opening_with bases declareds terms counters = record { bases = bases; timers = openings declareds terms; counters = counters }
+
+-- the same without counters
 abbrev pub opening_of : ℕ → List Declared → Terms → Opening
-opening_of bases declareds terms = record { bases = bases; timers = openings declareds terms }
+opening_of bases declareds terms = opening_with bases declareds terms 0
 
 -- nothing has happened to any of the timers
 pub record AreFresh (timers : List Timer) : Type 0 where

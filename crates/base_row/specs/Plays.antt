@@ -1,5 +1,5 @@
 -- What each step tells.
-use Rattle.base_row.specs.Places.{lock_at, word_at}
+use Rattle.base_row.specs.Places.{counter_at, lock_at, word_at}
 use Rattle.std.specs.Prelude.{◌≡◌, ℕ, ◌+◌, ◌<◌, ◌≤◌, ◌==◌, Bool, true, false, List, [], ◌∷◌, ◌++◌, length, set}
 use Rattle.std.specs.Prelude.{slice_index, max, replicate, ◌≢◌, ◌⊎◌, ◌^◌, ◌-◌, Option, Some, None, MatchBool, unwrap_or, if◌then◌else◌}
 use Rattle.atomic_table.specs.Seated.{TableId}
@@ -22,7 +22,7 @@ use Rattle.base_row.specs.declared.view.Claimed.{Claimed}
 use Rattle.base_row.specs.declared.view.HeldContent.{HeldContent}
 use Rattle.base_row.specs.declared.view.Opening.{Opening}
 use Rattle.base_row.specs.declared.view.BaseView.{BaseView}
-use Rattle.seq_timer.specs.Systems.{BaseContent, first_system, IsSystemStep, AreSystemSteps, IsClear, changed, entries_of, shifted, shifts_of, IsOn, system_after}
+use Rattle.seq_timer.specs.Systems.{BaseContent, first_system, IsSystemStep, AreSystemSteps, IsClear, changed, entries_of, rises_of, shifted, shifts_of, IsOn, system_after}
 use Rattle.base_row.specs.Rules.{base_place, is_base_claim, carried_in, number_of, standing_number, runs, takes_at, base_seen, timer_seen, has, Place, Shift, Claim}
 use Rattle.pass_names.specs.declared.PassId.{PassId}
 
@@ -93,7 +93,7 @@ greater (x ∷ xs) [] = x ∷ xs
 greater (x ∷ xs) (y ∷ ys) = max x y ∷ greater xs ys
 
 abbrev pub no_opening : Opening
-no_opening = record { bases = 0; timers = [] }
+no_opening = record { bases = 0; timers = []; counters = 0 }
 
 -- a pass that has nothing of its own, by what it has seen and met
 abbrev pub bare_view : PassId → Opening → List SystemEntry → List ℕ → BaseView BaseContent
@@ -143,6 +143,23 @@ joined_base_view v u = record (told_base_view v u) {
   takes = v.takes ++ u.takes;
 }
 
+-- So many rises of a counter, one right behind the other.
+abbrev pub rises : ℕ → ℕ → List SystemEntry
+rises k n = replicate n (entries.Rise k)
+
+-- Behind what was seen before, a counter was raised to at least so much, right at the end of what is seen now: it rose by as much as was missing.
+pub record RaisesTo (k to : ℕ) (old new : List SystemEntry) : Type 0 where
+  pub before : List SystemEntry
+  pub seen : Begins old before
+  pub whole : new ≡ before ++ rises k (to - rises_of k before)
+
+-- the counter was so far, and its next rise stands last in what is seen now
+pub record RisesFrom (k from : ℕ) (old new : List SystemEntry) : Type 0 where
+  pub before : List SystemEntry
+  pub seen : Begins old before
+  pub count : rises_of k before ≡ from
+  pub last : new ≡ before ++ entries.Rise k ∷ []
+
 -- of the timer that a pass carries nothing more was seen, and by the first pass nothing more of any base
 pub record Steady (v w : BaseView BaseContent) : Type 0 where
   pub carried : (t : ℕ) → v.carry ≡ Some t → entries_of t w.seen ≡ entries_of t v.seen
@@ -174,8 +191,10 @@ module _ (o : Opening) where
         → has o (Shift b k) v ≡ one_if (within k (base_seen o v b).standing.stamp)
     pub all_carried : IsLast v.id → (t : ℕ) → t < length o.timers → (timer_seen o v t).moving ≡ true → v.carry ≡ Some t
     pub all_takes : IsLast v.id → (b k : ℕ) → b < o.bases → 0 < k → k + k ≤ slice_index v.met b + 1 → takes_at b k v ≡ 1
+    -- a counter that isn't there never rose
+    pub counters : (k : ℕ) → o.counters ≤ k → rises_of k v.seen ≡ 0
 
-  -- a load of word 0 or of a timer's word
+  -- a load of word 0, or of a timer's, a base's or a counter's word
   pub record LoadedWord (st : Step (Option BaseContent)) (me : SeatState) (found : ℕ)
       (new : SeatState) : Type 0 where
     pub rest : new ≡ (having_met new.0.seen me.0.met me.0, me.1)
@@ -186,6 +205,24 @@ module _ (o : Opening) where
     pub timer : (t : ℕ) → st.word ≡ word_at o.bases t → t < length o.timers → found ≡ number_of (timer_seen o new.0 t)
     pub standing : (b : ℕ) → st.word ≡ word_at o.bases (base_place (length o.timers) b) → b < o.bases
         → found ≡ standing_number (base_seen o new.0 b).standing
+    pub counter : (k : ℕ) → st.word ≡ counter_at k → k < o.counters → found ≡ rises_of k new.0.seen
+
+  -- a pass has seen more, and nothing else is other than before
+  pub record SawMore (me new : SeatState) : Type 0 where
+    pub rest : new ≡ (having_met new.0.seen me.0.met me.0, me.1)
+    pub seen : Begins me.0.seen new.0.seen
+    pub steady : Steady me.0 new.0
+    pub knows : KnowsBases new.0
+
+  -- a counter's word is raised to at least so much
+  pub record RaisedCounter (k to : ℕ) (me new : SeatState) : Type 0 where
+    pub saw : SawMore me new
+    pub raised : RaisesTo k to me.0.seen new.0.seen
+
+  -- an exchange of a counter's word: it rose by one where it was so much
+  pub record RoseCounter (k from : ℕ) (me : SeatState) (found : ℕ) (new : SeatState) : Type 0 where
+    pub saw : SawMore me new
+    pub rose : MatchBool (found == from) (RisesFrom k from me.0.seen new.0.seen) (rises_of k new.0.seen ≢ from)
 
   -- a load of a base's lock word
   pub record Met (b : ℕ) (me : SeatState) (found : ℕ) (new : SeatState) : Type 0 where
@@ -339,6 +376,12 @@ pub record IsResting (me : SeatState) : Type 0 where
 -- what single steps tell a seat of a row of its opening
 abbrev pub LooksOwn : StepMeaning
 LooksOwn st me found new = LoadedWord me.0.opening st me found new
+
+abbrev pub RaisesOwn : StepMeaning
+RaisesOwn st me found new = (k : ℕ) → st.word ≡ counter_at k → k < me.0.opening.counters → RaisedCounter me.0.opening k st.first me new
+
+abbrev pub RisesOwn : StepMeaning
+RisesOwn st me found new = (k : ℕ) → st.word ≡ counter_at k → k < me.0.opening.counters → RoseCounter me.0.opening k st.first me found new
 
 abbrev pub MeetsOwn : StepMeaning
 MeetsOwn st me found new = (b : ℕ) → st.word ≡ lock_at b → Met me.0.opening b me found new

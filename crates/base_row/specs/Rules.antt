@@ -1,5 +1,5 @@
 -- The rule of the table: one history of all timers, of which each pass has seen a beginning; words and slots are what it says.
-use Rattle.base_row.specs.Places.{lock_at, word_at}
+use Rattle.base_row.specs.Places.{counter_at, lock_at, most_counters, word_at}
 use Rattle.std.specs.Prelude.{zero, suc, ◌%◌, ◌/◌, ◌≡◌, ℕ, ◌+◌, ◌*◌, ◌<◌, ◌≤◌, Bool, true, false, ◌==◌, ◌&&◌, List, [], length, map, slice_index, Option, Some, None}
 use mathlib.Core.Option.{some, none}
 use lib.ListN.{get_elem?}
@@ -13,11 +13,16 @@ use Rattle.seq_timer.specs.Histories.{peek_of}
 use Rattle.timer_word.specs.Words.{packed}
 use Rattle.seq_timer.specs.declared.system.SystemEntry.{SystemEntry}
 use Rattle.seq_timer.specs.declared.standing.Standing.{Standing}
+use Rattle.base_row.specs.declared.plays.About.{About}
 use Rattle.base_row.specs.declared.view.Claimed.{Claimed}
 use Rattle.base_row.specs.declared.view.HeldContent.{HeldContent}
 use Rattle.base_row.specs.declared.view.Opening.{Opening}
 use Rattle.base_row.specs.declared.view.BaseView.{BaseView}
-use Rattle.seq_timer.specs.Systems.{BaseContent, System, first_system, shifts_of, system_after, AreSystemSteps}
+use Rattle.seq_timer.specs.Systems.{BaseContent, System, first_system, rises_of, shifts_of, system_after, AreSystemSteps}
+
+-- what a table is of, by what it was made for
+abbrev pub opening_in : About → Opening
+opening_in about = record { bases = about.bases; timers = about.timers.value.items; counters = about.counters }
 
 abbrev pub base_pass_id : BaseView BaseContent → PassId
 base_pass_id v = v.id
@@ -148,6 +153,10 @@ module _ (o : Opening) where
     -- and a base's that of its standing
     pub each_standing : (b : ℕ) → b < o.bases
         → slice_index s.words (word_at o.bases (base_place (length o.timers) b)) ≡ standing_number ((system_after o.timers log).bases b).standing
+    -- a counter's word is how often it rose; one that isn't there never did
+    pub each_counter : (k : ℕ) → k < o.counters → slice_index s.words (counter_at k) ≡ rises_of k log
+    pub no_counter : (k : ℕ) → o.counters ≤ k → rises_of k log ≡ 0
+    pub counters_len : o.counters ≤ most_counters o.bases (length o.timers)
     pub each_view : (j : ℕ) (v : BaseView BaseContent) → get_elem? s.views j ≡ some v → PassHolds log s.words v
     pub tree : IsPassTree (map base_pass_id s.views)
     -- each token is one pass's, once

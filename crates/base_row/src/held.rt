@@ -1,5 +1,5 @@
 //! What a caller holds: a pass, and a base whose lock it has.
-ghost use Rattle.std.specs.Prelude.{◌≡◌, ◌<◌, length};
+ghost use Rattle.std.specs.Prelude.{◌≡◌, ◌<◌, length, []};
 ghost use Rattle.seq_timer.specs.Bases.{IsQueuedAs};
 ghost use Rattle.seq_timer.specs.Contents.{front_of, running_in};
 ghost use Rattle.seq_timer.specs.Standings.{standing_after};
@@ -38,6 +38,13 @@ impl Pass {
     {
         let Pass { seat } = self;
         seat
+    }
+
+    /// Between calls a pass has seen all that it was told of.
+    pub(crate) fn rested(&self)
+        ensures { self.now.knows.heard ≡ [] }
+    {
+        let _seat = &self.seat;
     }
 
     /// What a pass knows is true.

@@ -2,6 +2,7 @@
 #![tactic(auto)]
 
 mod cell;
+mod counters;
 mod entries;
 mod held;
 mod laws;

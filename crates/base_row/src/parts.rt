@@ -1,5 +1,5 @@
 //! What a row's table is made of.
-ghost use Rattle.base_row.specs.Places.{lock_at, word_at};
+ghost use Rattle.base_row.specs.Places.{counter_at, lock_at, word_at};
 ghost use Rattle.std.specs.Prelude.{◌≡◌, ◌<◌, ◌≤◌, ◌^◌, Some, IfOk, IfSome, length, replicate};
 ghost use Rattle.base_row.specs.Rules.{number_of, standing_number};
 ghost use Rattle.seq_timer.specs.declared.standing.Standing as standings;
@@ -40,6 +40,14 @@ pub fn timer_index(bases: usize, timer: usize) -> usize
     ensures { result ≡ word_at bases timer }
 {
     16 * bases + 16 + 16 * timer
+}
+
+/// Where a counter's word stands.
+pub fn counter_index(counter: usize) -> usize
+    requires few { counter < 2 ^ 32 }
+    ensures { result ≡ counter_at counter }
+{
+    16 * (counter / 2) + 1 + counter % 2
 }
 
 /// The number in a base's word.

@@ -9,17 +9,23 @@ use std::snapshot::Snapshot;
 
 pub type SlotView = BaseView<BaseSlot>;
 
-pub type About = (u64, Snapshot<Vec<TimerState>>);
+/// What a table is made for.
+#[derive(Drop)]
+pub struct About {
+    pub bases: u64,
+    pub timers: Snapshot<Vec<TimerState>>,
+    pub counters: u64,
+}
 
 pub struct BaseRule;
 
 impl TableRule<BaseCell, SlotView, About> for BaseRule {
-    ghost use Rattle.base_row.specs.Rules.{HasOneHistory};
+    ghost use Rattle.base_row.specs.Rules.{HasOneHistory, opening_in};
     ghost use Rattle.base_row.specs.Plays.{first_base_view};
 
-    ghost holds = { λ k s. HasOneHistory (record { bases = k.0; timers = k.1.value.items }) s };
+    ghost holds = { λ k s. HasOneHistory (opening_in k) s };
 
-    ghost first = { λ k. first_base_view (record { bases = k.0; timers = k.1.value.items }) };
+    ghost first = { λ k. first_base_view (opening_in k) };
 }
 
 /// Which event an entry has. Each entry picks it.
@@ -70,13 +76,31 @@ impl<K: BaseEventPick> Play<BaseCell, SlotView> for Shift<K> {
     ghost then = { λ st m stored w. ShiftsBy K.event st m w };
 }
 
-/// A load of word 0 or of a timer's word.
+/// A load of word 0, or of a timer's, a base's or a counter's word.
 pub struct Look;
 
 impl Play<BaseCell, SlotView> for Look {
     ghost use Rattle.base_row.specs.Plays.{LooksOwn};
 
     ghost then = { LooksOwn };
+}
+
+/// A counter's word is raised.
+pub struct Raise;
+
+impl Play<BaseCell, SlotView> for Raise {
+    ghost use Rattle.base_row.specs.Plays.{RaisesOwn};
+
+    ghost then = { RaisesOwn };
+}
+
+/// An exchange of a counter's word for the next one.
+pub struct Rise;
+
+impl Play<BaseCell, SlotView> for Rise {
+    ghost use Rattle.base_row.specs.Plays.{RisesOwn};
+
+    ghost then = { RisesOwn };
 }
 
 /// A load of a lock word.

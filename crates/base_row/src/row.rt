@@ -1,5 +1,5 @@
 //! A row of bases behind locks, with timers that have a word each.
-ghost use Rattle.base_row.specs.Places.{lock_at, word_at};
+ghost use Rattle.base_row.specs.Places.{lock_at, most_counters, word_at};
 ghost use Rattle.std.specs.Prelude.{◌≡◌, ◌+◌, ◌-◌, ◌^◌, ◌<◌, ◌≤◌, ℕ, length, slice_index, Some, None, [], MatchOption, IfOk, IfSome, IfNone, false};
 ghost use Rattle.pass_names.specs.Names.{AnswersFor, IsLast};
 ghost use Rattle.base_row.specs.Rules.{number_of};
@@ -12,7 +12,7 @@ ghost use Rattle.seq_timer.specs.Halves.{running_on};
 ghost use Rattle.ktime.specs.declared.clock_id.ClockId.{ClockId};
 ghost use Rattle.seq_timer.specs.Systems.{IsOn, next_on};
 ghost use Rattle.base_row.specs.Plays.{KnowsOwn, first_base_view, Lost, GotBase, carried_slots, split_base_view, new_base_view, Steady};
-ghost use Rattle.base_row.specs.Calls.{AreFresh, GetsBase, MissesBase, opening_of, IsBasePassOf, LetsGo, SeesFurther, Absorbs};
+ghost use Rattle.base_row.specs.Calls.{AreFresh, GetsBase, MissesBase, opening_of, opening_with, IsBasePassOf, LetsGo, SeesFurther, Absorbs};
 ghost use Rattle.base_row.specs.Calls.{LearnsFrom, MayAppend, Appended, own_receipt, timer_seen, base_seen};
 
 use crate::cell::BaseCell;
@@ -42,24 +42,26 @@ pub struct BaseRow {
 
 impl Model for BaseRow {
     ghost use Rattle.std.specs.Prelude.{◌≡◌, ◌+◌, ◌<◌, ◌≤◌, length};
-    ghost use Rattle.base_row.specs.Places.{word_at};
+    ghost use Rattle.base_row.specs.Places.{most_counters, word_at};
+    ghost use Rattle.base_row.specs.Rules.{opening_in};
     ghost use Rattle.base_row.specs.Calls.{BaseRowOf, AreFresh};
 
     ghost Value = { BaseRowOf };
 
-    ghost view = { λ r. record { id = r.table.shared.table_id; about = record { bases = r.table.shared.key.0; timers = r.table.shared.key.1.value.items } } };
+    ghost view = { λ r. record { id = r.table.shared.table_id; about = opening_in r.table.shared.key } };
 
     ghost invariant = { λ r. (r.table.shared.table_id.words
-        ≡ word_at r.table.shared.key.0 (length r.table.shared.key.1.value.items + r.table.shared.key.0))
-        × (r.table.shared.table_id.slots ≡ r.table.shared.key.0) × (r.bases ≡ r.table.shared.key.0)
-        × (r.timers ≡ length r.table.shared.key.1.value.items)
-        × (length r.table.shared.key.1.value.items ≤ 65536) × (AreFresh r.table.shared.key.1.value.items)
-        × (0 < r.table.shared.key.0) × (r.table.shared.key.0 ≤ 256) };
+        ≡ word_at r.table.shared.key.bases (length r.table.shared.key.timers.value.items + r.table.shared.key.bases))
+        × (r.table.shared.table_id.slots ≡ r.table.shared.key.bases) × (r.bases ≡ r.table.shared.key.bases)
+        × (r.timers ≡ length r.table.shared.key.timers.value.items)
+        × (length r.table.shared.key.timers.value.items ≤ 65536) × (AreFresh r.table.shared.key.timers.value.items)
+        × (0 < r.table.shared.key.bases) × (r.table.shared.key.bases ≤ 256)
+        × (r.table.shared.key.counters ≤ most_counters r.table.shared.key.bases (length r.table.shared.key.timers.value.items)) };
 }
 
 impl BaseRow {
-    /// A row of so many bases, and of timers that are declared so and take entries on these terms, with the first pass. It alone takes memory, for
-    /// all calls.
+    /// A row of so many bases, and of timers that are declared so and take entries on these terms, with the first pass. It takes memory, for all
+    /// calls; no other call does.
     pub fn make(
         alloc: Global,
         bases: u32,
@@ -73,22 +75,47 @@ impl BaseRow {
         ensures about { IfOk result (λ r. r.0.about ≡ opening_of bases timers.now terms) }
         ensures first { IfOk result (λ r. r.1.knows ≡ first_base_view (opening_of bases timers.now terms)) }
     {
+        BaseRow::make_counting(alloc, bases, timers, terms, 0)
+    }
+
+    /// The same, with so many counters beside, whose rises stand in the history of the timers.
+    pub fn make_counting(
+        alloc: Global,
+        bases: u32,
+        timers: &[Declared],
+        terms: Terms,
+        counters: u32,
+    ) -> Result<(BaseRow, Pass), AllocError>
+        requires few { (0 < bases) × (bases ≤ 256) × (length timers.now ≤ 65536) }
+        requires counters { counters ≤ most_counters bases (length timers.now) }
+        requires limit { 0 < terms.limit }
+        requires room { HasRoom terms }
+        ensures row { IfOk result (λ r. IsBasePassOf r.0 r.1) }
+        ensures about { IfOk result (λ r. r.0.about ≡ opening_with bases timers.now terms counters) }
+        ensures first { IfOk result (λ r. r.1.knows ≡ first_base_view (opening_with bases timers.now terms counters)) }
+    {
         let timers = make_timers(alloc, timers, terms)?;
-        BaseRow::with_timers(alloc, bases, timers)
+        BaseRow::with_timers(alloc, bases, timers, counters)
     }
 
     fn with_timers(
         alloc: Global,
         bases: u32,
         timers: Vec<TimerState>,
+        counters: u32,
     ) -> Result<(BaseRow, Pass), AllocError>
         requires fresh { AreFresh timers.items }
         requires few { (0 < bases) × (bases ≤ 256) × (length timers.items ≤ 65536) }
+        requires counters { counters ≤ most_counters bases (length timers.items) }
         ensures row { IfOk result (λ r. IsBasePassOf r.0 r.1) }
-        ensures about { IfOk result (λ r. r.0.about ≡ record { bases = bases; timers = timers.items }) }
-        ensures first { IfOk result (λ r. r.1.knows ≡ first_base_view (record { bases = bases; timers = timers.items })) }
+        ensures about { IfOk result (λ r. r.0.about ≡ record { bases = bases; timers = timers.items; counters = counters }) }
+        ensures first { IfOk result (λ r. r.1.knows ≡ first_base_view (record { bases = bases; timers = timers.items; counters = counters })) }
     {
-        let about = (u64::from(bases), Snapshot::of(&timers));
+        let about = About {
+            bases: u64::from(bases),
+            timers: Snapshot::of(&timers),
+            counters: u64::from(counters),
+        };
         let count = timers.len();
         let words = zeros(alloc, timer_index(bases as usize, count + bases as usize))?;
         let slots = empty_slots(alloc, bases, timers.as_slice())?;

@@ -1,6 +1,7 @@
 //! Getting a base out of its slot, and putting it back.
 ghost use Rattle.std.specs.Prelude.{◌≡◌, ◌+◌, ◌-◌, ◌^◌, ◌%◌, ◌<◌, true, None, Some, [], ◌∷◌, slice_index, MatchOption};
 ghost use Rattle.base_row.specs.Plays.{GotBase, Lost, MayMeetLock};
+ghost use Rattle.base_row.specs.Rules.{opening_in};
 ghost use Rattle.seq_timer.specs.Systems.{BaseContent};
 
 use crate::held::HeldBase;
@@ -45,7 +46,7 @@ fn take_free(
     word: usize,
     first: u64,
 ) -> Option<HeldBase>
-    requires may { MayMeetLock cells.now.table_id (record { bases = cells.now.key.0; timers = cells.now.key.1.value.items }) seat.old.table_id seat.old.me base word }
+    requires may { MayMeetLock cells.now.table_id (opening_in cells.now.key) seat.old.table_id seat.old.me base word }
     requires empty { seat.old.me.1 ≡ [] }
     requires known { (slice_index seat.old.me.0.met base ≡ first) × (first % 2 ≡ 0) × (first < 2 ^ 64 - 2) }
     ensures same { seat.new.table_id ≡ seat.old.table_id }
@@ -67,7 +68,7 @@ fn take_free(
 
 /// Looks at a lock, and takes it if it is free.
 pub fn attempt(cells: &BaseCells, seat: &mut BaseSeat, base: u32, word: usize) -> Option<HeldBase>
-    requires may { MayMeetLock cells.now.table_id (record { bases = cells.now.key.0; timers = cells.now.key.1.value.items }) seat.old.table_id seat.old.me base word }
+    requires may { MayMeetLock cells.now.table_id (opening_in cells.now.key) seat.old.table_id seat.old.me base word }
     requires empty { seat.old.me.1 ≡ [] }
     ensures same { seat.new.table_id ≡ seat.old.table_id }
     ensures taken { MatchOption result

@@ -18,10 +18,11 @@ pub struct HeldContent<B> {
     pub content: B,
 }
 
-/// What was made: so many bases, and these timers.
+/// What was made: so many bases, these timers, and so many counters.
 pub struct Opening {
     pub bases: u64,
     pub timers: LinkedList<TimerState>,
+    pub counters: u64,
 }
 
 /// What a pass knows. No value of it is made.

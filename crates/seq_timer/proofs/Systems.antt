@@ -1,6 +1,6 @@
 -- A history of all timers: an entry leaves other timers and bases as they are, bases keep the timers that are on them, and a timer is what its own
 -- entries lead to.
-use Rattle.std.proofs.Common.{◌≡◌, ◌+◌, ℕ, ◌<◌, ◌≤◌, ◌≢◌, eqb, Bool, true, false, List, [], ◌∷◌, ◌++◌, length, Option, Some, None, refl, ap, sym, ◌∙◌, subst, ◌⊎◌, inl, inr, ⊎_elim, arith, if◌then◌else◌}
+use Rattle.std.proofs.Common.{◌≡◌, ℕ, ◌+◌, ◌<◌, ◌≤◌, ◌≢◌, eqb, Bool, true, false, List, [], ◌∷◌, ◌++◌, length, Option, Some, None, refl, ap, sym, ◌∙◌, subst, ◌⊎◌, inl, inr, ⊎_elim, arith, if◌then◌else◌}
 use Rattle.std.proofs.lemmas.Bool.{cases_eq, ne_eqb, eq-eqb, true≢false}
 use Rattle.std.proofs.lemmas.List.{get_or-set_same, get_or-set_other, length-set}
 use Rattle.seq_timer.specs.Events.{Event}
@@ -272,11 +272,12 @@ pub rises_of-append : (k : ℕ) (xs ys : List SystemEntry) → rises_of k (xs ++
 rises_of-append k [] ys = omega arith
 rises_of-append k (entries.Timer e ∷ xs) ys = rises_of-append k xs ys
 rises_of-append k (entries.Base c ∷ xs) ys = rises_of-append k xs ys
-rises_of-append k (entries.Rise j ∷ xs) ys = pick (rises_of k (xs ++ ys)) (rises_of k xs) (rises_of k ys) (eqb j k) (rises_of-append k xs ys)
-  where
-    pick : (a b c : ℕ) (q : Bool) → a ≡ b + c → (if q then a + 1 else a) ≡ (if q then b + 1 else b) + c
-    pick a b c true e = omega (arith, e)
-    pick a b c false e = e
+rises_of-append k (entries.Rise j ∷ xs) ys =
+    elim (eqb j k) as (λ q. (if q then rises_of k (xs ++ ys) + 1 else rises_of k (xs ++ ys))
+    ≡ (if q then rises_of k xs + 1 else rises_of k xs) + rises_of k ys) [
+      | true ↦ omega (arith, rises_of-append k xs ys)
+      | false ↦ rises_of-append k xs ys
+    ]
 
 -- ---- a base's own history
 

@@ -1,3 +1,4 @@
+use Rattle.base_row.specs.Rules.{opening_in}
 use Rattle.std.proofs.Common.{◌≡◌, ap, subst, sym, ◌∙◌, arith, inl, inr}
 use Rattle.std.specs.Prelude.{MatchOption}
 use Rattle.base_row.specs.declared.view.Opening.{Opening}
@@ -9,7 +10,7 @@ use Rattle.base_row.proofs.slots.attempt.Goals as goal
 pub returns-else-first-eq0-clause-taken : goal.returns-else-first-eq0-clause-taken
 returns-else-first-eq0-clause-taken c =
     let key = c.args.cells.now.key in
-    let o : Opening = record { bases = key.0; timers = key.1.value.items } in
+    let o : Opening = opening_in key in
     subst (λ (x : Opening). Lost x c.args.base c.args.seat.now.me c.meet_lock-first.new.seat.me) (sym c.requires.may.about)
     (lost_at o c.args.base c.args.seat.now.me c.meet_lock-first.new.seat.me c.meet_lock-first.result c.meet_lock-first.ensures.met
     (elim c.else-first-eq0.branch [
@@ -20,7 +21,7 @@ returns-else-first-eq0-clause-taken c =
 pub returns-then-first-lt-LAST-clause-taken : goal.returns-then-first-lt-LAST-clause-taken
 returns-then-first-lt-LAST-clause-taken c =
     let key = c.args.cells.now.key in
-    let o : Opening = record { bases = key.0; timers = key.1.value.items } in
+    let o : Opening = opening_in key in
     let me = c.args.seat.now.me in
     let mid = c.meet_lock-first.new.seat.me in
     let new = c.take_free.new.seat.me in

@@ -1,3 +1,4 @@
+use Rattle.base_row.specs.Rules.{opening_in}
 use Rattle.base_row.proofs.Splitting.{joins}
 use Rattle.base_row.proofs.steps.absorb.Goals as goal
 
@@ -11,5 +12,5 @@ join_seat-requires c =
       c.requires.same.1,
       other.3,
       c.requires.words,
-      joins (record { bases = key.0; timers = key.1.value.items }) seat.id c.args.other.id seat.me.0 c.args.other.me.0 main.0 other.0 main.1 other.1 other.2 c.requires.answers,
+      joins (opening_in key) seat.id c.args.other.id seat.me.0 c.args.other.me.0 main.0 other.0 main.1 other.1 other.2 c.requires.answers,
     )

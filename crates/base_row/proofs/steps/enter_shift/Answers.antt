@@ -1,3 +1,4 @@
+use Rattle.base_row.specs.Rules.{opening_in}
 use Rattle.std.proofs.Common.{subst}
 use Rattle.base_row.specs.declared.view.Opening.{Opening}
 use Rattle.base_row.specs.Plays.{EnteredShift}
@@ -12,7 +13,7 @@ store-requires g c =
       c.requires.same,
       may.3,
       rw (may.2, may.4, c.requires.asked)
-          (shifts_by (record { bases = key.0; timers = key.1.value.items }) seat.id seat.me.0 may.0 c.args.event.now c.requires.about c.requires.live
+          (shifts_by (opening_in key) seat.id seat.me.0 may.0 c.args.event.now c.requires.about c.requires.live
           may.1 c.args.cells.now.table_id.slots seat.me.1),
     )
 
@@ -21,5 +22,5 @@ returns-clause-shifted g c = λ h e.
     let seat = c.args.seat.now in
     let key = c.args.cells.now.key in
     let told = c.store.ensures.2 h e in
-    subst (λ x. EnteredShift (record { bases = key.0; timers = key.1.value.items }) h x seat.me c.store.new.seat.me) c.requires.asked
+    subst (λ x. EnteredShift (opening_in key) h x seat.me c.store.new.seat.me) c.requires.asked
     (subst (λ (o : Opening). EnteredShift o h g.K.BaseEventPick.event seat.me c.store.new.seat.me) c.requires.about told)

@@ -5,7 +5,7 @@ use mathlib.Core.Option.{none}
 use prog.Atomic.{either}
 use Rattle.atomic_table.specs.Table.{step, Allows}
 use Rattle.base_row.specs.declared.view.Opening.{Opening}
-use Rattle.base_row.specs.Rules.{HasOneHistory}
+use Rattle.base_row.specs.Rules.{HasOneHistory, opening_in}
 use Rattle.base_row.specs.Plays.{SeatState, TookBase, FoundTaken, TakesOwn}
 use Rattle.base_row.proofs.Taking.{takes_lock}
 use Rattle.base_row.proofs.steps.take.Goals as goal
@@ -35,7 +35,7 @@ loose o b first found false me new told = (found, told)
 pub returns-clause-took : goal.returns-clause-took
 returns-clause-took c =
     let key = c.args.cells.now.key in
-    loose (record { bases = key.0; timers = key.1.value.items }) c.args.base c.args.first c.compare_exchange.result
+    loose (opening_in key) c.args.base c.args.first c.compare_exchange.result
     (nat_eq c.compare_exchange.result c.args.first) c.args.seat.now.me c.compare_exchange.new.seat.me
     (subst (λ (o : Opening). MatchBool (nat_eq c.compare_exchange.result c.args.first) ((k : ℕ) × (c.args.first + 2 ≡ k + k)
     × TookBase o c.args.base k (c.args.first + 1) c.args.seat.now.me c.compare_exchange.new.seat.me)

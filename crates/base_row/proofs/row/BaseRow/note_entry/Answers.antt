@@ -6,7 +6,7 @@ use Rattle.seq_timer.proofs.Effects.{by_effect, placed_by}
 use Rattle.base_row.specs.declared.log.Noted.TheVariants as noteds
 use Rattle.base_row.specs.declared.view.Opening.{Opening}
 use Rattle.base_row.specs.declared.view.BaseView.{BaseView}
-use Rattle.base_row.specs.Rules.{number_of, base_seen, timer_seen}
+use Rattle.base_row.specs.Rules.{number_of, base_seen, timer_seen, opening_in}
 use Rattle.base_row.specs.Calls.{BasePassOf, BaseRowOf, Appended, stepped}
 use Rattle.base_row.proofs.Placed.{placed_seen}
 use Rattle.base_row.proofs.Holding.{Rested, knows_about, rested}
@@ -15,7 +15,7 @@ use Rattle.base_row.proofs.row.BaseRow.note_entry.Goals as goal
 
 -- what the table was made of
 abbrev about : (g : Over) (c : goal.After-note g) → Opening
-about g c = let key = c.self.inside.table.shared.key in record { bases = key.0; timers = key.1.value.items }
+about g c = let key = c.self.inside.table.shared.key in opening_in key
 
 -- what the entry has made of the seat
 made : (g : Over) (c : goal.After-note g) → Rested (about g c) c.requires.may.0

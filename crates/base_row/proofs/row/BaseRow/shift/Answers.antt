@@ -6,7 +6,7 @@ use Rattle.seq_timer.specs.Systems.{BaseContent, shifted}
 use Rattle.base_row.specs.declared.view.HeldContent.{HeldContent}
 use Rattle.base_row.specs.declared.view.Opening.{Opening}
 use Rattle.base_row.specs.Places.{word_at}
-use Rattle.base_row.specs.Rules.{base_place, standing_number}
+use Rattle.base_row.specs.Rules.{base_place, standing_number, opening_in}
 use Rattle.base_row.specs.Plays.{MayEnterShift}
 use Rattle.base_row.specs.Calls.{BasePassOf, BaseRowOf, Shifted}
 use Rattle.base_row.proofs.Holding.{Rested, knows_about, rested_shift}
@@ -50,7 +50,7 @@ base_index-word-requires c =
     ((knows_about o v c.requires.row.about c.known.ensures).held h c.requires.may.held).0
 
 abbrev about : goal.After-enter_shift → Opening
-about c = let key = c.self.inside.table.shared.key in record { bases = key.0; timers = key.1.value.items }
+about c = let key = c.self.inside.table.shared.key in opening_in key
 
 made : (c : goal.After-enter_shift) → Rested (about c) c.args.held.now (shifted c.args.event c.args.held.now.content)
     (Shifted (about c) c.args.held.now c.args.event c.pass.inside.seat.me.0 c.enter_shift.new.seat.me.0) c.enter_shift.new.seat.me
@@ -68,7 +68,7 @@ enter_shift-requires-clause-may c =
       subst (λ (p : BasePassOf). MayEnterShift p.knows c.args.held.now c.args.event) (sym c.pass.view_is) c.requires.may,
       c.base_index-word.ensures.place
           ∙ (ap (λ (x : BaseRowOf). word_at x.about.bases (base_place (length x.about.timers) c.base.result)) (sym c.self.view_is)
-          ∙ ap (λ b. word_at key.0 (base_place (length key.1.value.items) b)) at),
+          ∙ ap (λ b. word_at key.bases (base_place (length key.timers.value.items) b)) at),
       omega (
         arith,
         c.base_index-word.ensures.inside,

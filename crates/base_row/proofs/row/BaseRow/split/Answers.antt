@@ -1,3 +1,4 @@
+use Rattle.base_row.specs.Rules.{opening_in}
 use Rattle.std.proofs.Common.{◌∙◌, ap, sym, arith}
 use Rattle.base_row.specs.Calls.{BasePassOf, BaseRowOf}
 use Rattle.base_row.proofs.Splitting.{splits}
@@ -9,5 +10,5 @@ split_seat-requires c =
     let shared = c.self.inside.table.shared in (
       ap (λ (p : BasePassOf). p.row) c.pass.view_is ∙ (c.requires.row.row ∙ ap (λ (r : BaseRowOf). r.id) (sym c.self.view_is)),
       omega (arith, c.self.invariant.0),
-      splits (record { bases = shared.key.0; timers = shared.key.1.value.items }) seat.id seat.me.0 c.pass.invariant.live,
+      splits (opening_in shared.key) seat.id seat.me.0 c.pass.invariant.live,
     )
