@@ -10,7 +10,7 @@ use Rattle.record_text.specs.declared.record.Label.{Label}
 use Rattle.record_text.specs.declared.record.TimerLine.{TimerLine}
 use Rattle.run_history.specs.Actions.{Action, also, Entered, entered, Looked, Made, own, Shifted, Skipped, Wrote}
 use Rattle.run_history.specs.Order.{is_label, made_by}
-use Rattle.run_history.specs.Witnesses.{Move, OfBase, OfTimer, Owner, Shown, ShownLine, TimersList, is_owner, line_of_timer, moves_from, moves_on, owner_of}
+use Rattle.run_history.specs.Witnesses.{Move, OfBase, OfRise, OfTimer, Owner, Shown, ShownLine, TimersList, is_owner, line_of_timer, moves_from, moves_on, owner_of}
 use Rattle.run_history.specs.Traces.{all_entered, own_moves}
 use Rattle.run_history.proofs.Owners.{owner_is}
 
@@ -121,6 +121,7 @@ own_early c n ms early late own many =
 abbrev pub timers_part : ℕ → ℕ → Shown → List (ℕ × Entry) → List (ℕ × Entry)
 timers_part t number (OfTimer u entry) rest = also (nat_eq u t) (number, entry) rest
 timers_part t number (OfBase b event) rest = rest
+timers_part t number (OfRise k) rest = rest
 
 abbrev pub of_timer : ℕ → List (ℕ × Shown) → List (ℕ × Entry)
 of_timer t [] = []
@@ -141,6 +142,7 @@ part_else : (t number : ℕ) (shown : Shown) (rest : List (ℕ × Entry)) → is
     → timers_part t number shown rest ≡ rest
 part_else t number (OfTimer u entry) rest not = ap (λ b. also b (number, entry) rest) not
 part_else t number (OfBase b event) rest not = refl
+part_else t number (OfRise k) rest not = refl
 
 -- of the order, they are those of the timer's own moves
 pub of_timer-on : (c : Label) (t : ℕ) (ms : List Move) → of_timer t (own_moves c (moves_on (TimersList t) ms)) ≡ of_timer t (own_moves c ms)

@@ -7,7 +7,7 @@ use Rattle.run_history.specs.Calls.{evacuates}
 use Rattle.run_history.specs.Fits.{Fits}
 use Rattle.run_history.specs.Traces.{all_entered}
 use Rattle.run_history.specs.Truths.{IsFront, WasFront}
-use Rattle.run_history.specs.Witnesses.{Evacuation, Move, OfBase, OfTimer, Owner, Shown, TimersList, Trace, Witness, timer_along}
+use Rattle.run_history.specs.Witnesses.{Evacuation, Move, OfBase, OfRise, OfTimer, Owner, Shown, TimersList, Trace, Witness, timer_along}
 use Rattle.fit_laws.proofs.EachTimer.{heads}
 use Rattle.run_cases.specs.Lines.{case_start_entry, out_entry}
 use Rattle.run_cases.specs.Wrong.{later_move, turns_record, turns_script}
@@ -23,6 +23,7 @@ in_order = moves_by turns_record []
 abbrev timer_in : Shown → ℕ
 timer_in (OfTimer t entry) = t
 timer_in (OfBase b event) = 0
+timer_in (OfRise k) = 0
 
 -- the two timers are not the same
 not_this : {expires : ℕ} → ◌≡◌ {A = Option (ℕ × ℕ)} (Some (50, 1)) (Some (expires, 0)) → ⊥

@@ -18,7 +18,7 @@ use Rattle.run_history.specs.Histories.{answers_of, AreWrites, clock_labels}
 use Rattle.script_text.specs.Declarations.{declareds_of, terms_of, kind_of}
 use Rattle.run_history.specs.Objects.{IsLegalObject, lines_of_object}
 use Rattle.run_history.specs.Order.{AreUnder, calls_of, IsInOrder, IsLabel}
-use Rattle.run_history.specs.Witnesses.{BasesList, Witness, entries_in, is_owner, labels, line_of_base, line_of_timer, lines_at, Move, moves_from, moves_on, Owner, owner_of, TimersList}
+use Rattle.run_history.specs.Witnesses.{BasesList, CountersList, Witness, entries_in, is_owner, labels, line_of_base, line_of_timer, lines_at, Move, moves_from, moves_on, Owner, owner_of, TimersList}
 use Rattle.run_history.specs.Fits.{AreBehind, AreSkipsUnder, Fits, FitsIn, FitsLane, unseen}
 use Rattle.run_cases.proofs.Calls.{AreRight, are_placed, is_unrefused, lane_fits}
 use Rattle.run_cases.proofs.Witnesses.{Along, everywhere, each_list, none_on, no_calls}
@@ -50,8 +50,9 @@ are_under w = list_all (λ lines. list_all (is_under w.script) lines) w.run.time
 abbrev pub is_list : ℕ → ℕ → Owner → Bool
 is_list timers bases (TimersList t) = nat_lt t timers
 is_list timers bases (BasesList b) = nat_lt b bases
+is_list timers bases (CountersList k) = false
 
--- no move is of a timer or a base, and no call of a lane, that isn't there
+-- no move is of a counter, or of a timer or a base that isn't there, and no call is of a lane that isn't
 abbrev pub are_there : Witness → Bool
 are_there w =
     list_all (λ m. is_list (length w.run.timers) (length w.run.bases) (owner_of m.shown)) w.moves
@@ -94,10 +95,17 @@ none_skipped s line e = subst (λ skips. AreSkipsUnder s (map (λ skip. skip.lab
 not_timer : (timers bases t : ℕ) (o : Owner) → timers ≤ t → is_list timers bases o ≡ true → is_owner o (TimersList t) ≡ false
 not_timer timers bases t (TimersList u) past less = other u timers t less past
 not_timer timers bases t (BasesList b) past less = refl
+not_timer timers bases t (CountersList k) past less = refl
 
 not_base : (timers bases b : ℕ) (o : Owner) → bases ≤ b → is_list timers bases o ≡ true → is_owner o (BasesList b) ≡ false
 not_base timers bases b (TimersList u) past less = refl
 not_base timers bases b (BasesList c) past less = other c bases b less past
+not_base timers bases b (CountersList k) past less = refl
+
+not_counter : (timers bases k : ℕ) (o : Owner) → is_list timers bases o ≡ true → is_owner o (CountersList k) ≡ false
+not_counter timers bases k (TimersList t) less = refl
+not_counter timers bases k (BasesList b) less = refl
+not_counter timers bases k (CountersList j) less = absurd (cc)
 
 -- law: so each list's moves are its lines
 pub each_owner : (r : RunRecord) (ms : List Move) → list_all (λ m. is_list (length r.timers) (length r.bases) (owner_of m.shown)) ms ≡ true
@@ -116,6 +124,10 @@ each_owner r ms there all bases (BasesList b) =
     (λ m. is_list (length r.timers) (length r.bases) (owner_of m.shown))
     (λ m less. not_base (length r.timers) (length r.bases) b (owner_of m.shown) past less) ms there)
     ∙ ap (λ lines. moves_from 0 (map (line_of_base b) lines)) (sym (get_or_past r.bases b [] past))) b
+each_owner r ms there all bases (CountersList k) =
+    none_on (CountersList k) ms (all_true (λ m. is_owner (owner_of m.shown) (CountersList k) ≡ false)
+    (λ m. is_list (length r.timers) (length r.bases) (owner_of m.shown))
+    (λ m less. not_counter (length r.timers) (length r.bases) k (owner_of m.shown) less) ms there)
 
 small_fits : (w : Witness) → IsSmall w → FitsIn w
 small_fits w small =

@@ -26,7 +26,7 @@ use Rattle.script_text.specs.Declarations.{declared_as, declareds_of, terms_of}
 use Rattle.run_history.specs.Order.{calls_from}
 use Rattle.run_history.specs.Starts.{Arming, IsArming, IsJustBefore, IsSentBy, first_number}
 use Rattle.run_history.specs.Calls.{fires}
-use Rattle.run_history.specs.Witnesses.{Witness, entries_in, entry_of_move, Fired, is_owner, Move, moves_on, OfBase, OfTimer, Owner, owner_of, Shown, system_along, timer_along, TimersList, Trace}
+use Rattle.run_history.specs.Witnesses.{Witness, entries_in, entry_of_move, Fired, is_owner, Move, moves_on, OfBase, OfRise, OfTimer, Owner, owner_of, Shown, system_along, timer_along, TimersList, Trace}
 use Rattle.run_history.specs.Receipts.{move_at}
 use Rattle.run_history.specs.Truths.{IsDone}
 use Rattle.run_history.proofs.OwnHistories.{entries_on, own_entry}
@@ -181,14 +181,16 @@ no_calls lane round (r ∷ rs) none =
 
 -- ---- where nothing is left to do
 
--- what is shown is of a timer below this number, or of a base
+-- what is shown is of a timer below this number, or of a base or a counter
 abbrev pub is_timer_below : ℕ → Shown → Bool
 is_timer_below n (OfTimer t entry) = nat_lt t n
 is_timer_below n (OfBase b event) = true
+is_timer_below n (OfRise k) = true
 
 no_timers_past : (n t : ℕ) (shown : Shown) → n ≤ t → is_timer_below n shown ≡ true → is_owner (owner_of shown) (TimersList t) ≡ false
 no_timers_past n t (OfTimer u entry) past less = other u n t less past
 no_timers_past n t (OfBase b event) past less = refl
+no_timers_past n t (OfRise k) past less = refl
 
 -- a timer that isn't there has no entry
 none_at : (clock : List ClockLine) (t n : ℕ) (ms : List Move) → AllByRecursion (λ m. is_owner (owner_of m.shown) (TimersList t) ≡ false) ms

@@ -8,7 +8,7 @@ use Rattle.seq_timer.specs.declared.system.SystemEntry.{SystemEntry}
 use Rattle.record_text.specs.declared.record.Label.{Label}
 use Rattle.record_text.specs.declared.record.RunRecord.{RunRecord}
 use Rattle.run_history.specs.Actions.{also}
-use Rattle.run_history.specs.Witnesses.{BasesList, Owner, ShownLine, TimersList, is_owner, lines_at, owner_of}
+use Rattle.run_history.specs.Witnesses.{BasesList, CountersList, Owner, ShownLine, TimersList, is_owner, lines_at, owner_of}
 use Rattle.run_history.specs.Receipts.{AreFiled, count, Filed, files_on, IsAhead, IsMade, line_filed, owner_filed, PlacedEntry, RiseBy, Rises}
 use Rattle.run_history.proofs.Laid.{AreReceipts, counts_more, IsLine, IsNoted}
 use Rattle.run_history.proofs.Lists.{all_at, at_map, each, map_get}
@@ -20,19 +20,33 @@ number_of f = f.note.number
 -- a list that is ahead of another, which is ahead of a third, is ahead of that
 ahead_of_both : (a b o : Owner) → IsAhead a b → IsAhead b o → IsAhead a o
 ahead_of_both (TimersList a) (TimersList b) (TimersList o) one two = omega (arith, one, two)
-ahead_of_both (TimersList a) (TimersList b) (BasesList o) one two = tt
 ahead_of_both (TimersList a) (BasesList b) (TimersList o) one two = absurd two
-ahead_of_both (TimersList a) (BasesList b) (BasesList o) one two = tt
+ahead_of_both (TimersList a) (CountersList b) (TimersList o) one two = absurd two
+ahead_of_both (TimersList a) b (BasesList o) one two = tt
+ahead_of_both (TimersList a) b (CountersList o) one two = tt
 ahead_of_both (BasesList a) (TimersList b) o one two = absurd one
 ahead_of_both (BasesList a) (BasesList b) (TimersList o) one two = absurd two
 ahead_of_both (BasesList a) (BasesList b) (BasesList o) one two = omega (arith, one, two)
+ahead_of_both (BasesList a) (CountersList b) (TimersList o) one two = absurd two
+ahead_of_both (BasesList a) (CountersList b) (BasesList o) one two = absurd two
+ahead_of_both (BasesList a) b (CountersList o) one two = tt
+ahead_of_both (CountersList a) (TimersList b) o one two = absurd one
+ahead_of_both (CountersList a) (BasesList b) o one two = absurd one
+ahead_of_both (CountersList a) (CountersList b) (TimersList o) one two = absurd two
+ahead_of_both (CountersList a) (CountersList b) (BasesList o) one two = absurd two
+ahead_of_both (CountersList a) (CountersList b) (CountersList o) one two = omega (arith, one, two)
 
 -- and of no list that it is itself
 not_ahead : (a b : Owner) → IsAhead a b → a ≡ b → ⊥
 not_ahead (TimersList a) (TimersList b) less same = let is : a ≡ b = cc in omega (arith, less, is)
 not_ahead (TimersList a) (BasesList b) less same = absurd (cc)
+not_ahead (TimersList a) (CountersList b) less same = absurd (cc)
 not_ahead (BasesList a) (TimersList b) less same = less
 not_ahead (BasesList a) (BasesList b) less same = let is : a ≡ b = cc in omega (arith, less, is)
+not_ahead (BasesList a) (CountersList b) less same = absurd (cc)
+not_ahead (CountersList a) (TimersList b) less same = less
+not_ahead (CountersList a) (BasesList b) less same = less
+not_ahead (CountersList a) (CountersList b) less same = let is : a ≡ b = cc in omega (arith, less, is)
 
 rises_on : (o o0 : Owner) (n0 k : ℕ) (fs : List Filed) → AllByRecursion (λ f. 1 ≤ f.note.number) fs → RiseBy o0 n0 fs
     → (IsAhead o0 o → k ≤ 1) → (o0 ≡ o → k ≤ n0 + 1) → Rises k (map number_of (files_on o fs))

@@ -9,12 +9,13 @@ use Rattle.seq_timer.specs.Systems.{entries_of}
 use Rattle.seq_timer.specs.declared.event.EventBy.TheVariants as events
 use Rattle.seq_timer.specs.declared.event.Reply.TheVariants as replies
 use Rattle.seq_timer.specs.declared.system.SystemEntry.{SystemEntry}
-use Rattle.run_history.specs.Witnesses.{IsOneHistory, Move, OfBase, OfTimer, Shown, TimersList, Witness, entries_in, entry_of_move, entry_of_shown, is_owner, line_of_timer, moves_from, moves_on, owner_of}
+use Rattle.run_history.specs.Witnesses.{IsOneHistory, Move, OfBase, OfRise, OfTimer, Shown, TimersList, Witness, entries_in, entry_of_move, entry_of_shown, is_owner, line_of_timer, moves_from, moves_on, owner_of}
 
--- the entry of a timer that is shown, as one of its own history; of a base there is none
+-- the entry of a timer that is shown, as one of its own history; of a base and of a counter there is none
 abbrev pub entry_in : List ClockLine → Shown → histories.Entry
 entry_in clock (OfTimer t entry) = entry_shown clock entry
 entry_in clock (OfBase b event) = record { event = events.Cancel; reply = replies.Cancel 0 }
+entry_in clock (OfRise k) = record { event = events.Cancel; reply = replies.Cancel 0 }
 
 abbrev pub own_entry : List ClockLine → Move → histories.Entry
 own_entry clock m = entry_in clock m.shown
@@ -28,6 +29,7 @@ one_entry clock t (OfTimer u entry) es =
       | false ↦ refl
     ]
 one_entry clock t (OfBase b event) es = refl
+one_entry clock t (OfRise k) es = refl
 
 -- a timer's entries are what its moves show
 pub entries_on : (clock : List ClockLine) (t : ℕ) (ms : List Move)

@@ -1,10 +1,10 @@
--- Whose list a line or an entry is in: a timer's or a base's; and how many entries of a list there are.
+-- Whose list a line or an entry is in: a timer's, a base's or a counter's; and how many entries of a list there are.
 use Rattle.std.proofs.Common.{◌≡◌, ℕ, ◌+◌, zero, suc, Bool, true, false, nat_eq, List, [], ◌∷◌, ◌++◌, length, map, get_or, arith, refl, sym, ap, ◌∙◌, if◌then◌else◌}
 use Rattle.std.proofs.lemmas.Bool.{eq-eqb, eqb-true, true≢false}
 use Rattle.std.proofs.lemmas.List.{length-append}
-use Rattle.seq_timer.proofs.Systems.{entries_of-append, shifts_of-append}
+use Rattle.seq_timer.proofs.Systems.{entries_of-append, rises_of-append, shifts_of-append}
 use Rattle.seq_timer.specs.Histories as histories
-use Rattle.seq_timer.specs.Systems.{entries_of, shifts_of}
+use Rattle.seq_timer.specs.Systems.{entries_of, rises_of, shifts_of}
 use Rattle.seq_timer.specs.declared.standing.BaseEvent.{BaseEvent}
 use Rattle.seq_timer.specs.declared.system.SystemEntry.{SystemEntry}
 use Rattle.seq_timer.specs.declared.system.SystemEntry.TheVariants as entries
@@ -15,11 +15,12 @@ use Rattle.record_text.specs.declared.record.TimerLine.{TimerLine}
 use Rattle.run_history.specs.Actions.{also}
 use Rattle.run_history.specs.Histories.{lines_of_base, lines_of_timer}
 use Rattle.run_history.specs.Receipts.{count, no_line}
-use Rattle.run_history.specs.Witnesses.{BasesList, OfBase, OfTimer, Owner, Shown, TimersList, entry_of_shown, is_owner, line_of_base, line_of_timer, lines_at, owner_of, owner_of_entry}
+use Rattle.run_history.specs.Witnesses.{BasesList, CountersList, OfBase, OfRise, OfTimer, Owner, Shown, TimersList, entry_of_shown, is_owner, line_of_base, line_of_timer, lines_at, owner_of, owner_of_entry}
 
 pub owner_itself : (o : Owner) → is_owner o o ≡ true
 owner_itself (TimersList t) = eq-eqb t t refl
 owner_itself (BasesList b) = eq-eqb b b refl
+owner_itself (CountersList k) = eq-eqb k k refl
 
 pub owner_is : (a o : Owner) → a ≡ o → is_owner a o ≡ true
 owner_is a o same = ap (λ x. is_owner x o) same ∙ owner_itself o
@@ -27,8 +28,13 @@ owner_is a o same = ap (λ x. is_owner x o) same ∙ owner_itself o
 pub same_owner : (a o : Owner) → is_owner a o ≡ true → a ≡ o
 same_owner (TimersList t) (TimersList u) is = ap (λ n. TimersList n) (eqb-true t u is)
 same_owner (TimersList t) (BasesList b) is = absurd (cc)
+same_owner (TimersList t) (CountersList k) is = absurd (cc)
 same_owner (BasesList b) (TimersList t) is = absurd (cc)
 same_owner (BasesList b) (BasesList c) is = ap (λ n. BasesList n) (eqb-true b c is)
+same_owner (BasesList b) (CountersList k) is = absurd (cc)
+same_owner (CountersList k) (TimersList t) is = absurd (cc)
+same_owner (CountersList k) (BasesList b) is = absurd (cc)
+same_owner (CountersList j) (CountersList k) is = ap (λ n. CountersList n) (eqb-true j k is)
 
 pub other_owner : (a o : Owner) → is_owner a o ≡ false → a ≡ o → ⊥
 other_owner a o not same = true≢false (sym (owner_is a o same) ∙ not)
@@ -37,6 +43,7 @@ other_owner a o not same = true≢false (sym (owner_is a o same) ∙ not)
 pub owner_shown : (clock : List ClockLine) (shown : Shown) → owner_of_entry (entry_of_shown clock shown) ≡ owner_of shown
 owner_shown clock (OfTimer t entry) = refl
 owner_shown clock (OfBase b event) = refl
+owner_shown clock (OfRise k) = refl
 
 -- each line of a list is its own
 pub owner_at : (r : RunRecord) (o : Owner) (n : ℕ) → owner_of (get_or (lines_at r o) n (no_line o)).shown ≡ o
@@ -52,6 +59,7 @@ owner_at r (BasesList b) n = of_bases (lines_of_base r b) n
     of_bases [] n = refl
     of_bases (line ∷ lines) zero = refl
     of_bases (line ∷ lines) (suc n) = of_bases lines n
+owner_at r (CountersList k) n = refl
 
 -- ---- the entries of a list
 
@@ -63,6 +71,7 @@ and_one false n = n
 pub count_none : (o : Owner) → count o [] ≡ 0
 count_none (TimersList t) = refl
 count_none (BasesList b) = refl
+count_none (CountersList k) = refl
 
 pub count_cons : (o : Owner) (x : SystemEntry) (xs : List SystemEntry) → count o (x ∷ xs) ≡ and_one (is_owner (owner_of_entry x) o) (count o xs)
 count_cons (TimersList t) (entries.Timer e) xs =
@@ -72,16 +81,26 @@ count_cons (TimersList t) (entries.Timer e) xs =
       | false ↦ refl
     ]
 count_cons (TimersList t) (entries.Base c) xs = refl
+count_cons (TimersList t) (entries.Rise k) xs = refl
 count_cons (BasesList b) (entries.Timer e) xs = refl
 count_cons (BasesList b) (entries.Base c) xs =
     elim (nat_eq c.base b) as (λ x. length (if x then c.event ∷ shifts_of b xs else shifts_of b xs) ≡ and_one x (length (shifts_of b xs))) [
       | true ↦ omega arith
       | false ↦ refl
     ]
+count_cons (BasesList b) (entries.Rise k) xs = refl
+count_cons (CountersList k) (entries.Timer e) xs = refl
+count_cons (CountersList k) (entries.Base c) xs = refl
+count_cons (CountersList k) (entries.Rise j) xs =
+    elim (nat_eq j k) as (λ b. (if b then rises_of k xs + 1 else rises_of k xs) ≡ and_one b (rises_of k xs)) [
+      | true ↦ refl
+      | false ↦ refl
+    ]
 
 pub count-append : (o : Owner) (xs ys : List SystemEntry) → count o (xs ++ ys) ≡ count o xs + count o ys
 count-append (TimersList t) xs ys = ap length (entries_of-append t xs ys) ∙ length-append (entries_of t xs) (entries_of t ys)
 count-append (BasesList b) xs ys = ap length (shifts_of-append b xs ys) ∙ length-append (shifts_of b xs) (shifts_of b ys)
+count-append (CountersList k) xs ys = rises_of-append k xs ys
 
 pub count_push : (o : Owner) (xs : List SystemEntry) (x : SystemEntry) → count o (xs ++ x ∷ []) ≡ and_one (is_owner (owner_of_entry x) o) (count o xs)
 count_push o xs x =
@@ -131,10 +150,12 @@ entries_at-timer t (entries.Timer e ∷ xs) =
       | false ↦ λ is. entries_at-timer t xs
     ] refl
 entries_at-timer t (entries.Base c ∷ xs) = entries_at-timer t xs
+entries_at-timer t (entries.Rise k ∷ xs) = entries_at-timer t xs
 
 pub entries_at-base : (b : ℕ) (xs : List SystemEntry) → entries_at (BasesList b) xs ≡ map (bases_entry b) (shifts_of b xs)
 entries_at-base b [] = refl
 entries_at-base b (entries.Timer e ∷ xs) = entries_at-base b xs
+entries_at-base b (entries.Rise k ∷ xs) = entries_at-base b xs
 entries_at-base b (entries.Base c ∷ xs) =
     elim (nat_eq c.base b) as (λ x. nat_eq c.base b ≡ x → also x (entries.Base c) (entries_at (BasesList b) xs)
     ≡ map (bases_entry b) (if x then c.event ∷ shifts_of b xs else shifts_of b xs)) [

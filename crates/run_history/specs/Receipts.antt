@@ -1,7 +1,7 @@
 -- Receipts of timers' and bases' entries: where each stands in the order of all entries; and the lines of a record that are made of them.
 use Rattle.std.specs.List.{AllByRecursion, slice_get}
 use Rattle.std.specs.Prelude.{ℕ, ◌≡◌, ◌≤◌, ◌<◌, ◌+◌, ◌⊎◌, Some, List, [], ◌∷◌, ◌++◌, length, map, take, get_or}
-use Rattle.seq_timer.specs.Systems.{entries_of, shifts_of}
+use Rattle.seq_timer.specs.Systems.{entries_of, rises_of, shifts_of}
 use Rattle.seq_timer.specs.declared.standing.BaseEvent.TheVariants as shifts
 use Rattle.seq_timer.specs.declared.system.SystemEntry.{SystemEntry}
 use Rattle.seq_timer.specs.declared.event.EventBy.TheVariants as events
@@ -9,7 +9,7 @@ use Rattle.seq_timer.specs.declared.event.Reply.TheVariants as replies
 use Rattle.record_text.specs.declared.record.Label.{Label}
 use Rattle.record_text.specs.declared.record.RunRecord.{RunRecord}
 use Rattle.run_history.specs.Actions.{also, own}
-use Rattle.run_history.specs.Witnesses.{BasesList, Move, OfBase, OfTimer, Owner, Shown, ShownLine, TimersList, entry_of_shown, is_owner, lines_at, owner_of, owner_of_entry}
+use Rattle.run_history.specs.Witnesses.{BasesList, CountersList, Move, OfBase, OfRise, OfTimer, Owner, Shown, ShownLine, TimersList, entry_of_shown, is_owner, lines_at, owner_of, owner_of_entry}
 
 -- a receipt of an entry: how many entries of all timers and bases stand before it, and the entry with its number in its list
 pub record PlacedEntry : Type 0 where
@@ -25,6 +25,7 @@ receipt x = (x.number, x.shown)
 abbrev pub count : Owner → List SystemEntry → ℕ
 count (TimersList t) xs = length (entries_of t xs)
 count (BasesList b) xs = length (shifts_of b xs)
+count (CountersList k) xs = rises_of k xs
 
 -- numbers that rise, none below this one
 abbrev pub Rises : ℕ → List ℕ → Type 0
@@ -55,12 +56,14 @@ pub record Filed : Type 0 where
 abbrev pub owner_filed : Filed → Owner
 owner_filed f = owner_of f.note.shown
 
--- a list comes before another: the timers' before the bases', each by its number
+-- a list comes before another: the timers' before the bases', and both before the counters', each by its number
 abbrev pub IsAhead : Owner → Owner → Type 0
 IsAhead (TimersList t) (TimersList u) = t < u
-IsAhead (TimersList t) (BasesList b) = Unit
-IsAhead (BasesList b) (TimersList t) = ⊥
+IsAhead (TimersList t) b = Unit
 IsAhead (BasesList b) (BasesList c) = b < c
+IsAhead (BasesList b) (CountersList k) = Unit
+IsAhead (CountersList j) (CountersList k) = j < k
+IsAhead a b = ⊥
 
 -- in the order of lists, and of the numbers along a list, behind a list's number
 abbrev pub RiseBy : Owner → ℕ → List Filed → Type 0
@@ -96,6 +99,7 @@ abbrev pub no_line : Owner → ShownLine
 no_line (TimersList t) =
     record { label = record { lane = 0; call = 0 }; shown = OfTimer t (record { event = events.Cancel; reply = replies.Cancel 0 }) }
 no_line (BasesList b) = record { label = record { lane = 0; call = 0 }; shown = OfBase b shifts.Online }
+no_line (CountersList k) = record { label = record { lane = 0; call = 0 }; shown = OfRise k }
 
 -- the line of this number in a list, as a move
 abbrev pub move_at : RunRecord → Owner → ℕ → Move

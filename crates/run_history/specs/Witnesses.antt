@@ -48,32 +48,36 @@ pub record Trace : Type 0 where
   pub first : ℕ
   pub last : ℕ
 
--- what a line shows: an entry of a timer, or of a base
+-- what a line shows: an entry of a timer, or of a base; or a rise of a counter, which no line of a record does
 pub data Shown : Type 0 where
   OfTimer : ℕ → Entry → Shown
   OfBase : ℕ → BaseEvent → Shown
+  OfRise : ℕ → Shown
 
--- whose list of a record a line stands in: a timer's, or a base's
+-- whose list of a record a line stands in: a timer's, or a base's; a counter's list has no lines
 pub data Owner : Type 0 where
   TimersList : ℕ → Owner
   BasesList : ℕ → Owner
+  CountersList : ℕ → Owner
 
 -- whether two lists are the same
 abbrev pub is_owner : Owner → Owner → Bool
 is_owner (TimersList t) (TimersList u) = nat_eq t u
-is_owner (TimersList t) (BasesList b) = false
-is_owner (BasesList b) (TimersList t) = false
 is_owner (BasesList b) (BasesList c) = nat_eq b c
+is_owner (CountersList j) (CountersList k) = nat_eq j k
+is_owner a b = false
 
 -- the list in which a line stands that shows this
 abbrev pub owner_of : Shown → Owner
 owner_of (OfTimer t entry) = TimersList t
 owner_of (OfBase b event) = BasesList b
+owner_of (OfRise k) = CountersList k
 
--- the list in which an entry of all timers' and bases' history is shown
+-- the list of an entry of all timers' and bases' history: those of a timer and of a base are shown there
 abbrev pub owner_of_entry : SystemEntry → Owner
 owner_of_entry (entries.Timer e) = TimersList e.timer
 owner_of_entry (entries.Base c) = BasesList c.base
+owner_of_entry (entries.Rise k) = CountersList k
 
 -- a line of a timer or of a base, but for the looks at a timer
 pub record ShownLine : Type 0 where
@@ -87,10 +91,11 @@ line_of_timer t line = record { label = line.label; shown = OfTimer t line.entry
 abbrev pub line_of_base : ℕ → BaseLine → ShownLine
 line_of_base b line = record { label = line.label; shown = OfBase b line.event }
 
--- the lines of a list; none for one that isn't there
+-- the lines of a list; none for one that isn't there. No line of a record shows a counter
 abbrev pub lines_at : RunRecord → Owner → List ShownLine
 lines_at r (TimersList t) = map (line_of_timer t) (lines_of_timer r t)
 lines_at r (BasesList b) = map (line_of_base b) (lines_of_base r b)
+lines_at r (CountersList k) = []
 
 -- a line along the order, and how many lines of its list stand before it
 pub record Move : Type 0 where
@@ -122,6 +127,7 @@ abbrev pub entry_of_shown : List ClockLine → Shown → SystemEntry
 entry_of_shown clock (OfTimer t entry) =
     entries.Timer (record { timer = t; event = (entry_shown clock entry).event; reply = (entry_shown clock entry).reply })
 entry_of_shown clock (OfBase b event) = entries.Base (record { base = b; event = event })
+entry_of_shown clock (OfRise k) = entries.Rise k
 
 -- the entry that a move shows
 abbrev pub entry_of_move : List ClockLine → Move → SystemEntry
