@@ -2,11 +2,11 @@
 use Rattle.std.proofs.Common.{◌≡◌, ℕ, true, false, nat_eq, List, [], ◌∷◌, ◌++◌, refl, ap}
 use Rattle.run_history.specs.Actions.{Action, also, Entered, Looked, Made, made, Shifted, Skipped, Wrote}
 use Rattle.run_history.specs.Traces.{all_entered}
-use Rattle.run_history.specs.Witnesses.{OfBase, OfTimer}
+use Rattle.run_history.specs.Witnesses.{OfBase, OfRise, OfTimer}
 
 pub all_entered-append : (ds es : List Action) → all_entered (ds ++ es) ≡ all_entered ds ++ all_entered es
 all_entered-append [] es = refl
-all_entered-append (Wrote number write ∷ ds) es = all_entered-append ds es
+all_entered-append (Wrote number write ∷ ds) es = ap (λ xs. (number, OfRise 0) ∷ xs) (all_entered-append ds es)
 all_entered-append (Entered timer number entry ∷ ds) es = ap (λ xs. (number, OfTimer timer entry) ∷ xs) (all_entered-append ds es)
 all_entered-append (Looked timer number reply ∷ ds) es = all_entered-append ds es
 all_entered-append (Made i number entry ∷ ds) es = all_entered-append ds es

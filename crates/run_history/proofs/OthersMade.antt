@@ -67,9 +67,10 @@ cancelled_made {first = first} timer number generation kept starts =
 -- a write of the clock that it took
 pub wrote_made : {w : Witness} {moves : Spans} {c : Label} {at first last : ℕ} {notes : List PlacedEntry} {before after : Seen} (stamp : ℕ) (write : Write)
     → IsKept w moves c (plain at first last (Wrote stamp write ∷ [])) notes (calls.Clock write) (answers.Clock stamp) before after
-    → first ≡ moves.first c → FitsCall w c (calls.Clock write) (answers.Clock stamp) before after
-wrote_made {first = first} stamp write kept starts =
-    call_made_whole kept starts refl (tt, tt) (first, omega arith, tt, omega (arith, starts, kept.forward)) tt tt
+    → moves.first c ≤ first → first ≤ last → AllByRecursion (λ x. first ≤ x.place) notes
+    → FitsCall w c (calls.Clock write) (answers.Clock stamp) before after
+wrote_made {first = first} stamp write kept low high behind =
+    call_made kept low high behind refl (tt, tt) (first, omega arith, tt, high) tt tt
 
 -- a start's entries tell nothing that must be looked up
 pub start_true : (w : Witness) (c : Label) (first from to timer reading : ℕ) (request : StartRequest) (before : List Action) (a : Arming) → from ≤ to

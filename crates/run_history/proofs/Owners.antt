@@ -15,7 +15,7 @@ use Rattle.record_text.specs.declared.record.TimerLine.{TimerLine}
 use Rattle.run_history.specs.Actions.{also}
 use Rattle.run_history.specs.Histories.{lines_of_base, lines_of_timer}
 use Rattle.run_history.specs.Receipts.{count, no_line}
-use Rattle.run_history.specs.Witnesses.{BasesList, CountersList, OfBase, OfRise, OfTimer, Owner, Shown, TimersList, entry_of_shown, is_owner, line_of_base, line_of_timer, lines_at, owner_of, owner_of_entry}
+use Rattle.run_history.specs.Witnesses.{BasesList, CountersList, OfBase, OfRise, OfTimer, Owner, Shown, TimersList, entry_of_shown, is_owner, line_of_base, line_of_timer, line_of_write, lines_at, owner_of, owner_of_entry}
 
 pub owner_itself : (o : Owner) → is_owner o o ≡ true
 owner_itself (TimersList t) = eq-eqb t t refl
@@ -59,7 +59,13 @@ owner_at r (BasesList b) n = of_bases (lines_of_base r b) n
     of_bases [] n = refl
     of_bases (line ∷ lines) zero = refl
     of_bases (line ∷ lines) (suc n) = of_bases lines n
-owner_at r (CountersList k) n = refl
+owner_at r (CountersList zero) n = of_writes r.clock n
+  where
+    of_writes : (lines : List ClockLine) (n : ℕ) → owner_of (get_or (map line_of_write lines) n (no_line (CountersList 0))).shown ≡ CountersList 0
+    of_writes [] n = refl
+    of_writes (line ∷ lines) zero = refl
+    of_writes (line ∷ lines) (suc n) = of_writes lines n
+owner_at r (CountersList (suc k)) n = refl
 
 -- ---- the entries of a list
 

@@ -14,8 +14,8 @@ use Rattle.run_history.specs.Order.{CallInRound, calls_of, IsLabel}
 use Rattle.script_text.specs.declared.script.Call.{Call}
 use Rattle.script_text.specs.declared.script.Script.{Script}
 use Rattle.run_history.specs.Witnesses.{Witness, entries_in}
-use Rattle.run_history.specs.Fits.{FitsCall, FitsLane, Seen, unseen}
-use Rattle.run_history.specs.Promises.{GoesOn, GoesOnClock, HasLog, HasLogs, IsRightLog, IsPromised, IsPromisedSoFar, IsSoFar}
+use Rattle.run_history.specs.Fits.{FitsInTurn, FitsLane, Seen, unseen}
+use Rattle.run_history.specs.Promises.{GoesOn, GoesOnClock, HasLog, HasLogs, IsRightLog, IsPromisedInTurn, IsPromisedSoFar, IsSoFar}
 use Rattle.run_history.specs.Receipts.{AreAll}
 use Rattle.run_history.specs.Rounds.{label_at}
 use Rattle.run_history.specs.Runs.{CallLog, clock_spans, witness_of, Ending, IsJoined, moves_spans, object_spans}
@@ -73,7 +73,7 @@ reading_seen e writes n on le =
 -- ---- a lane's calls in turn
 
 so_far_push : (w : Witness) (lane index : ℕ) (now after : Seen) (all rest : List CallInRound) (p : CallInRound) (given : List Answer) (answer : Answer)
-    → IsSoFar w lane index now all (p ∷ rest) given → FitsCall w (label_at lane index) p.call answer now after
+    → IsSoFar w lane index now all (p ∷ rest) given → FitsInTurn w (label_at lane index) p.call answer now after
     → IsSoFar w lane (index + 1) after all rest (given ++ answer ∷ [])
 so_far_push w lane index now after all rest p given answer so_far fits more left =
     subst (FitsLane w lane 0 unseen all) (sym (append_assoc given (answer ∷ []) more)) (so_far (answer ∷ more) (after, fits, left))
@@ -97,7 +97,7 @@ last_log e lane index (x ∷ logs) log has =
 -- law: a call that keeps its promise, where the lane has seen no less than before
 pub promised_push : (s : Script) (lane index : ℕ) (logs : List CallLog) (log : CallLog) (Before After : Ending → Type 0) (now after : Seen)
     (p : CallInRound) (rest : List CallInRound) (given : List Answer) (answer : Answer) → index ≡ length logs → ((e : Ending) → After e → Before e)
-    → IsPromisedSoFar s lane index logs Before now (p ∷ rest) given → IsPromised s lane index log After p.call answer now after
+    → IsPromisedSoFar s lane index logs Before now (p ∷ rest) given → IsPromisedInTurn s lane index log After p.call answer now after
     → IsPromisedSoFar s lane (index + 1) (logs ++ log ∷ []) After after rest (given ++ answer ∷ [])
 promised_push s lane index logs log Before After now after p rest given answer counted no_less so_far promise e follows has joined =
     so_far_push (witness_of s e) lane index now after (calls_of s lane) rest p given answer

@@ -1,9 +1,10 @@
 -- What it means that a record fits a script: each call is there once, in the order of its lane, all timers' and bases' entries are one
--- history, and each object's are one history.
+-- history, in which the clock's writes and readings have their places, and each object's are one history.
 use Rattle.std.specs.Prelude.{ℕ, ◌≡◌, ◌≤◌, ◌+◌, false, List, [], ◌∷◌, length, map}
 use Rattle.std.specs.List.{AllByRecursion}
 use Rattle.clock_model.specs.Clocks.{at_stamp}
 use Rattle.script_text.specs.declared.script.Call.{Call}
+use Rattle.script_text.specs.declared.script.Call.TheVariants as calls
 use Rattle.script_text.specs.declared.script.Script.{Script}
 use Rattle.record_text.specs.declared.record.Label.{Label}
 use Rattle.record_text.specs.declared.record.Answer.{Answer}
@@ -15,12 +16,12 @@ use Rattle.run_history.specs.Objects.{IsLegalObject, object_labels, lines_of_obj
 use Rattle.script_text.specs.Declarations.{kind_of}
 use Rattle.run_history.specs.Actions.{wrote}
 use Rattle.run_history.specs.Told.{object_steps_on}
-use Rattle.run_history.specs.Witnesses.{Witness, IsOneHistory, labels}
+use Rattle.run_history.specs.Witnesses.{Witness, IsOneHistory, labels, writes_along}
 use Rattle.run_history.specs.Traces.{HasTraced}
 use Rattle.run_history.specs.Calls.{AllKeepExpiries, AllMoved, Does}
 use Rattle.run_history.specs.Truths.{AreTrue, IsClaimSpan, IsMoment, AnswerHolds, WasFront, WasOffLine}
 
--- how many of the clock's writes, of all timers' and bases' entries, and of each object's entries, a lane has seen
+-- how many of the clock's writes, of all timers' and bases' entries and the writes among them, and of each object's entries, a lane has seen
 pub record Seen : Type 0 where
   pub clock : ℕ
   pub moves : ℕ
@@ -51,11 +52,31 @@ pub record FitsCall (w : Witness) (c : Label) (call : Call) (answer : Answer) (b
   pub move_steps : (before.moves ≤ (w.traces c).first) × ((w.traces c).last ≤ after.moves)
   pub object_steps : (i : ℕ) → NeverFall (before.objects i) (object_steps_on i call answer (w.traces c).actions) (after.objects i)
 
+-- A call read the clock at a moment behind all that its lane had seen, and no later than its first, at which it had made no entry: so many of the clock's
+-- writes as its reading has stood before that moment.
+pub record HasRead (w : Witness) (c : Label) (from : ℕ) : Type 0 where
+  pub moment : ℕ
+  pub behind : from ≤ moment
+  pub before : moment ≤ (w.traces c).first
+  pub writes : writes_along w moment ≡ (w.traces c).at
+
+-- so each call but those that don't read the clock
+abbrev pub ReadsInTurn : Witness → Label → Call → ℕ → Type 0
+ReadsInTurn w c (calls.Cancel timer) from = Unit
+ReadsInTurn w c (calls.Peek timer) from = Unit
+ReadsInTurn w c (calls.Overrun timer) from = Unit
+ReadsInTurn w c (calls.Online base) from = Unit
+ReadsInTurn w c call from = HasRead w c from
+
+-- one call in its lane's turn
+abbrev pub FitsInTurn : Witness → Label → Call → Answer → Seen → Seen → Type 0
+FitsInTurn w c call answer before after = FitsCall w c call answer before after × ReadsInTurn w c call before.moves
+
 -- the calls of a lane from one of them on, each with its answer
 abbrev pub FitsLane : Witness → ℕ → ℕ → Seen → List CallInRound → List Answer → Type 0
 FitsLane w lane index before [] [] = Unit
 FitsLane w lane index before (p ∷ ps) (a ∷ more) =
-    (after : Seen) × FitsCall w (record { lane = lane; call = index }) p.call a before after × FitsLane w lane (index + 1) after ps more
+    (after : Seen) × FitsInTurn w (record { lane = lane; call = index }) p.call a before after × FitsLane w lane (index + 1) after ps more
 FitsLane w lane index before [] (a ∷ more) = ⊥
 FitsLane w lane index before (p ∷ ps) [] = ⊥
 

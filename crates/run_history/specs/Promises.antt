@@ -14,7 +14,7 @@ use Rattle.run_history.specs.Order.{CallInRound, calls_of, NeverFall}
 use Rattle.script_text.specs.declared.script.Call.{Call}
 use Rattle.script_text.specs.declared.script.Script.{Script}
 use Rattle.run_history.specs.Witnesses.{Witness}
-use Rattle.run_history.specs.Fits.{FitsCall, FitsLane, Seen, unseen}
+use Rattle.run_history.specs.Fits.{FitsCall, FitsInTurn, FitsLane, Seen, unseen}
 use Rattle.run_history.specs.Receipts.{receipt}
 use Rattle.run_history.specs.Rounds.{label_at}
 use Rattle.run_history.specs.Runs.{CallLog, witness_of, Ending, IsJoined}
@@ -60,6 +60,11 @@ GoesOnClock writes e = (later : List Write) × (map (λ line. line.write) e.run.
 abbrev pub IsPromised : Script → ℕ → ℕ → CallLog → (Ending → Type 0) → Call → Answer → Seen → Seen → Type 0
 IsPromised s lane index log Follows call answer before after =
     (e : Ending) → Follows e → HasLog e (label_at lane index) log → IsJoined s e → FitsCall (witness_of s e) (label_at lane index) call answer before after
+
+-- the same of the call with its reading
+abbrev pub IsPromisedInTurn : Script → ℕ → ℕ → CallLog → (Ending → Type 0) → Call → Answer → Seen → Seen → Type 0
+IsPromisedInTurn s lane index log Follows call answer before after =
+    (e : Ending) → Follows e → HasLog e (label_at lane index) log → IsJoined s e → FitsInTurn (witness_of s e) (label_at lane index) call answer before after
 
 -- a fit of the calls that are left makes a fit of all
 abbrev pub IsSoFar : Witness → ℕ → ℕ → Seen → List CallInRound → List CallInRound → List Answer → Type 0

@@ -1,5 +1,5 @@
--- One order of all entries of a record's timers and bases, and all timers and bases after each number of them.
-use Rattle.std.specs.Prelude.{ℕ, ◌≡◌, ◌+◌, nat_eq, Bool, false, List, [], ◌∷◌, map, take}
+-- One order of all entries of a record's timers and bases and of the clock's writes, and all timers and bases after each number of them.
+use Rattle.std.specs.Prelude.{ℕ, zero, suc, ◌≡◌, ◌+◌, nat_eq, Bool, false, List, [], ◌∷◌, map, take}
 use Rattle.record_text.specs.declared.record.BaseLine.{BaseLine}
 use Rattle.record_text.specs.declared.record.ClockLine.{ClockLine}
 use Rattle.record_text.specs.declared.record.Entry.{Entry}
@@ -11,7 +11,7 @@ use Rattle.run_history.specs.Histories.{entry_shown, lines_of_base, lines_of_tim
 use Rattle.script_text.specs.Declarations.{declareds_of, terms_of}
 use Rattle.script_text.specs.declared.script.Script.{Script}
 use Rattle.seq_timer.specs.Steps.{Timer}
-use Rattle.seq_timer.specs.Systems.{IsSystemHistory, System, system_of}
+use Rattle.seq_timer.specs.Systems.{IsSystemHistory, System, rises_of, system_of}
 use Rattle.seq_timer.specs.declared.event.Placement.{Placement}
 use Rattle.seq_timer.specs.declared.event.Restarted.{Restarted}
 use Rattle.seq_timer.specs.declared.standing.BaseEvent.{BaseEvent}
@@ -48,13 +48,13 @@ pub record Trace : Type 0 where
   pub first : ℕ
   pub last : ℕ
 
--- what a line shows: an entry of a timer, or of a base; or a rise of a counter, which no line of a record does
+-- what a line shows: an entry of a timer, or of a base; or a rise of a counter, of which counter 0 counts the clock's writes, and no other is shown
 pub data Shown : Type 0 where
   OfTimer : ℕ → Entry → Shown
   OfBase : ℕ → BaseEvent → Shown
   OfRise : ℕ → Shown
 
--- whose list of a record a line stands in: a timer's, or a base's; a counter's list has no lines
+-- whose list of a record a line stands in: a timer's, or a base's; or a counter's, of which that of counter 0 is the clock's
 pub data Owner : Type 0 where
   TimersList : ℕ → Owner
   BasesList : ℕ → Owner
@@ -73,29 +73,33 @@ owner_of (OfTimer t entry) = TimersList t
 owner_of (OfBase b event) = BasesList b
 owner_of (OfRise k) = CountersList k
 
--- the list of an entry of all timers' and bases' history: those of a timer and of a base are shown there
+-- the list in which an entry of all timers' and bases' history is shown
 abbrev pub owner_of_entry : SystemEntry → Owner
 owner_of_entry (entries.Timer e) = TimersList e.timer
 owner_of_entry (entries.Base c) = BasesList c.base
 owner_of_entry (entries.Rise k) = CountersList k
 
--- a line of a timer or of a base, but for the looks at a timer
+-- a line of a timer, of a base or of the clock, but for the looks at a timer and for what a write was
 pub record ShownLine : Type 0 where
   pub label : Label
   pub shown : Shown
 
--- the same of a timer's line, and of a base's
+-- the same of a timer's line, of a base's, and of the clock's
 abbrev pub line_of_timer : ℕ → TimerLine → ShownLine
 line_of_timer t line = record { label = line.label; shown = OfTimer t line.entry }
 
 abbrev pub line_of_base : ℕ → BaseLine → ShownLine
 line_of_base b line = record { label = line.label; shown = OfBase b line.event }
 
--- the lines of a list; none for one that isn't there. No line of a record shows a counter
+abbrev pub line_of_write : ClockLine → ShownLine
+line_of_write line = record { label = line.label; shown = OfRise 0 }
+
+-- the lines of a list; none for one that isn't there
 abbrev pub lines_at : RunRecord → Owner → List ShownLine
 lines_at r (TimersList t) = map (line_of_timer t) (lines_of_timer r t)
 lines_at r (BasesList b) = map (line_of_base b) (lines_of_base r b)
-lines_at r (CountersList k) = []
+lines_at r (CountersList zero) = map line_of_write r.clock
+lines_at r (CountersList (suc k)) = []
 
 -- a line along the order, and how many lines of its list stand before it
 pub record Move : Type 0 where
@@ -103,7 +107,7 @@ pub record Move : Type 0 where
   pub label : Label
   pub shown : Shown
 
--- a script, a record of it, and what the record doesn't print: an order of all timers' and bases' entries; what each call did; and for each entry of an
+-- a script, a record of it, and what the record doesn't print: an order of all timers' and bases' entries and the clock's writes; what each call did; and for each entry of an
 -- object, by the object and the entry's number, how many entries the object's timer had at the start and at the end of the entry's span
 pub record Witness : Type 0 where
   pub script : Script
@@ -153,7 +157,11 @@ timer_along w n t = (system_along w n).timers t
 abbrev pub standing_along : Witness → ℕ → ℕ → Standing
 standing_along w n b = ((system_along w n).bases b).standing
 
--- The order is one of all entries, and all together are one history that a library on one thread gives: each is a step of its timer and of the base
+-- how many of the first of them are writes of the clock
+abbrev pub writes_along : Witness → ℕ → ℕ
+writes_along w n = rises_of 0 (take n (entries_in w))
+
+-- The order is one of all entries and writes, and all entries together are one history that a library on one thread gives: each is a step of its timer and of the base
 -- that it is on, is sent only to a base that is there, and is started only on one that is on line; each claim takes the first timer of its context in the
 -- base's queues; and a base is taken off line only while it has no timer.
 pub record IsOneHistory (w : Witness) : Type 0 where
