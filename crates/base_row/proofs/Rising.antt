@@ -11,7 +11,7 @@ use Rattle.atomic_table.specs.Table.{State, Act, step, stepped, carried_after, k
 use Rattle.pass_names.specs.Counts.{one_if}
 use Rattle.pass_names.specs.Passes.{Begins, within}
 use Rattle.pass_names.proofs.Counts.{set_there}
-use Rattle.pass_names.proofs.Passes.{begins_more, begins_trans}
+use Rattle.pass_names.proofs.Passes.{begins_more, begins_refl, begins_trans}
 use Rattle.seq_timer.specs.declared.system.SystemEntry.{SystemEntry}
 use Rattle.seq_timer.specs.declared.system.SystemEntry.TheVariants as entries
 use Rattle.seq_timer.specs.Systems.{AreSystemSteps, BaseContent, System, after_entries, after_one, entries_of, first_system, rises_of, shifts_of, system_after}
@@ -63,6 +63,14 @@ count_raised k to old new r = omega (
   rises_of-append k r.before (rises k (to - rises_of k r.before)),
   rises_many k (to - rises_of k r.before),
 )
+
+-- nothing is missing where a counter is as far
+pub raised_already : (k to : ℕ) (seen : List SystemEntry) → to ≤ rises_of k seen → RaisesTo k to seen seen
+raised_already k to seen far = let none : to - rises_of k seen ≡ 0 = omega (arith, far) in record {
+  before = seen;
+  seen = begins_refl seen;
+  whole = sym (ap (λ n. seen ++ rises k n) none ∙ append-nil seen);
+}
 
 module _ (o : Opening) (slots id : ℕ) (v : BaseView BaseContent) (carried : List (ℕ × Option BaseContent)) (live : v.id.live ≡ true) (k : ℕ)
     (inside : k < o.counters) where

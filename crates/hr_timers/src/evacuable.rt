@@ -9,7 +9,7 @@ use crate::answer::{OfflineAnswer, OnlineAnswer};
 use crate::evacuating;
 use crate::timers::Timers;
 use crate::tokens::Pass;
-use base_row::{BaseRow, ReceiptSink, Unlogged};
+use base_row::{ReceiptSink, Unlogged};
 use ktime::Reading;
 use seq_timer::{Declared, Terms};
 use std::alloc::{AllocError, Global};
@@ -36,11 +36,8 @@ impl Timers {
             limit: max_events,
             reach,
         };
-        let (row, inner) = BaseRow::make(alloc, bases, timers, terms)?;
-        let timers = Timers { row };
-        let pass = Pass { inner };
-        timers.check(&pass);
-        Ok((timers, pass))
+        let made = Timers::make_counting(alloc, bases, timers, terms, 0)?;
+        Ok(made)
     }
 
     /// Takes a base off line (`hrtimers_cpu_dying`): moves its armed timers to the heir, at most `budget` of them, each for the times that it was armed

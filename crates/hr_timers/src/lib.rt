@@ -5,6 +5,7 @@ mod answer;
 mod asked;
 mod cancelling;
 mod claiming;
+mod counting;
 mod evacuable;
 mod evacuating;
 mod laws;

@@ -75,11 +75,7 @@ impl Timers {
         ensures first { IfOk result (λ r. r.1.known ≡ first_known) }
         ensures locks { IfOk result (λ r. (r.1.takes ≡ []) × (r.1.met ≡ replicate bases 0)) }
     {
-        let (row, inner) = BaseRow::make(alloc, bases, timers, Terms::limited(max_events))?;
-        let timers = Timers { row };
-        let pass = Pass { inner };
-        timers.check(&pass);
-        Ok((timers, pass))
+        Timers::make_counting(alloc, bases, timers, Terms::limited(max_events), 0)
     }
 
     /// Arms a timer on a base, with no slack (`hrtimer_start`).

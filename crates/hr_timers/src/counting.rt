@@ -1,0 +1,86 @@
+//! Counters beside the timers, whose rises stand in the one history of all timers. What a counter counts is for its callers to say: one that is raised before
+//! and behind what it counts gives that a place among the timers' entries.
+ghost use Rattle.std.specs.Prelude.{◌≡◌, ◌≢◌, ◌+◌, ◌^◌, ◌<◌, ◌≤◌, length, replicate, [], IfOk, MatchBool};
+ghost use Rattle.base_row.specs.Calls.{opening_with};
+ghost use Rattle.base_row.specs.Places.{most_counters};
+ghost use Rattle.base_row.specs.Plays.{RaisesTo, RisesFrom};
+ghost use Rattle.hr_timers.specs.Known.{IsPassOf, KnownOfTimers, LocksGoOn};
+ghost use Rattle.pass_names.specs.SharedHistory.{LooksOn, first_known};
+ghost use Rattle.seq_timer.specs.Steps.{HasRoom};
+ghost use Rattle.seq_timer.specs.Systems.{rises_of};
+
+use crate::timers::Timers;
+use crate::tokens::Pass;
+use base_row::BaseRow;
+use seq_timer::{Declared, Terms};
+use std::alloc::{AllocError, Global};
+
+impl Timers {
+    /// Timers of both contexts that take entries on these terms, with so many counters, each 0. Their bases may go off line where the terms have a reach.
+    pub fn make_counting(
+        alloc: Global,
+        bases: u32,
+        timers: &[Declared],
+        terms: Terms,
+        counters: u32,
+    ) -> Result<(Timers, Pass), AllocError>
+        requires few { (0 < bases) × (bases ≤ 64) × (length timers.now ≤ 65536) }
+        requires limit { 0 < terms.limit }
+        requires room { HasRoom terms }
+        requires counters { counters ≤ most_counters bases (length timers.now) }
+        ensures pass { IfOk result (λ r. IsPassOf r.0 r.1) }
+        ensures about { IfOk result (λ r. r.0.about ≡ opening_with bases timers.now terms counters) }
+        ensures first { IfOk result (λ r. r.1.known ≡ first_known) }
+        ensures locks { IfOk result (λ r. (r.1.takes ≡ []) × (r.1.met ≡ replicate bases 0)) }
+    {
+        let (row, inner) = BaseRow::make_counting(alloc, bases, timers, terms, counters)?;
+        let timers = Timers { row };
+        let pass = Pass { inner };
+        timers.check(&pass);
+        Ok((timers, pass))
+    }
+
+    /// How often a counter has risen: one load.
+    pub fn counter(&self, pass: &mut Pass, counter: u32) -> u64
+        requires pass { IsPassOf self.now pass.old }
+        requires counter { counter < self.now.about.counters }
+        ensures pass { IsPassOf self.now pass.new }
+        ensures looks { LooksOn pass.old.known pass.new.known }
+        ensures count { result ≡ rises_of counter pass.new.known.seen }
+        ensures locks { (pass.new.takes ≡ pass.old.takes) × (pass.new.met ≡ pass.old.met) }
+    {
+        let count = self.row.counter(&mut pass.inner, counter);
+        self.check(pass);
+        count
+    }
+
+    /// Raises a counter to at least `to`; where it is `known` to be as far, no memory is touched.
+    pub fn raise_counter(&self, pass: &mut Pass, counter: u32, known: u64, to: u64)
+        requires pass { IsPassOf self.now pass.old }
+        requires counter { counter < self.now.about.counters }
+        requires known { known ≤ rises_of counter pass.old.known.seen }
+        ensures pass { IsPassOf self.now pass.new }
+        ensures looks { LooksOn pass.old.known pass.new.known }
+        ensures raised { RaisesTo counter to pass.old.known.seen pass.new.known.seen }
+        ensures count { to ≤ rises_of counter pass.new.known.seen }
+        ensures locks { (pass.new.takes ≡ pass.old.takes) × (pass.new.met ≡ pass.old.met) }
+    {
+        self.row.raise_counter(&mut pass.inner, counter, known, to);
+        self.check(pass);
+    }
+
+    /// Raises a counter by one, if it has risen `from` times: one exchange.
+    pub fn step_counter(&self, pass: &mut Pass, counter: u32, from: u64) -> bool
+        requires pass { IsPassOf self.now pass.old }
+        requires counter { counter < self.now.about.counters }
+        requires small { from + 1 < 2 ^ 64 }
+        ensures pass { IsPassOf self.now pass.new }
+        ensures looks { LooksOn pass.old.known pass.new.known }
+        ensures steps { MatchBool result (RisesFrom counter from pass.old.known.seen pass.new.known.seen) (rises_of counter pass.new.known.seen ≢ from) }
+        ensures locks { (pass.new.takes ≡ pass.old.takes) × (pass.new.met ≡ pass.old.met) }
+    {
+        let rose = self.row.step_counter(&mut pass.inner, counter, from);
+        self.check(pass);
+        rose
+    }
+}
