@@ -8,6 +8,7 @@ use Rattle.base_row.specs.declared.log.Receipt.{Receipt}
 use Rattle.hr_timers.specs.Known.{KnownOfTimers, MadeAt, timer_then}
 use Rattle.seq_timer.specs.Histories as seq
 use Rattle.seq_timer.specs.Systems.{openings}
+use Rattle.seq_timer.specs.declared.standing.BaseEvent.{BaseEvent}
 use Rattle.seq_timer.specs.declared.system.SystemEntry.{SystemEntry}
 use Rattle.base_row.specs.Logs.{receipts_of}
 use Rattle.base_row.specs.declared.view.Opening.{Opening}
