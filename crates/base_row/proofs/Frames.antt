@@ -10,13 +10,12 @@ use Rattle.atomic_table.specs.Table.{State}
 use Rattle.atomic_table.proofs.Lists.{at_snoc, set_here, set_else, at_map}
 use Rattle.pass_names.specs.Counts.{one_if, total}
 use Rattle.pass_names.specs.Names.{IsPassTree}
-use Rattle.pass_names.specs.Passes.{Begins, within}
+use Rattle.pass_names.specs.Passes.{Begins}
 use Rattle.pass_names.proofs.Counts.{total_set, total_two, map_kept, all_set, total_grown, total_merged}
 use Rattle.pass_names.proofs.Passes.{begins_refl, begins_trans, begins_nil}
 use Rattle.seq_timer.specs.declared.system.SystemEntry.{SystemEntry}
 use Rattle.base_row.specs.declared.view.HeldContent.{HeldContent}
 use Rattle.base_row.specs.declared.view.BaseView.{BaseView}
-use Rattle.seq_timer.specs.declared.system.SystemEntry.TheVariants as entries
 use Rattle.seq_timer.specs.Systems.{BaseContent, System, shifts_of, system_after}
 use Rattle.base_row.specs.Rules.{base_pass_id, base_place, held_in, carried_in, HeldHolds, Token, has, owed, slot_of, IsIn, Place, Carry, Hold}
 use Rattle.base_row.specs.Rules.{takes_at, PassHolds, RowHolds}

@@ -8,7 +8,6 @@ use Rattle.std.proofs.lemmas.List.{set-get_or, get_or-set_same, length-set}
 use mathlib.Core.Option.{some, none}
 use lib.ListN.{get_elem?}
 use Rattle.atomic_table.specs.Table.{State, step, Act, keeps, Valid, carried_after, Allows, stepped}
-use Rattle.pass_names.specs.Passes.{within}
 use Rattle.pass_names.proofs.Counts.{met, set_there}
 use Rattle.seq_timer.specs.declared.system.SystemEntry.{SystemEntry}
 use Rattle.base_row.specs.declared.view.HeldContent.{HeldContent}

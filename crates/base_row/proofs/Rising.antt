@@ -1,29 +1,27 @@
 -- A counter rises: nothing else is other than before, and the rule stays.
 use Rattle.base_row.specs.Places.{counter_at, lock_at, word_at}
-use Rattle.std.proofs.Common.{◌≡◌, ℕ, zero, suc, eqb, ◌+◌, ◌-◌, ◌<◌, ◌≤◌, ◌≢◌, ◌%◌, ◌/◌, Bool, true, false, List, [], ◌∷◌, ◌++◌, length, set, replicate, refl, ap, sym, ◌∙◌, subst, inr, ⊎_elim, arith, if◌then◌else◌}
-use Rattle.std.specs.Prelude.{slice_index, slice_set, max, Option, Some, MatchBool}
+use Rattle.std.proofs.Common.{◌≡◌, ℕ, zero, suc, eqb, ◌+◌, ◌-◌, ◌<◌, ◌≤◌, ◌≢◌, ◌%◌, ◌/◌, Bool, true, false, List, [], ◌∷◌, ◌++◌, length, set, refl, ap, sym, ◌∙◌, subst, inr, ⊎_elim, arith, if◌then◌else◌}
+use Rattle.std.specs.Prelude.{slice_index, slice_set, max, Option, MatchBool}
 use Rattle.std.proofs.lemmas.Bool.{cases_eq, eq-eqb, ne_eqb, eqb-true, true≢false}
-use Rattle.std.proofs.lemmas.List.{append-nil, length-set, get_or-set_same, get_or-set_other, set-get_or}
-use mathlib.Core.Option.{some, none}
+use Rattle.std.proofs.lemmas.List.{append-nil, length-set, get_or-set_same, get_or-set_other}
+use mathlib.Core.Option.{some}
 use lib.ListN.{get_elem?}
 use prog.Atomic.{either}
-use Rattle.atomic_table.specs.Table.{State, Act, step, stepped, carried_after, keeps, Valid, Allows}
+use Rattle.atomic_table.specs.Table.{State, Act, stepped, carried_after, keeps, Valid, Allows}
 use Rattle.pass_names.specs.Counts.{one_if}
-use Rattle.pass_names.specs.Passes.{Begins, within}
+use Rattle.pass_names.specs.Passes.{within}
 use Rattle.pass_names.proofs.Counts.{set_there}
 use Rattle.pass_names.proofs.Passes.{begins_more, begins_refl, begins_trans}
 use Rattle.seq_timer.specs.declared.system.SystemEntry.{SystemEntry}
-use Rattle.seq_timer.specs.declared.system.SystemEntry.TheVariants as entries
 use Rattle.seq_timer.specs.Systems.{AreSystemSteps, BaseContent, System, after_entries, after_one, entries_of, first_system, rises_of, shifts_of, system_after}
 use Rattle.seq_timer.proofs.Systems.{after_entries-append, entries_of-append, rises_of-append, shifts_of-append}
-use Rattle.base_row.specs.declared.view.HeldContent.{HeldContent}
 use Rattle.base_row.specs.declared.view.Opening.{Opening}
 use Rattle.base_row.specs.declared.view.BaseView.{BaseView}
-use Rattle.base_row.specs.Rules.{base_place, has, Hold, Take, HasOneHistory, HeldHolds, IsIn, number_of, owed, PassHolds, RowHolds, slot_of, standing_number, takes_at, Token}
-use Rattle.base_row.specs.Plays.{having_met, KnowsBases, RaisedCounter, RaisesTo, rises, RisesFrom, RoseCounter, SawMore, SeatState}
+use Rattle.base_row.specs.Rules.{base_place, has, Hold, Take, HasOneHistory, IsIn, number_of, owed, PassHolds, RowHolds, slot_of, standing_number, Token}
+use Rattle.base_row.specs.Plays.{having_met, RaisedCounter, RaisesTo, rises, RisesFrom, RoseCounter, SawMore}
 use Rattle.base_row.proofs.Frames.{counted, fits_on, fits_whole, has_kept, kept_tree}
 use Rattle.base_row.proofs.Knowing.{knows_of}
-use Rattle.base_row.proofs.Looking.{looks_with, Newer}
+use Rattle.base_row.proofs.Looking.{looks_with}
 use Rattle.base_row.proofs.Stable.{steady_along}
 
 -- ---- rises of a counter

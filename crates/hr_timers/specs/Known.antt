@@ -108,6 +108,10 @@ pub record LocksGoOnFrom (before after : List (ℕ × ℕ)) (knew knows : List �
 abbrev pub LocksGoOn : PassOf → PassOf → Type 0
 LocksGoOn p q = LocksGoOnFrom p.takes q.takes p.met q.met
 
+-- a pass has taken no lock, and looked at none
+abbrev pub KeepsLocks : PassOf → PassOf → Type 0
+KeepsLocks p q = (q.takes ≡ p.takes) × (q.met ≡ p.met)
+
 -- another pass took the base's lock in between, or it is taken no more
 abbrev pub HasMissed : PassOf → PassOf → ℕ → Type 0
 HasMissed p q b = ((k : ℕ) × (count (is_place b k) p.takes ≡ 0) × (slice_index p.met b < k + k) × (k + k ≤ slice_index q.met b + 1))

@@ -4,7 +4,7 @@ ghost use Rattle.std.specs.Prelude.{◌≡◌, ◌≢◌, ◌+◌, ◌^◌, ◌<
 ghost use Rattle.base_row.specs.Calls.{opening_with};
 ghost use Rattle.base_row.specs.Places.{most_counters};
 ghost use Rattle.base_row.specs.Plays.{RaisesTo, RisesFrom};
-ghost use Rattle.hr_timers.specs.Known.{IsPassOf, KnownOfTimers, LocksGoOn};
+ghost use Rattle.hr_timers.specs.Known.{IsPassOf, KeepsLocks};
 ghost use Rattle.pass_names.specs.SharedHistory.{LooksOn, first_known};
 ghost use Rattle.seq_timer.specs.Steps.{HasRoom};
 ghost use Rattle.seq_timer.specs.Systems.{rises_of};
@@ -47,7 +47,7 @@ impl Timers {
         ensures pass { IsPassOf self.now pass.new }
         ensures looks { LooksOn pass.old.known pass.new.known }
         ensures count { result ≡ rises_of counter pass.new.known.seen }
-        ensures locks { (pass.new.takes ≡ pass.old.takes) × (pass.new.met ≡ pass.old.met) }
+        ensures locks { KeepsLocks pass.old pass.new }
     {
         let count = self.row.counter(&mut pass.inner, counter);
         self.check(pass);
@@ -63,7 +63,7 @@ impl Timers {
         ensures looks { LooksOn pass.old.known pass.new.known }
         ensures raised { RaisesTo counter to pass.old.known.seen pass.new.known.seen }
         ensures count { to ≤ rises_of counter pass.new.known.seen }
-        ensures locks { (pass.new.takes ≡ pass.old.takes) × (pass.new.met ≡ pass.old.met) }
+        ensures locks { KeepsLocks pass.old pass.new }
     {
         self.row.raise_counter(&mut pass.inner, counter, known, to);
         self.check(pass);
@@ -77,7 +77,7 @@ impl Timers {
         ensures pass { IsPassOf self.now pass.new }
         ensures looks { LooksOn pass.old.known pass.new.known }
         ensures steps { MatchBool result (RisesFrom counter from pass.old.known.seen pass.new.known.seen) (rises_of counter pass.new.known.seen ≢ from) }
-        ensures locks { (pass.new.takes ≡ pass.old.takes) × (pass.new.met ≡ pass.old.met) }
+        ensures locks { KeepsLocks pass.old pass.new }
     {
         let rose = self.row.step_counter(&mut pass.inner, counter, from);
         self.check(pass);

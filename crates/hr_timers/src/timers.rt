@@ -8,7 +8,7 @@ ghost use Rattle.seq_timer.specs.Calls.{asked_for};
 ghost use Rattle.base_row.specs.Calls.{opening_of};
 ghost use Rattle.base_row.specs.Plays.{greater};
 ghost use Rattle.pass_names.specs.SharedHistory.{MeetWith, TakesIn, child_known, first_known, splitter_known};
-ghost use Rattle.hr_timers.specs.Known.{HasEachPlace, HasEachShift, IsPassOf, LocksGoOn, OwnsClaim};
+ghost use Rattle.hr_timers.specs.Known.{HasEachPlace, HasEachShift, IsPassOf, KeepsLocks, LocksGoOn, OwnsClaim};
 ghost use Rattle.hr_timers.specs.Calls.{Cancels, ClaimFits, Finishes, Forwards, NowFits, Peeks, StartsTimer};
 ghost use Rattle.hr_timers.specs.declared.answer.NowAnswer.TheVariants as nows;
 
@@ -245,8 +245,7 @@ impl Timers {
         requires timer { timer < length self.now.about.timers }
         ensures pass { IsPassOf self.now pass.new }
         ensures peeks { Peeks self.now.about pass.old.known pass.new.known timer result }
-        // No lock was looked at.
-        ensures locks { (pass.new.takes ≡ pass.old.takes) × (pass.new.met ≡ pass.old.met) }
+        ensures locks { KeepsLocks pass.old pass.new }
     {
         let word = self.row.load_word(&mut pass.inner, timer);
         self.check(pass);
@@ -260,7 +259,7 @@ impl Timers {
         ensures splitter { pass.new.known ≡ splitter_known pass.old.known }
         ensures new { result.known ≡ child_known pass.old.known }
         // The new pass has taken no lock, and knows the same of each.
-        ensures locks { (pass.new.takes ≡ pass.old.takes) × (pass.new.met ≡ pass.old.met) }
+        ensures locks { KeepsLocks pass.old pass.new }
         ensures new_locks { (result.takes ≡ []) × (result.met ≡ pass.old.met) }
     {
         let inner = self.row.split(&mut pass.inner);

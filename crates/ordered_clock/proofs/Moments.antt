@@ -1,0 +1,98 @@
+-- Between two counts there is a moment with each count between them, and counts never fall.
+use Rattle.std.proofs.Common.{◌≡◌, ℕ, ◌+◌, ◌<◌, ◌≤◌, Bool, true, false, nat_eq, List, [], ◌∷◌, ◌++◌, length, refl, ap, sym, ◌∙◌, subst, ⊎_elim, arith, if◌then◌else◌}
+use Rattle.std.proofs.lemmas.Bool.{cases_lt, eqb-true}
+use Rattle.std.proofs.lemmas.List.{append_assoc}
+use Rattle.pass_names.specs.Passes.{Begins}
+use Rattle.pass_names.proofs.Passes.{begins_more, begins_refl, begins_trans}
+use Rattle.seq_timer.specs.Systems.{rises_of}
+use Rattle.seq_timer.specs.declared.system.SystemEntry.{SystemEntry}
+use Rattle.seq_timer.specs.declared.system.SystemEntry.TheVariants as entries
+use Rattle.seq_timer.proofs.Systems.{rises_of-append}
+use Rattle.std.proofs.Common.{length-append}
+use Rattle.ktime.specs.Readings.{ClockReading}
+use Rattle.clock_model.specs.declared.write.Write.{Write}
+use Rattle.clock_cell.specs.declared.view.ClockView.{ClockView}
+use Rattle.clock_cell.specs.Views.{AcceptsWrite, writes}
+use Rattle.pass_names.proofs.Passes.{begins_length}
+use Rattle.ordered_clock.specs.Moments.{IsReadBeforeItIsWritten, ReadsAt, WritesAt, clock_counter}
+
+-- a counter's rise of this number stands in a list, where the count passes it; so many stand before the list
+record HasRise (k many number : ℕ) (xs : List SystemEntry) : Type 0 where
+  before : List SystemEntry
+  later : List SystemEntry
+  whole : xs ≡ before ++ entries.Rise k ∷ later
+  count : many + rises_of k before + 1 ≡ number
+
+behind : (k many number : ℕ) (x : SystemEntry) (xs : List SystemEntry) (many' : ℕ) → ((ys : List SystemEntry) → many' + rises_of k ys ≡ many + rises_of k (x ∷ ys))
+    → HasRise k many' number xs → HasRise k many number (x ∷ xs)
+behind k many number x xs many' same r = record {
+  before = x ∷ r.before;
+  later = r.later;
+  whole = ap (λ zs. x ∷ zs) r.whole;
+  count = omega (arith, r.count, same r.before);
+}
+
+has_rise : (k many number : ℕ) (xs : List SystemEntry) → many < number → number ≤ many + rises_of k xs → HasRise k many number xs
+has_rise k many number [] low high = absurd (omega (arith, low, high))
+has_rise k many number (entries.Timer e ∷ xs) low high = behind k many number (entries.Timer e) xs many (λ ys. refl) (has_rise k many number xs low high)
+has_rise k many number (entries.Base c ∷ xs) low high = behind k many number (entries.Base c) xs many (λ ys. refl) (has_rise k many number xs low high)
+has_rise k many number (entries.Rise j ∷ xs) low high =
+    elim (nat_eq j k) as (λ q. nat_eq j k ≡ q → number ≤ many + (if q then rises_of k xs + 1 else rises_of k xs) → HasRise k many number (entries.Rise j ∷ xs)) [
+      | true ↦ λ is top. ⊎_elim
+          (λ (more : many + 1 < number). behind k many number (entries.Rise j) xs (many + 1)
+          (λ ys. omega (arith, ap (λ (b : Bool). if b then rises_of k ys + 1 else rises_of k ys) is)) (has_rise k (many + 1) number xs more (omega (arith, top))))
+          (λ last. record {
+            before = [];
+            later = xs;
+            whole = ap (λ n. entries.Rise n ∷ xs) (eqb-true j k is);
+            count = omega (arith, low, last);
+          })
+          (cases_lt (many + 1) number)
+      | false ↦ λ not top. behind k many number (entries.Rise j) xs many
+          (λ ys. omega (arith, ap (λ (b : Bool). if b then rises_of k ys + 1 else rises_of k ys) not)) (has_rise k many number xs low (omega (arith, top)))
+    ] refl high
+
+-- the clock's write of a number that wasn't told yet where a counter was looked at, and is told behind that
+pub written_at : {old mid new : List SystemEntry} (stamp : ℕ) → Begins old mid → Begins mid new → rises_of clock_counter mid < stamp
+    → stamp ≤ rises_of clock_counter new → WritesAt old new stamp
+written_at {old} {mid} {new} stamp a b low high =
+    let whole : rises_of clock_counter new ≡ rises_of clock_counter mid + rises_of clock_counter b.rest =
+    ap (rises_of clock_counter) b.whole ∙ rises_of-append clock_counter mid b.rest in
+    let r = has_rise clock_counter (rises_of clock_counter mid) stamp b.rest low (omega (arith, whole, high)) in record {
+      before = mid ++ r.before;
+      from = begins_trans a (begins_more mid r.before);
+      seen = record {
+        rest = r.later;
+        whole = b.whole ∙ (ap (λ zs. mid ++ zs) r.whole ∙ (sym (append_assoc mid r.before (entries.Rise clock_counter ∷ r.later))
+            ∙ sym (append_assoc (mid ++ r.before) (entries.Rise clock_counter ∷ []) r.later)));
+      };
+      count = omega (arith, rises_of-append clock_counter mid r.before, r.count);
+    }
+
+-- the moment of a reading: where the counter was looked at, or right behind the last of its writes
+pub read_at : {old mid new : List SystemEntry} (stamp : ℕ) → Begins old mid → Begins mid new → rises_of clock_counter mid ≤ stamp
+    → stamp ≤ rises_of clock_counter new → ReadsAt old new stamp
+read_at {old} {mid} {new} stamp a b low high =
+    ⊎_elim
+    (λ (more : rises_of clock_counter mid < stamp). let w = written_at stamp a b more high in record {
+      at = w.before ++ entries.Rise clock_counter ∷ [];
+      from = begins_trans w.from (begins_more w.before (entries.Rise clock_counter ∷ []));
+      seen = w.seen;
+      count = rises_of-append clock_counter w.before (entries.Rise clock_counter ∷ []) ∙ w.count;
+    })
+    (λ same. record { at = mid; from = a; seen = b; count = omega (arith, low, same) })
+    (cases_lt (rises_of clock_counter mid) stamp)
+
+-- a count never falls
+pub rises : (k : ℕ) {xs ys : List SystemEntry} → Begins xs ys → rises_of k xs ≤ rises_of k ys
+rises k {xs} b = omega (arith, ap (rises_of k) b.whole, rises_of-append k xs b.rest)
+
+pub no_older : (old new : List SystemEntry) (stamp : ℕ) → ReadsAt old new stamp → rises_of clock_counter old ≤ stamp
+no_older old new stamp r = omega (arith, rises clock_counter r.from, r.count)
+
+pub never : (stamp : ℕ) → IsReadBeforeItIsWritten stamp → ⊥
+never stamp w = omega (arith, rises clock_counter w.read.seen, rises clock_counter w.written.from, w.read.count, w.written.count)
+
+-- a write's number is above what its pass had seen
+pub grown : {w : Write} {old new : ClockView} {r : ClockReading} → AcceptsWrite w old new r → length (writes old) < r.stamp
+grown {w} a = omega (arith, a.count, begins_length a.adds.begins, ap length a.adds.last, length-append a.adds.before (w ∷ []))

@@ -1,0 +1,50 @@
+-- Where the clock's readings and writes stand among the entries of timers. Counter 0 of the timers repeats the number of the clock's writes, so the k-th of
+-- its rises is the place of the k-th write.
+use Rattle.std.specs.Prelude.{ℕ, ◌≡◌, ◌+◌, ◌≤◌, List, [], ◌∷◌, ◌++◌, length, Result, IfOk, OnErr}
+use Rattle.clock_cell.specs.Views.{writes}
+use Rattle.clock_cell.specs.declared.view.ClockView.{ClockView}
+use Rattle.clock_model.specs.declared.write.ClockFault.{ClockFault}
+use Rattle.ktime.specs.Readings.{ClockReading}
+use Rattle.pass_names.specs.Passes.{Begins}
+use Rattle.seq_timer.specs.Systems.{rises_of}
+use Rattle.seq_timer.specs.declared.system.SystemEntry.{SystemEntry}
+use Rattle.seq_timer.specs.declared.system.SystemEntry.TheVariants as entries
+use Rattle.hr_timers.specs.Known.{KnownOfTimers}
+
+-- the counter of the timers that the clock's writes raise
+abbrev pub clock_counter : ℕ
+clock_counter = 0
+
+-- of how many writes of the clock the timers are told, by what a pass has seen of them
+abbrev pub told : KnownOfTimers → ℕ
+told k = rises_of clock_counter k.seen
+
+-- At a moment between what was seen before and what is seen after, the clock had so many writes.
+pub record ReadsAt (old new : List SystemEntry) (stamp : ℕ) : Type 0 where
+  pub at : List SystemEntry
+  pub from : Begins old at
+  pub seen : Begins at new
+  pub count : rises_of clock_counter at ≡ stamp
+
+-- Between what was seen before and what is seen after stands the clock's write of this number.
+pub record WritesAt (old new : List SystemEntry) (stamp : ℕ) : Type 0 where
+  pub before : List SystemEntry
+  pub from : Begins old before
+  pub seen : Begins (before ++ entries.Rise clock_counter ∷ []) new
+  pub count : rises_of clock_counter before + 1 ≡ stamp
+
+-- A write that the clock took has a place between what was seen before and after, and one that it refused had a reading at a moment between them, by which it
+-- was refused. Afterwards the timers are told of all the writes that the pass of the clock has seen.
+pub record HasPlace (v w : KnownOfTimers) (new : ClockView) (result : Result ClockReading ClockFault) : Type 0 where
+  pub place : IfOk result (λ r. WritesAt v.seen w.seen r.stamp)
+  pub refused : OnErr result (ReadsAt v.seen w.seen (length (writes new)))
+  pub told : length (writes new) ≤ told w
+
+-- A record that is wrong: a call read the clock after so many writes, and then made an entry; another call had seen that entry, and then made the last of
+-- these writes.
+pub record IsReadBeforeItIsWritten (stamp : ℕ) : Type 0 where
+  pub old : List SystemEntry
+  pub entered : List SystemEntry
+  pub new : List SystemEntry
+  pub read : ReadsAt old entered stamp
+  pub written : WritesAt entered new stamp
