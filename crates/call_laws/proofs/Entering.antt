@@ -30,15 +30,16 @@ use Rattle.run_history.specs.Receipts.{count, PlacedEntry, receipt, ShowsEntry}
 use Rattle.run_history.proofs.Known.{adds_made, AreEntries, AreMade, made-append, made_goes_on, made_wider, none_made, numbered, shows_made}
 use Rattle.script_text.proofs.Lists.{All-append}
 use Rattle.run_history.proofs.Owners.{timers_entry}
-use Rattle.run_history.specs.Witnesses.{OfBase, OfTimer, Shown, TimersList}
+use Rattle.run_history.specs.Witnesses.{OfBase, OfRise, OfTimer, Shown, TimersList}
 use Rattle.pass_names.proofs.Passes.{begins_trans, begins_length}
 
 -- ---- receipts between two moments of a pass
 
--- the place of an entry among a pass's own, by its receipt; a base's stand behind those of the timers
+-- the place of an entry among a pass's own, by its receipt; a base's stand behind those of the timers, and a counter's are given numbers behind both
 abbrev pub place_told : Script → ℕ × Shown → ℕ × ℕ
 place_told s (number, OfTimer t entry) = (t, number)
 place_told s (number, OfBase b event) = (length s.timers + b, number)
+place_told s (number, OfRise k) = (length s.timers + s.bases + k, number)
 
 abbrev pub place_of : Script → PlacedEntry → ℕ × ℕ
 place_of s x = place_told s (receipt x)

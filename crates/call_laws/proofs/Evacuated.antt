@@ -66,6 +66,7 @@ use Rattle.timer_objects.specs.Known.{ObjectsPass}
 none_past : (bases many t : ℕ) (w : System) (es : List SystemEntry) → many ≤ t → AreSystemSteps bases many w es → entries_of t es ≡ []
 none_past bases many t w [] past steps = refl
 none_past bases many t w (entries.Base c ∷ es) past steps = none_past bases many t (after_one w (entries.Base c)) es past steps.1
+none_past bases many t w (entries.Rise k ∷ es) past steps = none_past bases many t w es past steps.1
 none_past bases many t w (entries.Timer e ∷ es) past steps =
     ap (λ b. if b then record { event = e.event; reply = e.reply } ∷ entries_of t es else entries_of t es)
     (ne_eqb e.timer t (λ is. omega (arith, is, past, steps.0.within))) ∙ none_past bases many t (after_one w (entries.Timer e)) es past steps.1

@@ -4,7 +4,7 @@ use Rattle.hr_timers.proofs.Moments.{declared_kept}
 use Rattle.lane_world.proofs.SeenMore.{follows_object}
 use Rattle.call_laws.proofs.Entering.{EntersOne}
 use Rattle.call_laws.proofs.Noted.{notes_of, one_noted, same-trans, same_notes, SameNotes}
-use Rattle.call_laws.proofs.Parts.{part_noted, part_one, part_then}
+use Rattle.call_laws.proofs.Parts.{part_entry, part_noted, part_then}
 use Rattle.lane_notes.specs.Notes.{both_noted}
 use Rattle.lane_notes.specs.Objects.{object_note, skip_note}
 use Rattle.lane_world.proofs.PartLists.{notes_same}
@@ -251,7 +251,7 @@ module _ (s : Script) (x : WorldOf) (is : IsWorldOf s x) (some : 1 ≤ s.limit) 
       let notes = claim.entered.0 ∷ b.notes ++ finish.0 ∷ [] in
       let part : IsPart s (HasRead reading) label k1 p1 k' p' one notes
       (both_noted (notes_of label (first ∷ b.more) b.object_more) (one_noted label (Entered c.timer f.finish (finish_of f)))) =
-      part_then b.part (part_one _ finish) in
+      part_then b.part (part_entry _ _ _ finish) in
       let all : flat_map (fires base at) (run.fired ++ f ∷ []) ≡ done ++ one = rw (flat_map-append (fires base at) run.fired (f ∷ []), append-nil one) refl in
       let cb = h.log.receipts in
       let more = first ∷ (finish_receipt c ran.restart u) ∷ [] in

@@ -11,7 +11,7 @@ use Rattle.call_laws.proofs.Parts.{part_alone, part_as}
 use Rattle.call_laws.proofs.CallKept.{many_there}
 use Rattle.call_laws.proofs.Entering.{enters_shift}
 use Rattle.call_laws.proofs.Noted.{notes_of, one_noted, with_done-joins, with_shift-joins}
-use Rattle.call_laws.proofs.Parts.{part_one}
+use Rattle.call_laws.proofs.Parts.{part_shift}
 use Rattle.call_laws.proofs.Sights.{keeps_sight}
 use Rattle.call_laws.proofs.Stays.{standing_stays, timer_stays}
 use Rattle.lane_notes.specs.Notes.{both_noted}
@@ -164,7 +164,7 @@ module _ {s : Script} {x : WorldOf} {l : LaneOf} (m : LaneOf) {base heir budget 
       → m.notes ≡ with_shift (with_done l.notes l.label log.receipts []) l.label base stamp (shifts.Offline heir) → DoesSo (answers.Offline number stamp)
       → HoldsSo (answers.Offline number stamp) → KeepsCall s l (calls.Offline base heir budget) (answers.Offline number stamp) m
   ended_by_shift number stamp shift counted same notes =
-      ended (answers.Offline number stamp) (part_one _ (enters_shift (many_there next) shift counted)) refl
+      ended (answers.Offline number stamp) (part_shift _ _ _ (enters_shift (many_there next) shift counted)) refl
       (notes ∙ ap (λ ns. with_shift ns l.label base stamp (shifts.Offline heir)) (logged same)
       ∙ with_shift-joins (both_noted l.notes (notes_of l.label off.log [])) l.label base stamp (shifts.Offline heir)
       ∙ both_noted-assoc l.notes (notes_of l.label off.log []) (one_noted l.label (Shifted base stamp (shifts.Offline heir))))
@@ -267,6 +267,6 @@ keeps_online {s = s} {x = x} {l = l} {m = m} {base = base} next c =
     by_answer (ons.Online n) fits notes =
         keeps_part next m (answers.Online n)
         (plain (length (writes m.pass.clock.knows)) (length l.pass.timers.known.seen) (length m.pass.timers.known.seen) (Shifted base n shifts.Online ∷ []))
-        (part_alone {IsSo = λ c. Unit} c.objects (part_one _ (enters_shift (many_there next) fits.0 fits.1))) (λ e goes. tt) (clock_left c.clock)
+        (part_alone {IsSo = λ c. Unit} c.objects (part_shift _ _ _ (enters_shift (many_there next) fits.0 fits.1))) (λ e goes. tt) (clock_left c.clock)
         (notes ∙ with_shift-joins l.notes l.label base n shifts.Online) refl refl tt
         (λ e follows joined has kept low. online_made base n kept low)

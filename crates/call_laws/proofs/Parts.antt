@@ -8,6 +8,7 @@ use Rattle.base_row.specs.declared.log.Receipt.{Receipt}
 use Rattle.hr_timers.specs.Known.{KnownOfTimers, MadeAt, timer_then}
 use Rattle.seq_timer.specs.Histories as seq
 use Rattle.seq_timer.specs.Systems.{openings}
+use Rattle.seq_timer.specs.declared.standing.BaseEvent.{BaseEvent}
 use Rattle.seq_timer.specs.declared.system.SystemEntry.{SystemEntry}
 use Rattle.base_row.specs.Logs.{receipts_of}
 use Rattle.base_row.specs.declared.view.Opening.{Opening}
@@ -123,11 +124,6 @@ pub record IsPart (s : Script) (IsSo : List ClockLine → Type 0) (label : Label
 pub objects_grow : (p q : ObjectsPass) → GoesOn p.knows.pass.seen q.knows.pass.seen → (i : ℕ) → length (seen_of p i) ≤ length (seen_of q i)
 objects_grow p q goes_on i = begins_length (goes_on.each i)
 
--- the action that made an entry, by its receipt
-abbrev pub action_of : ℕ × Shown → Action
-action_of (number, OfTimer t entry) = Entered t number entry
-action_of (number, OfBase b event) = Shifted b number event
-
 -- numbers of none rise between two numbers of entries
 none_between : {X : Type 0} {low high : ℕ} → low ≤ high → RisesTo {X = X} (low + 1) [] (high + 1)
 none_between le = rises_none (omega (arith, le))
@@ -209,13 +205,15 @@ module _ {s : Script} {IsSo : List ClockLine → Type 0} {label : Label} where
       all_done k [] = tt
       all_done k (e ∷ es) = (tt, all_done (k + 1) es)
 
-  -- law: one entry of a timer or a base, by its receipt
-  pub part_one : {v : KnownOfTimers} {p : ObjectsPass} {w : KnownOfTimers} (r : ℕ × Shown) (one : EntersOne s IsSo v w r)
-      → IsPart s IsSo label v p w p (action_of r ∷ []) (one.0 ∷ []) (one_noted label (action_of r))
-  part_one (number, OfTimer t entry) one =
-      timers_only one.1 (ap (λ (x : ℕ × Shown). x ∷ []) one.2) refl refl (tt, tt) (λ i. (refl, refl, refl))
-  part_one (number, OfBase b event) one =
-      timers_only one.1 (ap (λ (x : ℕ × Shown). x ∷ []) one.2) refl refl (tt, tt) (λ i. (refl, refl, refl))
+  -- law: one entry of a timer, by its receipt
+  pub part_entry : {v : KnownOfTimers} {p : ObjectsPass} {w : KnownOfTimers} (t number : ℕ) (entry : Entry) (one : EntersOne s IsSo v w (number, OfTimer t entry))
+      → IsPart s IsSo label v p w p (Entered t number entry ∷ []) (one.0 ∷ []) (one_noted label (Entered t number entry))
+  part_entry t number entry one = timers_only one.1 (ap (λ (x : ℕ × Shown). x ∷ []) one.2) refl refl (tt, tt) (λ i. (refl, refl, refl))
+
+  -- law: one of a base
+  pub part_shift : {v : KnownOfTimers} {p : ObjectsPass} {w : KnownOfTimers} (b number : ℕ) (event : BaseEvent) (one : EntersOne s IsSo v w (number, OfBase b event))
+      → IsPart s IsSo label v p w p (Shifted b number event ∷ []) (one.0 ∷ []) (one_noted label (Shifted b number event))
+  part_shift b number event one = timers_only one.1 (ap (λ (x : ℕ × Shown). x ∷ []) one.2) refl refl (tt, tt) (λ i. (refl, refl, refl))
 
   -- law: an entry of an object
   pub part_made : {v : KnownOfTimers} {p q : ObjectsPass} {id : ℕ} {step : ObjectMove} {entry : ObjectEntry}
@@ -351,7 +349,7 @@ module _ {s : Script} {label : Label} {base : ℕ} {c : ClaimNumbers} {reading :
       (notes_of label (claim_receipt reading c ∷ more) object_more)
   part_claimed more object_more part =
       part_logged (claim_receipt reading c ∷ []) more [] object_more (subst (IsPart s (HasRead reading) label k p v p _ _)
-      (ap (λ b. one_noted label (Entered c.timer c.number (claim_in b reading.stamp c))) (sym claim.there)) (part_one _ claim.entered)) part
+      (ap (λ b. one_noted label (Entered c.timer c.number (claim_in b reading.stamp c))) (sym claim.there)) (part_entry _ _ _ claim.entered)) part
 
   -- law: a claim, and behind it a look at its timer
   pub part_looked : (number : ℕ) (event : Event) (observation : Observation) (reply : CallbackReply) → Begins v.seen w.seen → w.mine ≡ v.mine

@@ -9,13 +9,14 @@ use Rattle.script_text.specs.declared.script.Script.{Script}
 use Rattle.run_history.specs.Actions.{also}
 use Rattle.run_history.specs.Histories.{lines_of_base}
 use Rattle.run_history.specs.Runs.{Ending, IsEnding, witness_of}
-use Rattle.run_history.specs.Witnesses.{BasesList, Move, OfBase, OfTimer, Shown, entry_of_move, line_of_base, moves_from, moves_on}
+use Rattle.run_history.specs.Witnesses.{BasesList, Move, OfBase, OfRise, OfTimer, Shown, entry_of_move, line_of_base, moves_from, moves_on}
 use Rattle.run_history.proofs.Run.{joined_from}
 
 -- the event that a base's line shows
 abbrev event_in : Shown → BaseEvent
 event_in (OfTimer t entry) = shifts.Online
 event_in (OfBase b event) = event
+event_in (OfRise k) = shifts.Online
 
 shifts_in : (clock : List ClockLine) (b : ℕ) (ms : List Move)
     → shifts_of b (map (entry_of_move clock) ms) ≡ map (λ m. event_in m.shown) (moves_on (BasesList b) ms)
@@ -25,6 +26,7 @@ shifts_in clock b (m ∷ ms) = here (shifts_in clock b ms) m.shown
     here : shifts_of b (map (entry_of_move clock) ms) ≡ map (λ n. event_in n.shown) (moves_on (BasesList b) ms) → (shown : Shown) → shifts_of b (map (entry_of_move clock) (record m { shown = shown } ∷ ms))
         ≡ map (λ n. event_in n.shown) (moves_on (BasesList b) (record m { shown = shown } ∷ ms))
     here rest (OfTimer t entry) = rest
+    here rest (OfRise k) = rest
     here rest (OfBase c event) =
         elim (nat_eq c b) as (λ x. (if x then event ∷ shifts_of b (map (entry_of_move clock) ms) else shifts_of b (map (entry_of_move clock) ms))
         ≡ map (λ (n : Move). event_in n.shown) (also x (record m { shown = OfBase c event }) (moves_on (BasesList b) ms))) [

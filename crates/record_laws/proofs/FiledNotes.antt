@@ -28,7 +28,7 @@ use Rattle.run_history.specs.Actions.{also}
 use Rattle.run_history.specs.Order.{IsLabel}
 use Rattle.script_text.specs.declared.script.Script.{Script}
 use Rattle.run_history.specs.Receipts.{AreFiled, Filed, files_on, IsAhead, IsMade, line_filed, PlacedEntry, RiseBy}
-use Rattle.run_history.specs.Witnesses.{BasesList, OfBase, OfTimer, Owner, ShownLine, TimersList, is_owner, line_of_base, line_of_timer, lines_at, owner_of}
+use Rattle.run_history.specs.Witnesses.{BasesList, CountersList, OfBase, OfTimer, Owner, ShownLine, TimersList, is_owner, line_of_base, line_of_timer, lines_at, owner_of}
 use Rattle.run_history.specs.Runs.{CallLog}
 use Rattle.run_history.proofs.Known.{behind_all, rises_lower}
 use Rattle.run_history.proofs.Laid.{same_place}
@@ -38,7 +38,7 @@ use Rattle.lane_world.proofs.PartLists.{each_weaker}
 use Rattle.lane_world.proofs.Left.{AreLastOf, AreLeft}
 use Rattle.lane_world.specs.Worlds.{WorldOf}
 use Rattle.lane_world.specs.declared.WorldPass.{WorldPass}
-use Rattle.record_laws.proofs.LastSeen.{base_lines_are, entries_once, has_receipt, HasReceipt, is_told, note_made, noted_at, shifts_once, timer_lines_are}
+use Rattle.record_laws.proofs.LastSeen.{base_lines_are, entries_once, has_receipt, HasReceipt, is_told, none_past, note_made, noted_at, shifts_once, timer_lines_are}
 use Rattle.record_laws.proofs.Numbered.{as_many, at_most_one, number_within}
 
 -- ---- notes with their receipts
@@ -124,6 +124,19 @@ no_bases_on : (t : ℕ) (bs : List BaseNote) → filter (is_on (TimersList t)) (
 no_bases_on t [] = refl
 no_bases_on t (b ∷ bs) = no_bases_on t bs
 
+-- no note is of a counter
+no_counters_on : (k : ℕ) (ns : NotesOf) → filter (is_on (CountersList k)) (told_notes ns) ≡ []
+no_counters_on k ns = filter-append (is_on (CountersList k)) (map of_entry ns.entries) (map of_base ns.bases)
+    ∙ ap (λ zs. zs ++ filter (is_on (CountersList k)) (map of_base ns.bases)) (of_entries ns.entries) ∙ of_bases ns.bases
+  where
+    of_entries : (es : List EntryNote) → filter (is_on (CountersList k)) (map of_entry es) ≡ []
+    of_entries [] = refl
+    of_entries (e ∷ es) = of_entries es
+
+    of_bases : (bs : List BaseNote) → filter (is_on (CountersList k)) (map of_base bs) ≡ []
+    of_bases [] = refl
+    of_bases (b ∷ bs) = of_bases bs
+
 of_timer_told : (t : ℕ) (ns : NotesOf) → map line_told (filter (is_on (TimersList t)) (told_notes ns))
     ≡ map (λ n. record { label = n.label; shown = OfTimer t n.entry }) (filter (is_of_list place_of_entry t) ns.entries)
 of_timer_told t ns =
@@ -206,6 +219,7 @@ module _ {s : Script} {x : WorldOf} {q : WorldPass} {notes sorted : NotesOf} {lo
       each_line : (bs : List BaseNote) → map (line_of_base b) (map base_line bs) ≡ map (λ n. record { label = n.label; shown = OfBase b n.event }) bs
       each_line [] = refl
       each_line (n ∷ bs) = ap (λ zs. record { label = n.label; shown = OfBase b n.event } ∷ zs) (each_line bs)
+  lines_filed (CountersList k) = sym (shapes (CountersList k) ∙ ap (map line_told) (no_counters_on k sorted))
 
   -- and as many
   many_filed : (o : Owner) → length (files_on o filed_notes) ≡ receipts.count o seen
@@ -215,6 +229,9 @@ module _ {s : Script} {x : WorldOf} {q : WorldPass} {notes sorted : NotesOf} {lo
   many_filed (BasesList b) =
       sym (length-map (files_on (BasesList b) filed_notes) line_filed) ∙ ap length (shapes (BasesList b) ∙ of_base_told b sorted)
       ∙ length-map (filter (is_of_list place_of_base b) sorted.bases) _ ∙ as_many is.bases (shifts_once last left b)
+  many_filed (CountersList k) =
+      sym (length-map (files_on (CountersList k) filed_notes) line_filed) ∙ ap length (shapes (CountersList k) ∙ ap (map line_told) (no_counters_on k sorted))
+      ∙ sym (none_past last (CountersList k) (λ there. there))
 
   -- law: the record's lines of timers and bases are the receipts of all calls, sorted
   pub are_filed : AreFiled (record_from s.version sorted s.bases (length s.timers) answers) seen (λ c. (logs c).notes) filed_notes

@@ -4,12 +4,12 @@ use Rattle.std.proofs.Common.{◌≡◌, ℕ, ◌<◌, ◌≤◌, zero, suc, Som
 use Rattle.std.specs.List.{slice_get}
 use Rattle.std.proofs.Math.Logic.{⊎_elim}
 use Rattle.std.proofs.lemmas.Bool.{and_right, cases_lt, lt-leb, and_parts, eqb-true}
-use Rattle.std.proofs.lemmas.List.{get_or_past, length-map}
-use Rattle.std.proofs.lemmas.Option.{same_Some}
+use Rattle.std.proofs.lemmas.List.{get_or_past, length-map, take_all}
+use Rattle.std.proofs.lemmas.Option.{same_Some, slice_get_within}
 use Rattle.clock_cell.specs.Views.{writes}
 use Rattle.pass_names.specs.Counts.{count, one_if}
 use Rattle.pass_names.specs.Passes.{within}
-use Rattle.seq_timer.specs.Systems.{after_one, AreSystemSteps, MayCome, shifts_of, System}
+use Rattle.seq_timer.specs.Systems.{after_one, AreSystemSteps, MayCome, rises_of, shifts_of, System}
 use Rattle.seq_timer.specs.declared.system.SystemEntry.{SystemEntry}
 use Rattle.seq_timer.specs.declared.system.SystemEntry.TheVariants as entries
 use Rattle.std.specs.List.{AllByRecursion}
@@ -34,9 +34,10 @@ use Rattle.script_text.specs.declared.script.Script.{Script}
 use Rattle.run_history.specs.Receipts.{IsMade, PlacedEntry, receipt}
 use Rattle.run_history.specs.Runs.{CallLog}
 use Rattle.run_history.proofs.Labels.{label_itself, same_label}
+use Rattle.run_history.proofs.Laid.{counts_more}
 use Rattle.run_history.proofs.Lists.{all_at, at_left, each}
 use Rattle.run_history.proofs.Owners.{count_is, entries_at}
-use Rattle.run_history.specs.Witnesses.{BasesList, Owner, Shown, TimersList, owner_of, owner_of_entry}
+use Rattle.run_history.specs.Witnesses.{BasesList, CountersList, Owner, Shown, TimersList, owner_of, owner_of_entry}
 use Rattle.lane_world.proofs.Kept.{ToldNote, base_note_place, note_place, of_base, of_entry, own_notes, told_in, told_notes}
 use Rattle.lane_world.proofs.Left.{AreLastOf, AreLeft}
 use Rattle.lane_world.specs.Worlds.{WorldOf}
@@ -51,14 +52,16 @@ use Rattle.run_history.specs.Objects.{lines_of_object}
 
 -- ---- entries and receipts
 
--- an entry is of a timer or a base that is there
+-- an entry of a timer or of a base is of one that is there
 abbrev pub IsWithin : ℕ → ℕ → SystemEntry → Type 0
 IsWithin bases many (entries.Timer e) = e.timer < many
 IsWithin bases many (entries.Base c) = c.base < bases
+IsWithin bases many (entries.Rise k) = Unit
 
 within_step : (bases many : ℕ) (w : System) (x : SystemEntry) → MayCome bases many w x → IsWithin bases many x
 within_step bases many w (entries.Timer e) step = step.within
 within_step bases many w (entries.Base c) step = step.within
+within_step bases many w (entries.Rise k) step = tt
 
 entry_within : (bases many : ℕ) (w : System) (es : List SystemEntry) (p : ℕ) (e : SystemEntry) → AreSystemSteps bases many w es
     → slice_get es p ≡ Some e → IsWithin bases many e
@@ -164,10 +167,11 @@ base_at many b n (x ∷ bs) =
     ∙ ap (λ k. one_if ((x.base == b) && (x.number == n)) + k) (base_at many b n bs)
 
 module _ {s : Script} {x : WorldOf} {q : WorldPass} (last : AreLastOf s x q) where
-  -- whether a list is there
+  -- whether a list is there; no counter is
   abbrev pub IsThere : Owner → Type 0
   IsThere (TimersList t) = t < length s.timers
   IsThere (BasesList b) = b < s.bases
+  IsThere (CountersList k) = ⊥
 
   many_timers : length x.timers.about.timers ≡ length s.timers
   many_timers = ap (λ (o : Opening). length o.timers) last.world.timers ∙ length-map (declareds_of s) _ ∙ length-map s.timers declared_as
@@ -175,14 +179,26 @@ module _ {s : Script} {x : WorldOf} {q : WorldPass} (last : AreLastOf s x q) whe
   many_bases : x.timers.about.bases ≡ s.bases
   many_bases = ap (λ (o : Opening). o.bases) last.world.timers
 
-  there_within : (p : ℕ) (e : SystemEntry) → slice_get q.timers.known.seen p ≡ Some e → IsWithin s.bases (length s.timers) e
-  there_within p e at = subst (λ n. IsWithin n (length s.timers) e) many_bases (subst (λ n. IsWithin x.timers.about.bases n e) many_timers
-      (entry_within _ _ _ q.timers.known.seen p e last.passes.timers.knows.history at))
+  no_counters : x.timers.about.counters ≡ 0
+  no_counters = ap (λ (o : Opening). o.counters) last.world.timers
 
-  -- so is the list of an entry that was seen
-  owner_within : (o : Owner) (e : SystemEntry) → owner_of_entry e ≡ o → IsWithin s.bases (length s.timers) e → IsThere o
-  owner_within o (entries.Timer e) is in_it = subst IsThere is in_it
-  owner_within o (entries.Base c) is in_it = subst IsThere is in_it
+  -- no rise was seen
+  none_rose : (p k : ℕ) → slice_get q.timers.known.seen p ≡ Some (entries.Rise k) → ⊥
+  none_rose p k at =
+      let seen = q.timers.known.seen in
+      let never : rises_of k seen ≡ 0 = last.passes.timers.knows.counters k (subst (λ n. n ≤ k) (sym no_counters) (omega arith)) in
+      let more = counts_more seen p (length seen) (CountersList k) (entries.Rise k) at refl (slice_get_within seen p (entries.Rise k) at) in
+      omega (arith, more, ap (rises_of k) (take_all (length seen) seen (omega arith)), never)
+
+  -- the list of an entry that was seen is there
+  there_within : (p : ℕ) (e : SystemEntry) → slice_get q.timers.known.seen p ≡ Some e → IsThere (owner_of_entry e)
+  there_within p e at = here e at (subst (λ n. IsWithin n (length s.timers) e) many_bases (subst (λ n. IsWithin x.timers.about.bases n e) many_timers
+      (entry_within _ _ _ q.timers.known.seen p e last.passes.timers.knows.history at)))
+    where
+      here : (e : SystemEntry) → slice_get q.timers.known.seen p ≡ Some e → IsWithin s.bases (length s.timers) e → IsThere (owner_of_entry e)
+      here (entries.Timer e) at in_it = in_it
+      here (entries.Base c) at in_it = in_it
+      here (entries.Rise k) at in_it = none_rose p k at
 
   pub many_objects : length q.objects.knows.opening ≡ length s.timers
   many_objects = ap length last.passes.objects.row.made ∙ length-map x.objects.decls _ ∙ ap length last.world.decls ∙ length-map s.timers _
@@ -191,17 +207,17 @@ module _ {s : Script} {x : WorldOf} {q : WorldPass} (last : AreLastOf s x q) whe
   pub objects_past : (i : ℕ) → length s.timers ≤ i → seen_of q.objects i ≡ []
   objects_past i past = get_or_past q.objects.knows.pass.seen i [] (subst (λ n. n ≤ i) (sym (last.passes.objects.knows.wide ∙ many_objects)) past)
 
-  -- law: nor of a timer or a base that isn't there
+  -- law: nor of a timer, a base or a counter that isn't there
   pub none_past : (o : Owner) → (IsThere o → ⊥) → receipts.count o q.timers.known.seen ≡ 0
   none_past o past = count_is o q.timers.known.seen ∙ ap length (nobody (entries_at o q.timers.known.seen) (λ e st.
       let at = entry_place o st.0 e q.timers.known.seen st.1 in
-      past (owner_within o e at.owner (there_within at.place e at.there))))
+      past (subst IsThere at.owner (there_within at.place e at.there))))
 
   module _ {notes : NotesOf} {logs : Label → CallLog} (left : AreLeft s q notes logs) where
     -- law: a note is of a timer or a base that is there
     pub note_within : (n : ToldNote) → HasPlace (told_notes notes) n → IsThere (owner_of n.shown)
     note_within n st = let made = note_made left n (has_receipt left n st) in
-        owner_within (owner_of n.shown) made.step made.owner (there_within _ made.step made.there)
+        subst IsThere made.owner (there_within _ made.step made.there)
 
     -- where a list isn't there no number of it is noted
     none_noted_past : {X : Type 0} (place : X → Place) (l : ℕ) (xs : List X) (o : Owner) → (IsThere o → ⊥)
