@@ -19,13 +19,13 @@ use Rattle.record_text.specs.declared.record.Answer.{Answer}
 use Rattle.record_text.specs.declared.record.CallbackReply.{CallbackReply}
 use Rattle.record_text.specs.declared.record.Label.{Label}
 use Rattle.record_text.specs.declared.record.ObjectEntry.{ObjectEntry}
-use Rattle.run_history.specs.Witnesses.{OfBase, OfTimer, Shown, TimersList, Trace}
-use Rattle.run_history.specs.Fits.{Seen}
+use Rattle.run_history.specs.Witnesses.{OfBase, OfRise, OfTimer, Shown, TimersList, Trace}
+use Rattle.run_history.specs.Fits.{FitsCall, ReadsInTurn, Seen}
 use Rattle.run_history.specs.Promises as promises
-use Rattle.run_history.specs.Promises.{GoesOnClock, IsPromised}
+use Rattle.run_history.specs.Promises.{GoesOnClock, HasLog, IsPromised}
 use Rattle.run_history.specs.Receipts as receipts
 use Rattle.run_history.specs.Receipts.{IsMade, PlacedEntry, receipt, Rises, ShowsEntry}
-use Rattle.run_history.specs.Runs.{CallLog, Ending}
+use Rattle.run_history.specs.Runs.{CallLog, Ending, IsJoined, witness_of}
 use Rattle.run_history.specs.Actions.{Action, also, looked, made, skipped, wrote}
 use Rattle.run_history.specs.Histories.{ShowsReading}
 use Rattle.run_history.specs.Objects.{lines_of_object}
@@ -137,7 +137,7 @@ own_notes c notes = record {
   writes = filter (λ n. is_label c n.line.label) notes.writes;
 }
 
--- a note of an entry, of a timer's or of a base's
+-- a note of an entry, of a timer's or of a base's, or of a write of the clock
 pub record ToldNote : Type 0 where
   pub label : Label
   pub number : ℕ
@@ -149,9 +149,12 @@ of_entry n = record { label = n.label; number = n.number; shown = OfTimer n.time
 abbrev pub of_base : BaseNote → ToldNote
 of_base n = record { label = n.label; number = n.number; shown = OfBase n.base n.event }
 
+abbrev pub of_write : WriteNote → ToldNote
+of_write n = record { label = n.line.label; number = n.stamp; shown = OfRise 0 }
+
 -- all of them
 abbrev pub told_notes : NotesOf → List ToldNote
-told_notes notes = map of_entry notes.entries ++ map of_base notes.bases
+told_notes notes = map of_entry notes.entries ++ (map of_base notes.bases ++ map of_write notes.writes)
 
 -- what such a note says but for its label
 abbrev pub told_in : ToldNote → ℕ × Shown
@@ -277,3 +280,17 @@ pub record KeepsCall (s : Script) (l : LaneOf) (call : Call) (a : Answer) (m : L
   pub stand : StandAt m.pass (log_of l.pass m.pass notes trace)
   -- the promise
   pub promised : IsPromised s l.label.lane l.label.call (log_of l.pass m.pass notes trace) (Follows m.pass) call a (seen_by l.pass) (seen_by m.pass)
+
+-- What a lane keeps of a call with its reading: where it took one it had seen more of timers and clock before the call's own part, and had made nothing.
+pub record KeepsTurn (s : Script) (l : LaneOf) (call : Call) (a : Answer) (m : LaneOf) : Type 0 where
+  pub begun : LaneOf
+  pub label : begun.label ≡ l.label
+  pub notes : begun.notes ≡ l.notes
+  pub sees : SeesOn l.pass begun.pass
+  pub timers : begun.pass.timers.known.mine ≡ l.pass.timers.known.mine
+  pub objects : begun.pass.objects.knows.pass.mine ≡ l.pass.objects.knows.pass.mine
+  pub clock : begun.pass.clock.knows.pass.mine ≡ l.pass.clock.knows.pass.mine
+  pub kept : KeepsCall s begun call a m
+  pub read : (e : Ending) → Follows m.pass e → HasLog e l.label (log_of begun.pass m.pass kept.notes kept.trace) → IsJoined s e
+      → FitsCall (witness_of s e) l.label call a (seen_by begun.pass) (seen_by m.pass)
+      → ReadsInTurn (witness_of s e) l.label call (length l.pass.timers.known.seen)

@@ -1,10 +1,13 @@
 -- What each call of a lane does and answers: what its passes know before and after it, and what it notes.
-use Rattle.std.specs.Prelude.{ℕ, ◌≡◌, Bool, true, false, List, [], ◌∷◌, ◌++◌, length, Result, Ok, Err}
+use Rattle.std.specs.Prelude.{ℕ, ◌≡◌, Bool, true, false, List, [], ◌∷◌, ◌++◌, length, MatchBool, Result, Ok, Err}
 use Rattle.ktime.specs.Readings.{ClockReading}
 use Rattle.clock_model.specs.declared.write.ClockFault.TheVariants as faults
 use Rattle.clock_model.specs.declared.write.Write.{Write}
 use Rattle.clock_cell.specs.Views.{AnswersWrite, seen_reading, writes}
 use Rattle.pass_names.specs.Passes.{Looks}
+use Rattle.pass_names.specs.SharedHistory.{LooksOn}
+use Rattle.ordered_clock.specs.Moments.{HasPlace, ReadsAt}
+use Rattle.run_history.specs.Fits.{reads_clock}
 use Rattle.seq_timer.specs.declared.event.EventBy.TheVariants as events
 use Rattle.seq_timer.specs.Events.{Asked, Event}
 use Rattle.seq_timer.specs.Calls.{asked_for}
@@ -87,15 +90,24 @@ LeavesRest old new = (new.label ≡ old.label) × (new.answers ≡ old.answers) 
 abbrev pub with_done : NotesOf → Label → List Receipt → List ObjectReceipt → NotesOf
 with_done notes label log object_log = with_object_receipts (with_receipts notes label log) label object_log
 
--- the clock was read
-pub record ReadsClock (p q : WorldPass) (r : ClockReading) : Type 0 where
-  pub shows : r ≡ seen_reading q.clock.knows
-  pub count : r.stamp ≡ length (writes q.clock.knows)
-  pub looks : Looks p.clock.knows.pass q.clock.knows.pass
-
 -- the clock was left alone
 abbrev pub LeavesClock : WorldPass → WorldPass → Type 0
 LeavesClock p q = q.clock ≡ p.clock
+
+-- the clock was left alone, of which this is the reading that the passes have seen
+pub record ReadsClock (p q : WorldPass) (r : ClockReading) : Type 0 where
+  pub same : LeavesClock p q
+  pub shows : r ≡ seen_reading q.clock.knows
+  pub count : r.stamp ≡ length (writes q.clock.knows)
+
+-- The clock was read, at a moment among the entries of timers: the lane has seen more of both, and all else is as it was.
+pub record ReadsFirst (l m : LaneOf) : Type 0 where
+  pub label : m.label ≡ l.label
+  pub notes : m.notes ≡ l.notes
+  pub objects : m.pass.objects ≡ l.pass.objects
+  pub timers : LooksOn l.pass.timers.known m.pass.timers.known
+  pub clock : Looks l.pass.clock.knows.pass m.pass.clock.knows.pass
+  pub moment : ReadsAt l.pass.timers.known.seen m.pass.timers.known.seen (length (writes m.pass.clock.knows))
 
 -- what the lane's passes know, with these logs of a call
 abbrev pub lane_caller : WorldPass → List Receipt → List ObjectReceipt → Caller
@@ -240,7 +252,8 @@ module _ (x : WorldOf) (l m : LaneOf) (a : Answer) where
   pub record CallsWrite (write : Write) : Type 0 where
     pub answer : Result ClockReading ClockFault
     pub writes : AnswersWrite write l.pass.clock.knows m.pass.clock.knows answer
-    pub timers : m.pass.timers ≡ l.pass.timers
+    pub places : HasPlace l.pass.timers.known m.pass.timers.known m.pass.clock.knows answer
+    pub timers : LooksOn l.pass.timers.known m.pass.timers.known
     pub objects : m.pass.objects ≡ l.pass.objects
     pub notes : m.notes ≡ with_write_told l.notes l.label write answer
     pub told : a ≡ write_told answer
@@ -301,29 +314,41 @@ module _ (x : WorldOf) (l m : LaneOf) (a : Answer) where
     pub notes : m.notes ≡ l.notes
     pub told : a ≡ answers.Overrun found.overrun found.stamp
 
--- what a call does and answers
-abbrev pub Called : WorldOf → LaneOf → Call → Answer → LaneOf → Type 0
-Called x l (calls.Start timer request) a m = CallsStart x l m a timer request
-Called x l (calls.Cancel timer) a m = CallsCancel x l m a timer
-Called x l (calls.Peek timer) a m = CallsPeek x l m a timer
-Called x l (calls.Expire context base budget) a m = CallsExpire x l m a context base budget
-Called x l (calls.Clock write) a m = CallsWrite x l m a write
-Called x l (calls.Settime timer flags value interval) a m =
+-- what a call does and answers, by a reading that was taken where it takes one
+abbrev pub CalledThen : WorldOf → LaneOf → Call → Answer → LaneOf → Type 0
+CalledThen x l (calls.Start timer request) a m = CallsStart x l m a timer request
+CalledThen x l (calls.Cancel timer) a m = CallsCancel x l m a timer
+CalledThen x l (calls.Peek timer) a m = CallsPeek x l m a timer
+CalledThen x l (calls.Expire context base budget) a m = CallsExpire x l m a context base budget
+CalledThen x l (calls.Clock write) a m = ⊥
+CalledThen x l (calls.Settime timer flags value interval) a m =
     (s : SettimeAnswer) × (a ≡ settime_told s)
     × CallsObject x l m a (λ old new reading. Settimes x.objects x.timers.about old new timer flags value interval reading s)
-Called x l (calls.Gettime timer) a m =
+CalledThen x l (calls.Gettime timer) a m =
     (g : Gettime) × CallsObject x l m a (λ old new reading.
     Gettimes x.objects x.timers.about old new timer reading (decl_at x.objects timer).kind g
     × (a ≡ gettime_told (decl_at x.objects timer).kind reading.stamp g))
-Called x l (calls.Accept timer) a m =
+CalledThen x l (calls.Accept timer) a m =
     (s : AcceptAnswer) × (a ≡ accept_told s)
     × CallsObject x l m a (λ old new reading. Accepts x.objects x.timers.about old new timer reading s)
-Called x l (calls.Overrun timer) a m = CallsOverrun x l m a timer
-Called x l (calls.Read timer len) a m =
+CalledThen x l (calls.Overrun timer) a m = CallsOverrun x l m a timer
+CalledThen x l (calls.Read timer len) a m =
     (s : ReadAnswer) × (a ≡ read_told s)
     × CallsObject x l m a (λ old new reading. ReadsFd x.objects x.timers.about old new timer len reading s)
-Called x l (calls.Readable timer) a m =
+CalledThen x l (calls.Readable timer) a m =
     (found : Readable) × CallsObject x l m a (λ old new reading.
     LooksReadable old new timer reading found × (a ≡ answers.Readable found.ready reading.stamp found.stamp))
-Called x l (calls.Offline base heir budget) a m = CallsOffline x l m a base heir budget
-Called x l (calls.Online base) a m = CallsOnline x l m a base
+CalledThen x l (calls.Offline base heir budget) a m = CallsOffline x l m a base heir budget
+CalledThen x l (calls.Online base) a m = CallsOnline x l m a base
+
+-- a call that begins with a reading
+pub record CallsReading (x : WorldOf) (l m : LaneOf) (call : Call) (a : Answer) : Type 0 where
+  pub begun : LaneOf
+  pub reads : ReadsFirst l begun
+  pub called : CalledThen x begun call a m
+  pub clock : LeavesClock begun.pass m.pass
+
+-- what a call does and answers
+abbrev pub Called : WorldOf → LaneOf → Call → Answer → LaneOf → Type 0
+Called x l (calls.Clock write) a m = CallsWrite x l m a write
+Called x l call a m = MatchBool (reads_clock call) (CallsReading x l m call a) (CalledThen x l call a m)

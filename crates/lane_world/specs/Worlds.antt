@@ -56,7 +56,7 @@ decl_of d = decl_as d.kind d.clock
 
 -- the world is this script's: its timers on their clocks and bases, with its limit, and what stands over each
 pub record IsWorldOf (s : Script) (x : WorldOf) : Type 0 where
-  pub timers : x.timers.about ≡ rows.opening_of s.bases (declareds_of s) (terms_of s)
+  pub timers : x.timers.about ≡ rows.opening_with s.bases (declareds_of s) (terms_of s) 1
   pub decls : x.objects.decls ≡ map decl_of s.timers
   pub limit : x.objects.limit ≡ s.limit
   pub callbacks : x.callbacks ≡ map (λ d. callback_of d.kind) s.timers
@@ -67,6 +67,8 @@ pub record IsWhole (x : WorldOf) : Type 0 where
   pub callbacks : length x.callbacks ≡ length x.objects.decls
   pub bases : bases_of x.callbacks ≤ x.timers.about.bases
   pub few : x.timers.about.bases ≤ 64
+  -- the timers have a counter for the clock's writes
+  pub counts : 0 < x.timers.about.counters
 
 -- ---- passes
 

@@ -1,6 +1,6 @@
 -- What it means that a record fits a script: each call is there once, in the order of its lane, all timers' and bases' entries are one
 -- history, in which the clock's writes and readings have their places, and each object's are one history.
-use Rattle.std.specs.Prelude.{ℕ, ◌≡◌, ◌≤◌, ◌+◌, false, List, [], ◌∷◌, length, map}
+use Rattle.std.specs.Prelude.{ℕ, ◌≡◌, ◌≤◌, ◌+◌, Bool, true, false, MatchBool, List, [], ◌∷◌, length, map}
 use Rattle.std.specs.List.{AllByRecursion}
 use Rattle.clock_model.specs.Clocks.{at_stamp}
 use Rattle.script_text.specs.declared.script.Call.{Call}
@@ -52,6 +52,14 @@ pub record FitsCall (w : Witness) (c : Label) (call : Call) (answer : Answer) (b
   pub move_steps : (before.moves ≤ (w.traces c).first) × ((w.traces c).last ≤ after.moves)
   pub object_steps : (i : ℕ) → NeverFall (before.objects i) (object_steps_on i call answer (w.traces c).actions) (after.objects i)
 
+-- whether a call reads the clock
+abbrev pub reads_clock : Call → Bool
+reads_clock (calls.Cancel timer) = false
+reads_clock (calls.Peek timer) = false
+reads_clock (calls.Overrun timer) = false
+reads_clock (calls.Online base) = false
+reads_clock call = true
+
 -- A call read the clock at a moment behind all that its lane had seen, and no later than its first, at which it had made no entry: so many of the clock's
 -- writes as its reading has stood before that moment.
 pub record HasRead (w : Witness) (c : Label) (from : ℕ) : Type 0 where
@@ -60,13 +68,9 @@ pub record HasRead (w : Witness) (c : Label) (from : ℕ) : Type 0 where
   pub before : moment ≤ (w.traces c).first
   pub writes : writes_along w moment ≡ (w.traces c).at
 
--- so each call but those that don't read the clock
+-- so each call that reads the clock
 abbrev pub ReadsInTurn : Witness → Label → Call → ℕ → Type 0
-ReadsInTurn w c (calls.Cancel timer) from = Unit
-ReadsInTurn w c (calls.Peek timer) from = Unit
-ReadsInTurn w c (calls.Overrun timer) from = Unit
-ReadsInTurn w c (calls.Online base) from = Unit
-ReadsInTurn w c call from = HasRead w c from
+ReadsInTurn w c call from = MatchBool (reads_clock call) (HasRead w c from) Unit
 
 -- one call in its lane's turn
 abbrev pub FitsInTurn : Witness → Label → Call → Answer → Seen → Seen → Type 0
