@@ -21,7 +21,6 @@ use Rattle.seq_timer.specs.declared.system.SystemEntry.{SystemEntry}
 use Rattle.seq_timer.specs.Calls.{asked_for, entries_along}
 use Rattle.seq_timer.specs.declared.answer.ForwardAnswer.{ForwardAnswer}
 use Rattle.seq_timer.specs.declared.answer.ForwardAnswer.TheVariants as forwards
-use Rattle.base_row.specs.Calls.{opening_of}
 use Rattle.base_row.specs.declared.view.Opening.{Opening}
 use Rattle.hr_timers.specs.Calls.{Forwards, StartsTimer}
 use Rattle.hr_timers.specs.Known.{KnownOfTimers, MadeAt, timer_then}
@@ -54,7 +53,7 @@ use Rattle.run_history.specs.Runs.{witness_of, Ending, IsJoined}
 use Rattle.run_history.specs.Truths.{WasOffLine}
 use Rattle.run_history.specs.Witnesses.{TimersList}
 use Rattle.lane_world.proofs.SeenMore.{begins_same, count_begins}
-use Rattle.lane_world.specs.Worlds.{callback_of}
+use Rattle.lane_world.specs.Worlds.{callback_of, opening_for}
 use Rattle.call_laws.proofs.Entering.{enters_none, stamp_counts}
 use Rattle.run_history.proofs.Stamped.{HasReading, entry_stamped}
 use Rattle.call_laws.proofs.Parts.{BodyKept, HasRead, IsClaimed, fired_of, part_at, part_claimed, part_looked}
@@ -65,7 +64,7 @@ use Rattle.call_laws.proofs.Starts.{arming_of, is_arming, limit_within}
 
 -- ---- timers by themselves
 
-module _ (s : Script) (o : Opening) (is : o ≡ opening_of s.bases (declareds_of s) (terms_of s)) (some : 1 ≤ s.limit)
+module _ (s : Script) (o : Opening) (is : o ≡ opening_for s) (some : 1 ≤ s.limit)
     (label : Label) (c : ClaimNumbers) (reading : ClockReading) {base : ℕ} {k v : KnownOfTimers}
     (claim : IsClaimed s base c reading k v) (restart : Restart) (w : KnownOfTimers) (h h' : Firing)
     (same : h'.objects_pass.now ≡ h.objects_pass.now) (same_log : h'.object_log.receipts ≡ h.object_log.receipts) where

@@ -32,13 +32,14 @@ use Rattle.run_history.proofs.Kept.{IsKept}
 use Rattle.run_history.proofs.Known.{AreMade}
 use Rattle.run_history.proofs.Promise.{kept_from, reading_seen}
 use Rattle.lane_world.specs.Called.{LaneOf, LeavesClock, ReadsClock}
-use Rattle.lane_world.proofs.Kept.{base_note_place, entries_told, note_place, places_noted, told_in, of_base, of_entry, Follows, IsNextCall, log_of, seen_by, SeesOn, StandAt}
+use Rattle.lane_world.proofs.Kept.{base_note_place, entries_told, note_place, places_noted, told_in, of_base, of_entry, of_write, Follows, IsNextCall, log_of, seen_by, SeesOn, StandAt}
 use Rattle.lane_world.proofs.SeenMore.{begins_same}
 use Rattle.lane_world.specs.Worlds.{WorldOf}
 use Rattle.lane_world.specs.declared.WorldPass.{WorldPass}
 use Rattle.lane_world.proofs.Kept.{told_notes}
 use Rattle.std.proofs.lemmas.Simd.{map-map}
-use Rattle.std.proofs.lemmas.List.{take_all, map-append}
+use Rattle.std.proofs.lemmas.List.{append-nil, take_all, map-append}
+use Rattle.lane_notes.specs.declared.notes.WriteNote.{WriteNote}
 use Rattle.std.proofs.lemmas.Bool.{eqb-true}
 use Rattle.lane_world.proofs.PartLists.{falls_on}
 use Rattle.timer_objects.specs.Known.{ObjectsPass}
@@ -62,15 +63,18 @@ count_permuted : {A : Type 0} (p : A → Bool) (xs ys : List A) → IsPermutatio
 count_permuted p xs ys is =
     omega (arith, fold_total (λ x. one_if (p x)) 0 xs, fold_total (λ x. one_if (p x)) 0 ys, sum_by-IsPermutation (λ x. one_if (p x)) xs ys is)
 
--- law: the places of a call's receipts are those of its notes, which tell the same in another order
+-- law: the places of a call's receipts are those of its notes, which tell the same in another order and have no write among them
 pub places_told : (s : Script) (mine new : List (ℕ × ℕ)) (notes : List PlacedEntry) (added : NotesOf) → new ≡ mine ++ map (place_of s) notes
-    → IsPermutation (map receipt notes) (entries_told added) → (i n : ℕ)
+    → IsPermutation (map receipt notes) (entries_told added) → added.writes ≡ [] → (i n : ℕ)
     → count (is_place i n) new ≡ count (is_place i n) mine + places_noted (length s.timers) i n added
-places_told s mine new notes added is same i n =
+places_told s mine new notes added is same none i n =
     let test = is_place i n in
     let place = place_told s in
     let of_notes : map place (entries_told added) ≡ map note_place added.entries ++ map (base_note_place (length s.timers)) added.bases =
-    map-map place told_in (told_notes added) ∙ map-append (λ r. place (told_in r)) (map of_entry added.entries) (map of_base added.bases)
+    map-map place told_in (told_notes added)
+    ∙ ap (λ (ws : List WriteNote). map (λ r. place (told_in r)) (map of_entry added.entries ++ (map of_base added.bases ++ map of_write ws))) none
+    ∙ ap (λ rs. map (λ r. place (told_in r)) (map of_entry added.entries ++ rs)) (append-nil (map of_base added.bases))
+    ∙ map-append (λ r. place (told_in r)) (map of_entry added.entries) (map of_base added.bases)
     ∙ ap (λ ps. ps ++ map (λ r. place (told_in r)) (map of_base added.bases)) (map-map (λ r. place (told_in r)) of_entry added.entries)
     ∙ ap (λ ps. map note_place added.entries ++ ps) (map-map (λ r. place (told_in r)) of_base added.bases) in
     omega (

@@ -2,6 +2,7 @@ pub mod Claimed
 pub mod Entering
 pub mod CallKept
 pub mod TimerCalls
+pub mod Turns
 pub mod Writing
 pub mod Noted
 pub mod Stays

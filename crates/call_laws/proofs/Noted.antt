@@ -9,7 +9,7 @@ use Rattle.base_row.specs.Logs.{receipts_of}
 use Rattle.base_row.specs.declared.log.Receipt.{Receipt}
 use Rattle.timer_objects.specs.declared.log.ObjectReceipt.{ObjectReceipt}
 use Rattle.record_text.specs.declared.record.Label.{Label}
-use Rattle.run_history.specs.Actions.{Action, Entered, Looked, Made, Shifted, Skipped, Wrote, also, looked, made, numbers_of_object, skipped}
+use Rattle.run_history.specs.Actions.{Action, Entered, Looked, Made, Shifted, Skipped, Wrote, also, looked, made, numbers_of_object, skipped, wrote}
 use Rattle.run_history.specs.Traces.{all_entered}
 use Rattle.run_history.proofs.Known.{numbered}
 use Rattle.run_history.proofs.Stamped.{entry_stamped}
@@ -20,7 +20,7 @@ use Rattle.lane_notes.proofs.Standing.{All-permuted}
 use Rattle.lane_world.specs.Called.{with_done, with_shift}
 use Rattle.seq_timer.specs.declared.standing.BaseEvent.{BaseEvent}
 use Rattle.run_history.specs.Witnesses.{OfBase, OfTimer, Shown}
-use Rattle.lane_world.proofs.Kept.{BaseNotes, EntryNotes, LookNotes, NoteKind, NoteOf, ObjectNotes, SkipNotes, WriteNotes, each_both, each_none, entries_told, label_of, list_of, looks_on, made_on, of_base, of_entry, skips_on, told_in}
+use Rattle.lane_world.proofs.Kept.{BaseNotes, EntryNotes, LookNotes, NoteKind, NoteOf, ObjectNotes, SkipNotes, WriteNotes, each_both, each_none, entries_told, label_of, list_of, looks_on, made_on, of_base, of_entry, of_write, skips_on, told_in}
 use Rattle.lane_world.proofs.PartLists.{both_noted-assoc, notes-append, notes_same, same_order}
 
 -- ---- of actions
@@ -77,22 +77,26 @@ noted_skips i label [] = refl
 noted_skips i label (Skipped j number generation ∷ ds) = ap (also (nat_eq j i) (number, generation)) (noted_skips i label ds)
 noted_skips i label (d ∷ ds) = noted_skips i label ds
 
--- law: the entries of timers and bases, in another order
-pub noted_entries : (label : Label) (ds : List Action) → IsPermutation (all_entered ds) (entries_told (noted_by label ds))
-noted_entries label [] = IsPermutation-refl []
-noted_entries label (Entered timer number entry ∷ ds) = IsPermutation-cons _ _ _ (noted_entries label ds)
-noted_entries label (Shifted base number event ∷ ds) =
+-- law: the entries of timers and bases, in another order, where nothing was written
+pub noted_entries : (label : Label) (ds : List Action) → wrote ds ≡ [] → IsPermutation (all_entered ds) (entries_told (noted_by label ds))
+noted_entries label [] none = IsPermutation-refl []
+noted_entries label (Entered timer number entry ∷ ds) none = IsPermutation-cons _ _ _ (noted_entries label ds none)
+noted_entries label (Wrote number write ∷ ds) none = absurd (cc)
+noted_entries label (Shifted base number event ∷ ds) none =
     let rest = noted_by label ds in
     let this : ℕ × Shown = (number, OfBase base event) in
     let xs = map told_in (map of_entry rest.entries) in
-    let ys = map told_in (map of_base rest.bases) in
+    let others = map of_base rest.bases ++ map of_write rest.writes in
+    let ys = map told_in others in
     let split = map-append told_in (map of_entry rest.entries) in
     IsPermutation-trans (this ∷ all_entered ds) (this ∷ (xs ++ ys)) _
-    (IsPermutation-cons this (all_entered ds) (xs ++ ys) (subst (IsPermutation (all_entered ds)) (split (map of_base rest.bases)) (noted_entries label ds)))
+    (IsPermutation-cons this (all_entered ds) (xs ++ ys) (subst (IsPermutation (all_entered ds)) (split others) (noted_entries label ds none)))
     (subst (IsPermutation (this ∷ (xs ++ ys)))
-    (sym (split (map of_base (noted_by label (Shifted base number event ∷ ds)).bases)))
+    (sym (split (map of_base (noted_by label (Shifted base number event ∷ ds)).bases ++ map of_write rest.writes)))
     (IsPermutation-sym (xs ++ this ∷ ys) (this ∷ (xs ++ ys)) (IsPermutation-middle xs this ys)))
-noted_entries label (d ∷ ds) = noted_entries label ds
+noted_entries label (Looked timer number reply ∷ ds) none = noted_entries label ds none
+noted_entries label (Made i number entry ∷ ds) none = noted_entries label ds none
+noted_entries label (Skipped i number generation ∷ ds) none = noted_entries label ds none
 
 -- law: no write's
 pub noted_writes : (label : Label) (ds : List Action) → (noted_by label ds).writes ≡ []
@@ -131,7 +135,7 @@ module _ {a b : NotesOf} (same : SameNotes a b) where
   -- law: they tell the same entries
   pub told_same : IsPermutation (entries_told b) (entries_told a)
   told_same = IsPermutation-map told_in _ _ (IsPermutation-append _ _ _ _ (IsPermutation-map of_entry _ _ (IsPermutation-sym _ _ same.entries))
-      (same_order (ap (λ (n : NotesOf). map of_base n.bases) (sym same.others))))
+      (same_order (ap (λ (n : NotesOf). map of_base n.bases ++ map of_write n.writes) (sym same.others))))
 
 -- ---- of receipts
 

@@ -31,7 +31,7 @@ use Rattle.script_text.specs.declared.script.Script.{Script}
 use Rattle.run_history.specs.Truths.{WasOffLine}
 use Rattle.run_history.specs.Runs.{witness_of, Ending}
 use Rattle.run_history.specs.Truths.{IsObjectPoint}
-use Rattle.lane_world.specs.Called.{Called, lane_caller, CallsOverrun, gettime_told, LaneOf, with_done}
+use Rattle.lane_world.specs.Called.{CalledThen, lane_caller, CallsOverrun, gettime_told, LaneOf, with_done}
 use Rattle.lane_world.proofs.Kept.{Follows, IsNextCall, KeepsCall}
 use Rattle.lane_world.proofs.SeenMore.{begins_same}
 use Rattle.lane_world.specs.Worlds.{WorldOf}
@@ -90,13 +90,13 @@ keeps_overrun {s = s} {l = l} {m = m} {timer = timer} next c =
 
 -- law: a lane keeps a look at whether a descriptor is ready
 pub keeps_readable : {s : Script} {x : WorldOf} {l m : LaneOf} {a : Answer} {timer : ℕ} → IsNextCall s x l (calls.Readable timer)
-    → Called x l (calls.Readable timer) a m → KeepsCall s l (calls.Readable timer) a m
+    → CalledThen x l (calls.Readable timer) a m → KeepsCall s l (calls.Readable timer) a m
 keeps_readable {s = s} {l = l} {m = m} {timer = timer} next called =
     let c = called.1 in
     let found = called.0 in
     let ws = writes m.pass.clock.knows in
     subst (λ a. KeepsCall s l (calls.Readable timer) a m) (sym c.does.1)
-    (keeps_look m next (answers.Readable found.ready c.reading.stamp found.stamp) c.does.0.1 (clock_read c.reads.looks)
+    (keeps_look m next (answers.Readable found.ready c.reading.stamp found.stamp) c.does.0.1 (clock_left c.reads.same)
     c.notes (λ stamp. (stamp, refl)) (λ e. (refl, c.reads.count)) (λ e follows point is. (
       point,
       ap (λ u. is_readable u (reading_at e.run.clock (length ws))) (sym (fd_looked s e.run timer found.stamp (kind_of s timer) is))
@@ -113,7 +113,7 @@ keeps_gettime-posix next kind (gettimes.Spent stamp) c = absurd c.does.0
 keeps_gettime-posix {s = s} {l = l} {m = m} {timer = timer} next kind (gettimes.Left left interval stamp) c =
     let ws = writes m.pass.clock.knows in
     subst (λ b. KeepsCall s l (calls.Gettime timer) b m) (sym c.does.1)
-    (keeps_look m next (answers.LeftAt left interval c.reading.stamp stamp) c.does.0.1 (clock_read c.reads.looks) c.notes (λ stamp. (stamp, refl))
+    (keeps_look m next (answers.LeftAt left interval c.reading.stamp stamp) c.does.0.1 (clock_left c.reads.same) c.notes (λ stamp. (stamp, refl))
     (λ e. let last = length m.pass.timers.known.seen in
     subst (λ k. DoesGettime (WasOffLine (witness_of s e) last last) s.limit k timer (length ws) (answers.LeftAt left interval c.reading.stamp stamp) [])
     (sym kind) (refl, c.reads.count))

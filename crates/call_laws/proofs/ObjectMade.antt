@@ -37,7 +37,7 @@ use Rattle.run_history.proofs.Kept.{IsKept}
 use Rattle.ktime.specs.declared.mode.Mode.{Mode}
 use Rattle.run_history.specs.Witnesses as witnesses
 use Rattle.call_laws.proofs.Armed.{IsArmedSo, IsLike, IsRearmSpan, start_true, TimerPart}
-use Rattle.call_laws.proofs.CallKept.{clock_read, reading_goes_on}
+use Rattle.call_laws.proofs.CallKept.{clock_left, reading_goes_on}
 use Rattle.call_laws.proofs.PartKept.{keeps_part}
 use Rattle.call_laws.proofs.Parts.{IsNotedAs}
 use Rattle.timer_objects.specs.Arming.{stamp_seen}
@@ -169,7 +169,7 @@ module _ {s : Script} {x : WorldOf} {l : LaneOf} (m : LaneOf) {call : Call} (nex
         let whole = rw (append-nil k.part.0) at (part_then (part_none {v = p.timers.known} {p = p.objects} {w = begin} k.seen k.mine)
         (part_then k.part.1 entered)) in
         keeps_part next m a (plain reading.stamp (length begin.seen) (length w.seen) (settime_actions timer cancel k.start number entry)) whole
-        (reading_goes_on p q reading reads) (clock_read reads.looks)
+        (reading_goes_on p q reading reads) (clock_left reads.same)
         (notes ∙ with_done-joins l.notes l.label log object_log ∙ ap (both_noted l.notes) (ap (notes_of l.label log) log_is
         ∙ ap (λ rs. notes_of l.label rs this) (sym (append-nil log)) ∙ notes_of-append l.label log [] [] this)) refl reads.count stamp
         (λ e follows joined has kept low. let le = begins_length k.seen in fits e follows joined kept (omega (arith, le, low)))

@@ -143,7 +143,7 @@ module _ {s : Script} {x : WorldOf} {l : LaneOf} (m : LaneOf) {base heir budget 
   ended a last are joins does holds =
       keeps_part next m a (trace_of a) (part_as (ap (λ es. moves ++ es) (sym are))
       (part_alone objects (part_then (part_none {w = g.begins} g.looks.seen g.looks.mine) (part_then off.part last))))
-      (reading_goes_on l.pass m.pass reading reads) (clock_read reads.looks) joins refl reads.count tt (λ e follows joined has kept low.
+      (reading_goes_on l.pass m.pass reading reads) (clock_left reads.same) joins refl reads.count tt (λ e follows joined has kept low.
       let goes = goes_before last.enters.seen follows.timers in
       offline_made base heir budget off.moved a kept low (does off.many e) (
         off.keeps e joined goes,
@@ -189,7 +189,7 @@ keeps_offline {s = s} {x = x} {l = l} {m = m} {base = base} {heir = heir} {budge
         → ((b : ℕ) → standing_along (witness_of s e) (length m.pass.timers.known.seen) b ≡ standing_then o l.pass.timers.known.seen b)
         → IsToldSo s l m (calls.Offline base heir budget) a e) → KeepsCall s l (calls.Offline base heir budget) a m
     quiet a only notes =
-        keeps_standing next m a only.looks (only.keeps c.first) c.objects (clock_read c.reads.looks)
+        keeps_standing next m a only.looks (only.keeps c.first) c.objects (clock_left c.reads.same)
         (notes_alone l m (ap (λ (k : LogOf Receipt). k.receipts) only.sink ∙ c.empty) refl notes) tt
 
     by_answer : (answer : OfflineAnswer) → OfflineFits kept o base heir c.reading l.pass.timers.known m.pass.timers.known budget answer c.fresh c.log

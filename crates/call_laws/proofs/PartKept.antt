@@ -92,7 +92,7 @@ keeps_part {s = s} {l = l} {call = call} {IsSo = IsSo} {notes = notes} {added = 
     let none = no_write IsSo p.objects q.timers.known q.objects t.actions part.each in
     let no_writes : added.writes ≡ [] = ap (λ (n : NotesOf). n.writes) others ∙ noted_writes label t.actions in
     let told : IsPermutation (map receipt notes) (entries_told added) = IsPermutation-trans _ _ _
-    (subst (λ rs. IsPermutation rs (entries_told (noted_by label t.actions))) (sym part.are) (noted_entries label t.actions)) (told_same part.told) in
+    (subst (λ rs. IsPermutation rs (entries_told (noted_by label t.actions))) (sym part.are) (noted_entries label t.actions none)) (told_same part.told) in
     let sees : SeesOn p q = record { timers = part.enters.seen; clock = clock.seen; objects = part.goes_on; opening = part.opening } in
     record {
       notes = notes;
@@ -115,7 +115,7 @@ keeps_part {s = s} {l = l} {call = call} {IsSo = IsSo} {notes = notes} {added = 
       };
       few = omega (arith, ap length no_writes);
       places = record {
-        timers = places_told s p.timers.known.mine q.timers.known.mine notes added part.enters.mine told;
+        timers = places_told s p.timers.known.mine q.timers.known.mine notes added part.enters.mine told no_writes;
         objects = λ i k. ap (count (is_place i k)) (part.mine ∙ ap (λ (n : NotesOf). p.objects.knows.pass.mine ++ map object_place n.objects) (sym others))
             ∙ total-append (λ u. one_if (is_place i k u)) p.objects.knows.pass.mine (map object_place added.objects);
         clock = λ k.

@@ -44,7 +44,7 @@ use Rattle.lane_notes.specs.Arms.{arm_noted, arm_told}
 use Rattle.lane_notes.specs.FdNotes.{read_noted}
 use Rattle.lane_notes.specs.PosixNotes.{accept_noted}
 use Rattle.run_history.proofs.ObjectsMade.{accept_made, gettime_made, read_made}
-use Rattle.lane_world.specs.Called.{accept_told, Called, lane_caller, CallsObject, gettime_told, LaneOf, read_told}
+use Rattle.lane_world.specs.Called.{accept_told, CalledThen, lane_caller, CallsObject, gettime_told, LaneOf, read_told}
 use Rattle.lane_world.proofs.Kept.{IsNextCall, KeepsCall, Follows, seen_by}
 use Rattle.lane_world.specs.Worlds.{WorldOf}
 use Rattle.call_laws.proofs.Sights.{keeps_full, keeps_same}
@@ -63,7 +63,7 @@ use Rattle.run_history.proofs.ObjectsMade.{IsRearmed, rearming_actions}
 use Rattle.run_history.proofs.OthersMade.{plain}
 use Rattle.pass_names.proofs.Passes.{begins_length}
 use Rattle.timer_objects.specs.Calls.{Caller}
-use Rattle.call_laws.proofs.CallKept.{clock_read}
+use Rattle.call_laws.proofs.CallKept.{clock_left}
 use Rattle.call_laws.proofs.Parts.{noted_at}
 use Rattle.lane_world.proofs.Declared.{declared_base}
 use Rattle.call_laws.proofs.ObjectMade.{keeps_made, rearm_span, start_is}
@@ -131,7 +131,7 @@ module _ {s : Script} {x : WorldOf} {l m : LaneOf} {call : Call} (next : IsNextC
 
 -- law: a lane keeps an acceptance
 pub keeps_accept : {s : Script} {x : WorldOf} {l m : LaneOf} {a : Answer} {timer : ℕ} → IsNextCall s x l (calls.Accept timer)
-    → Called x l (calls.Accept timer) a m → KeepsCall s l (calls.Accept timer) a m
+    → CalledThen x l (calls.Accept timer) a m → KeepsCall s l (calls.Accept timer) a m
 keeps_accept {s} {x} {l} {m} {a} {timer} next called = subst (λ b. KeepsCall s l (calls.Accept timer) b m) (sym called.1) (by_answer called.0 called.2)
   where
     accepted : (reply : AcceptReply) → accept_noted (accept_answer_of reply) ≡ Some reply
@@ -148,13 +148,13 @@ keeps_accept {s} {x} {l} {m} {a} {timer} next called = subst (λ b. KeepsCall s 
     by_answer : (g : AcceptAnswer) → CallsObject x l m a (λ old new reading. Accepts x.objects x.timers.about old new timer reading g)
         → KeepsCall s l (calls.Accept timer) (accept_told g) m
     by_answer (accept_answers.Spent n) c =
-        keeps_full next (answers.Spent n) timer n c.does (clock_read c.reads.looks) c.notes (λ stamp. (stamp, refl)) (λ e. refl) (λ e saw. saw)
+        keeps_full next (answers.Spent n) timer n c.does (clock_left c.reads.same) c.notes (λ stamp. (stamp, refl)) (λ e. refl) (λ e saw. saw)
     by_answer (accept_answers.Accepted overrun) c = accepted (acceptances.Accepted overrun) refl tt c
     by_answer accept_answers.NoSignal c = accepted acceptances.NoSignal refl tt c
 
 -- law: a lane keeps a read
 pub keeps_read : {s : Script} {x : WorldOf} {l m : LaneOf} {a : Answer} {timer len : ℕ} → IsNextCall s x l (calls.Read timer len)
-    → Called x l (calls.Read timer len) a m → KeepsCall s l (calls.Read timer len) a m
+    → CalledThen x l (calls.Read timer len) a m → KeepsCall s l (calls.Read timer len) a m
 keeps_read {s} {x} {l} {m} {a} {timer} {len} next called =
     subst (λ b. KeepsCall s l (calls.Read timer len) b m) (sym called.1) (by_answer called.0 called.2)
   where
@@ -172,9 +172,9 @@ keeps_read {s} {x} {l} {m} {a} {timer} {len} next called =
     by_answer : (g : ReadAnswer) → CallsObject x l m a (λ old new reading. ReadsFd x.objects x.timers.about old new timer len reading g)
         → KeepsCall s l (calls.Read timer len) (read_told g) m
     by_answer read_answers.ShortBuffer c =
-        keeps_same next answers.Invalid c.does.1 (clock_read c.reads.looks) c.notes tt (λ e. (refl, c.does.0)) (λ e. tt)
+        keeps_same next answers.Invalid c.does.1 (clock_left c.reads.same) c.notes tt (λ e. (refl, c.does.0)) (λ e. tt)
     by_answer (read_answers.Spent n) c =
-        keeps_full next (answers.Spent n) timer n c.does.1 (clock_read c.reads.looks) c.notes (λ stamp. (stamp, refl)) (λ e. (refl, c.does.0))
+        keeps_full next (answers.Spent n) timer n c.does.1 (clock_left c.reads.same) c.notes (λ stamp. (stamp, refl)) (λ e. (refl, c.does.0))
         (λ e saw. saw)
     by_answer (read_answers.Count total) c = read (reads.Count total) refl tt c
     by_answer read_answers.Canceled c = read reads.Canceled refl tt c
@@ -187,7 +187,7 @@ pub keeps_gettime-fd : {s : Script} {x : WorldOf} {l m : LaneOf} {a : Answer} {t
     → KeepsCall s l (calls.Gettime timer) a m
 keeps_gettime-fd {s = s} {l = l} {m = m} {timer = timer} next kind (gettimes.Spent n) c =
     subst (λ b. KeepsCall s l (calls.Gettime timer) b m) (sym c.does.1)
-    (keeps_full next (answers.Spent n) timer n c.does.0 (clock_read c.reads.looks) c.notes
+    (keeps_full next (answers.Spent n) timer n c.does.0 (clock_left c.reads.same) c.notes
     (λ stamp. (stamp, refl)) (λ e. let last = length m.pass.timers.known.seen in
     subst (λ k. DoesGettime (WasOffLine (witness_of s e) last last) s.limit k timer (length (writes m.pass.clock.knows)) (answers.Spent n) [])
     (sym kind) refl) (λ e saw. saw))

@@ -1,9 +1,9 @@
 -- Bases that a pass has seen off line were so in the run; so the way of a start is one of the run.
+use Rattle.lane_world.specs.Worlds.{opening_for}
 use Rattle.call_laws.proofs.Stays.{standing_stays}
 use Rattle.std.proofs.Common.{◌≡◌, ℕ, List, [], ◌∷◌, length, ap, ◌∙◌}
 use Rattle.seq_timer.specs.declared.standing.Standing.{Standing}
 use Rattle.seq_timer.specs.declared.system.SystemEntry.{SystemEntry}
-use Rattle.base_row.specs.Calls.{opening_of}
 use Rattle.base_row.specs.declared.view.Opening.{Opening}
 use Rattle.hr_timers.specs.Ways as ways
 use Rattle.hr_timers.specs.Ways.{WasOff}
@@ -17,7 +17,7 @@ use Rattle.run_history.specs.Truths.{WasOffLine}
 use Rattle.lane_world.proofs.SeenMore.{goes_before}
 
 -- law: a base that a pass saw off line between two moments was so between these in each run that goes on from there
-pub was_seen : (s : Script) (o : Opening) → o ≡ opening_of s.bases (declareds_of s) (terms_of s) → (e : Ending) → IsJoined s e
+pub was_seen : (s : Script) (o : Opening) → o ≡ opening_for s → (e : Ending) → IsJoined s e
     → (low high : List SystemEntry) → GoesOn high e → (base heir : ℕ) → WasOff o low high base heir
     → WasOffLine (witness_of s e) (length low) (length high) base heir
 was_seen s o is e joined low high goes base heir was = (

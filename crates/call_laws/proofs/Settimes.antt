@@ -28,11 +28,11 @@ use Rattle.lane_notes.specs.Arms.{arm_noted}
 use Rattle.run_history.specs.Runs.{witness_of, Ending, IsJoined}
 use Rattle.run_history.specs.Truths.{WasOffLine}
 use Rattle.run_history.proofs.ObjectsMade.{FoundIdle, IsSet, settime_made}
-use Rattle.lane_world.specs.Called.{Called, lane_caller, CallsObject, LaneOf, ReadsClock, settime_told, with_done}
+use Rattle.lane_world.specs.Called.{CalledThen, lane_caller, CallsObject, LaneOf, ReadsClock, settime_told, with_done}
 use Rattle.lane_world.proofs.Kept.{Follows, IsNextCall, KeepsCall}
 use Rattle.lane_world.proofs.SeenMore.{begins_same}
 use Rattle.lane_world.specs.Worlds.{WorldOf}
-use Rattle.call_laws.proofs.CallKept.{clock_read}
+use Rattle.call_laws.proofs.CallKept.{clock_left}
 use Rattle.pass_names.proofs.Passes.{begins_length}
 use Rattle.lane_world.proofs.Declared.{declared_base, declared_over}
 use Rattle.call_laws.proofs.Sights.{keeps_full, keeps_same}
@@ -126,7 +126,7 @@ module _ {s : Script} {x : WorldOf} {l : LaneOf} (m : LaneOf) {timer flags : ℕ
 
 -- law: a lane keeps a settime
 pub keeps_settime : {s : Script} {x : WorldOf} {l m : LaneOf} {a : Answer} {timer flags : ℕ} {value interval : TimeSpec}
-    → IsNextCall s x l (calls.Settime timer flags value interval) → Called x l (calls.Settime timer flags value interval) a m
+    → IsNextCall s x l (calls.Settime timer flags value interval) → CalledThen x l (calls.Settime timer flags value interval) a m
     → KeepsCall s l (calls.Settime timer flags value interval) a m
 keeps_settime {s = s} {x = x} {l = l} {m = m} {a = a} {timer = timer} {flags = flags} {value = value} {interval = interval} next called =
     subst (λ b. KeepsCall s l (calls.Settime timer flags value interval) b m) (sym called.1)
@@ -149,7 +149,7 @@ keeps_settime {s = s} {x = x} {l = l} {m = m} {a = a} {timer = timer} {flags = f
     by_answer (settings.Spent n) valid full =
         let takes = takes_valid (kind_of s timer) _ flags value interval (declared_over s x timer next.world)
         (λ raw. let none = raw_object next full.reads.at raw in omega (arith, none.1, full.full, full.stamp, next.world.limit, next.range.limit.0)) in
-        keeps_full next (answers.Spent n) timer n full (clock_read c.reads.looks) c.notes
+        keeps_full next (answers.Spent n) timer n full (clock_left c.reads.same) c.notes
         (λ stamp. (stamp, refl)) (λ e. (refl, takes.0 valid)) (λ e saw. saw)
     by_answer settings.BadFlags valid made = absurd made
     by_answer settings.BadTime valid made = absurd made
@@ -162,5 +162,5 @@ keeps_settime {s = s} {x = x} {l = l} {m = m} {a = a} {timer = timer} {flags = f
     by_arguments None valid made = by_answer called.0 valid made
     by_arguments (Some refusal) bad refused =
         subst (λ b. KeepsCall s l (calls.Settime timer flags value interval) b m) (sym (ap settime_told refused.0 ∙ bad.0))
-        (keeps_same next answers.Invalid refused.1 (clock_read c.reads.looks) c.notes tt
+        (keeps_same next answers.Invalid refused.1 (clock_left c.reads.same) c.notes tt
         (λ e. (refl, λ v. bad.1 (valid_for (kind_of s timer) _ flags value interval (declared_over s x timer next.world) v))) (λ e. tt))

@@ -1,4 +1,5 @@
 -- What a start of a timer tells: its entries as the record has them, and its answer.
+use Rattle.lane_world.specs.Worlds.{opening_for}
 use Rattle.base_row.proofs.Placed.{terms_now}
 use Rattle.call_laws.proofs.Noted.{entered_on}
 use Rattle.run_history.specs.Actions.{Entered}
@@ -12,7 +13,6 @@ use Rattle.seq_timer.specs.Tables.{timer_at}
 use Rattle.seq_timer.specs.declared.context.Declared.{Declared}
 use Rattle.seq_timer.specs.declared.context.Terms.{Terms}
 use Rattle.seq_timer.specs.declared.system.SystemEntry.{SystemEntry}
-use Rattle.base_row.specs.Calls.{opening_of}
 use Rattle.base_row.specs.declared.view.Opening.{Opening}
 use Rattle.hr_timers.specs.Known.{timer_then}
 use Rattle.script_text.specs.Declarations.{declareds_of, terms_of}
@@ -38,7 +38,7 @@ opened_limit (clock ∷ rest) terms zero some = omega arith
 opened_limit (clock ∷ rest) terms (suc t) some = opened_limit rest terms t some
 
 -- law: a timer's limit is the script's, or less where no such timer is there
-pub limit_within : (s : Script) (o : Opening) → o ≡ opening_of s.bases (declareds_of s) (terms_of s) → 1 ≤ s.limit → (x : List SystemEntry) (t : ℕ)
+pub limit_within : (s : Script) (o : Opening) → o ≡ opening_for s → 1 ≤ s.limit → (x : List SystemEntry) (t : ℕ)
     → (timer_then o x t).terms.limit ≤ s.limit
 limit_within s o is some x t =
     let on : o.timers ≡ openings (declareds_of s) (terms_of s) = ap (λ (y : Opening). y.timers) is in

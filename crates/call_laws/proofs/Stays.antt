@@ -1,6 +1,6 @@
 -- What a pass has seen of timers and bases stays so in every run that goes on from there.
+use Rattle.lane_world.specs.Worlds.{opening_for}
 use Rattle.std.proofs.Common.{◌≡◌, ℕ, List, [], length, sym, ap, ◌∙◌, subst}
-use Rattle.base_row.specs.Calls.{opening_of}
 use Rattle.base_row.specs.declared.view.Opening.{Opening}
 use Rattle.hr_timers.specs.Known.{KnownOfTimers, MadeAt, timer_then}
 use Rattle.hr_timers.specs.Ways.{standing_then}
@@ -19,7 +19,7 @@ use Rattle.run_history.specs.Witnesses.{standing_along, system_along, timer_alon
 use Rattle.run_history.proofs.PassState.{system_seen}
 use Rattle.run_history.proofs.Promise.{seen_first}
 
-module _ {s : Script} {o : Opening} (is : o ≡ opening_of s.bases (declareds_of s) (terms_of s)) {e : Ending} (joined : IsJoined s e) where
+module _ {s : Script} {o : Opening} (is : o ≡ opening_for s) {e : Ending} (joined : IsJoined s e) where
   module _ (seen : List SystemEntry) (goes : GoesOn seen e) where
     -- law: all timers and bases do, each timer and each base
     pub system_stays : system_along (witness_of s e) (length seen) ≡ system_after o.timers seen

@@ -3,16 +3,16 @@ use Rattle.lane_notes.specs.declared.notes.WriteNote.{WriteNote}
 use Rattle.lane_world.proofs.Kept.{NoteKind, NoteOf}
 use Rattle.call_laws.proofs.Sights.{keeps_sight}
 use Rattle.std.proofs.lemmas.List.{take_all}
-use Rattle.std.proofs.Common.{◌≡◌, ℕ, ◌+◌, ◌≤◌, List, [], ◌∷◌, length, length-append, take, Ok, Err, Result, Some, arith, refl, sym, ap, ◌∙◌, subst}
+use Rattle.std.proofs.Common.{◌≡◌, ℕ, ◌+◌, ◌<◌, ◌≤◌, List, [], ◌∷◌, ◌++◌, length, length-append, take, Ok, Err, Result, Some, arith, refl, sym, ap, ◌∙◌, subst}
 use Rattle.std.specs.List.{slice_get}
-use Rattle.std.proofs.lemmas.List.{append-nil, length-map}
+use Rattle.std.proofs.lemmas.List.{append-nil, append_assoc, length-map}
 use Rattle.ktime.specs.Readings.{ClockReading}
-use Rattle.clock_model.specs.Clocks.{after_write, greatest, last_stamp}
+use Rattle.clock_model.specs.Clocks.{IsRefusedAs, after_write, greatest, last_stamp}
 use Rattle.clock_model.specs.declared.write.ClockFault.{ClockFault}
 use Rattle.clock_model.specs.declared.write.ClockFault.TheVariants as faults
 use Rattle.clock_model.specs.declared.write.Write.{Write}
 use Rattle.clock_model.proofs.Writes.{stamp_after}
-use Rattle.clock_cell.specs.Views.{AnswersWrite, reading_after, seen_reading, writes}
+use Rattle.clock_cell.specs.Views.{AcceptsWrite, AnswersWrite, reading_after, seen_reading, writes}
 use Rattle.record_text.specs.declared.record.Answer.TheVariants as answers
 use Rattle.record_text.specs.declared.record.Answer.{Answer}
 use Rattle.record_text.specs.declared.record.ClockLine.{ClockLine}
@@ -22,23 +22,31 @@ use Rattle.script_text.specs.declared.script.Call.TheVariants as calls
 use Rattle.script_text.specs.declared.script.Script.{Script}
 use Rattle.lane_notes.specs.Notes.{both_noted, NotesOf, with_write_note}
 use Rattle.pass_names.specs.Counts.{count, one_if}
-use Rattle.pass_names.specs.Passes.{is_place, Looks}
+use Rattle.pass_names.specs.Passes.{is_place}
+use Rattle.pass_names.specs.SharedHistory.{LooksOn}
+use Rattle.ordered_clock.specs.Moments.{HasPlace, WritesAt}
+use Rattle.seq_timer.specs.Systems.{rises_of}
+use Rattle.seq_timer.specs.declared.system.SystemEntry.TheVariants as entries
+use Rattle.run_history.specs.Receipts.{PlacedEntry}
+use Rattle.run_history.specs.Witnesses.{OfRise, Trace}
+use Rattle.lane_world.specs.declared.WorldPass.{WorldPass}
+use Rattle.std.proofs.Math.Seq.{take-append_seam}
+use Rattle.std.proofs.lemmas.Option.{slice_get_within}
+use Rattle.call_laws.proofs.Turns.{next_begun, turn_by_itself, turn_read, writes_seen}
 use Rattle.pass_names.proofs.Counts.{total-append}
 use Rattle.run_history.specs.Promises.{GoesOnClock, IsRightLog}
-use Rattle.run_history.specs.Runs.{Ending}
-use Rattle.run_history.proofs.Lists.{at_seam}
+use Rattle.run_history.specs.Runs.{CallLog, Ending}
+use Rattle.run_history.proofs.Lists.{at_left, at_seam}
 use Rattle.run_history.proofs.OthersMade.{plain, wrote_made}
-use Rattle.lane_world.specs.Called.{CallsWrite, LaneOf, line_of_write, with_write_told, write_told}
+use Rattle.lane_world.specs.Called.{CallsWrite, LaneOf, ReadsFirst, line_of_write, with_write_told, write_told}
 use Rattle.std.specs.List.{AllByRecursion}
-use Rattle.lane_world.proofs.Kept.{IsNoteSeen, label_of, list_of, WriteNotes, IsNextCall, KeepsCall, log_of, seen_by, SeesOn}
-use Rattle.lane_world.proofs.SeenMore.{begins_same}
+use Rattle.lane_world.proofs.Kept.{IsNoteSeen, label_of, list_of, WriteNotes, IsNextCall, KeepsCall, KeepsTurn, StandAt, log_of, seen_by, SeesOn}
+use Rattle.lane_world.proofs.SeenMore.{begins_same, goes_before}
 use Rattle.lane_world.specs.Worlds.{WorldOf}
-use Rattle.call_laws.proofs.Entering.{enters_none}
 use Rattle.pass_names.proofs.Passes.{begins_length}
-use Rattle.call_laws.proofs.CallKept.{clock_read, no_places, promised_from, same_objects, stand_from, reading_of_seen}
+use Rattle.call_laws.proofs.CallKept.{clock_left, no_places, promised_from, same_objects, reading_of_seen}
 use Rattle.lane_world.proofs.PartLists.{notes_same, same_order}
 use Rattle.call_laws.proofs.Sights.{LooksOnly, looks_alone, keeps_looking}
-use Rattle.call_laws.proofs.Entering.{EntersNotes}
 
 -- the notes of a write alone
 abbrev pub write_notes : ℕ → ClockLine → NotesOf
@@ -59,100 +67,188 @@ write_joins notes stamp line =
 writes_within : (e : Ending) (ws : List Write) → GoesOnClock ws e → length ws ≤ length e.run.clock
 writes_within e ws on = omega (arith, length-map e.run.clock (λ (line : ClockLine). line.write), ap length on.1, length-append ws on.0)
 
-refused : {s : Script} (l m : LaneOf) → Looks l.pass.clock.knows.pass m.pass.clock.knows.pass → m.pass.timers ≡ l.pass.timers → m.pass.objects ≡ l.pass.objects
-    → m.notes ≡ l.notes → LooksOnly s l m
-refused l m looks timers objects notes =
-    looks_alone (begins_same (ap (λ t. t.known.seen) timers)) (ap (λ t. t.known.mine) timers) objects (clock_read looks) notes
+-- ---- a write that the clock refused
 
-write_kept : {s : Script} {x : WorldOf} {l m : LaneOf} {write : Write} (next : IsNextCall s x l (calls.Clock write)) (answer : Result ClockReading ClockFault)
-    → AnswersWrite write l.pass.clock.knows m.pass.clock.knows answer → m.pass.timers ≡ l.pass.timers → m.pass.objects ≡ l.pass.objects
-    → m.notes ≡ with_write_told l.notes l.label write answer → KeepsCall s l (calls.Clock write) (write_told answer) m
-write_kept {l = l} {m = m} {write = write} next (Err (faults.ClockRange would_be)) w timers objects notes =
+looks_same : {s : Script} (b m : LaneOf) → m.pass ≡ b.pass → m.notes ≡ b.notes → LooksOnly s b m
+looks_same b m same notes = looks_alone (begins_same (ap (λ (p : WorldPass). p.timers.known.seen) same)) (ap (λ (p : WorldPass). p.timers.known.mine) same)
+    (ap (λ (p : WorldPass). p.objects) same) (clock_left (ap (λ (p : WorldPass). p.clock) same)) notes
+
+-- law: it is kept, by a lane that has taken its reading
+refused_kept : {s : Script} {x : WorldOf} {b m : LaneOf} {write : Write} (next : IsNextCall s x b (calls.Clock write)) (fault : ClockFault)
+    → IsRefusedAs {T = ClockReading} (seen_reading m.pass.clock.knows) write (Err fault) → m.pass ≡ b.pass → m.notes ≡ b.notes
+    → KeepsCall s b (calls.Clock write) (write_told (Err fault)) m
+refused_kept {b = b} {m = m} {write = write} next (faults.ClockRange would_be) refused same notes =
     let ws = writes m.pass.clock.knows in
-    let cause = (w.err.cause.range would_be).0 refl in
-    keeps_sight next (answers.Range would_be) (refused l m w.err.looks timers objects notes) tt (λ e. refl) (λ e follows joined has. record {
+    let cause = (refused.range would_be).0 refl in
+    keeps_sight next (answers.Range would_be) (looks_same b m same notes) tt (λ e. refl) (λ e follows joined has. record {
       counted = omega (arith, writes_within e ws follows.clock, follows.few);
       late = cause.1;
       greatest = cause.2 ∙ ap (λ r. greatest (after_write r write)) (sym (reading_of_seen e ws follows.clock));
     })
-write_kept {l = l} {m = m} {write = write} next (Err faults.ClockSpent) w timers objects notes =
+refused_kept {b = b} {m = m} next faults.ClockSpent refused same notes =
     let ws = writes m.pass.clock.knows in
-    let full : last_stamp ≤ (seen_reading m.pass.clock.knows).stamp = w.err.cause.spent.0 refl in
-    keeps_looking next answers.ClockSpent (refused l m w.err.looks timers objects notes) tt
+    let full : last_stamp ≤ (seen_reading m.pass.clock.knows).stamp = refused.spent.0 refl in
+    keeps_looking next answers.ClockSpent (looks_same b m same notes) tt
     (λ e follows joined has kept low. absurd (omega (arith, full, stamp_after ws, writes_within e ws follows.clock, follows.few)))
-write_kept {s = s} {l = l} {m = m} {write = write} next (Ok r) w timers objects notes =
-    let p = l.pass in
-    let q = m.pass in
-    let adds = w.ok.adds in
-    let ws = writes q.clock.knows in
-    let line = line_of_write l.label write r in
-    let added = write_notes r.stamp line in
-    let last = length q.timers.known.seen in
-    let many = length adds.before in
-    let number : many + 1 ≡ r.stamp = omega (arith, w.ok.count, ap length adds.last, length-append adds.before (write ∷ [])) in
-    let behind : length (writes p.clock.knows) ≤ many = begins_length adds.begins in
-    let same_seen : q.timers.known.seen ≡ p.timers.known.seen = ap (λ t. t.known.seen) timers in
-    let enters : EntersNotes s (λ clock. Unit) p.timers.known q.timers.known [] =
-    enters_none (begins_same same_seen) (ap (λ t. t.known.mine) timers) in
-    let sees : SeesOn p q = record {
-      timers = enters.seen;
-      clock = adds.seen.each 0;
-      objects = same_objects p q objects;
-      opening = ap (λ o. o.knows.opening) objects;
-    } in
-    let t = plain many last last (Wrote r.stamp write ∷ []) in
-    let logged : IsRightLog (log_of p q [] t) (calls.Clock write) (answers.Clock r.stamp) (seen_by p) (seen_by q) = record {
-      forward = omega (arith, ap length same_seen);
-      last = omega arith;
-      inside = tt;
-      entered = refl;
-      reading = (behind, omega (arith, number, w.ok.count));
-      writes = (omega (arith, number), tt);
-      clock_steps = (behind, (omega (arith, number), omega (arith, w.ok.count)));
-      move_steps = (omega arith, omega arith);
-      object_steps = λ i. begins_length (sees.objects.each i);
-    } in
-    let whole : reading_after (take r.stamp ws) ≡ r =
-    ap (λ n. reading_after (take n ws)) w.ok.count ∙ ap reading_after (take_all _ ws (omega arith)) ∙ sym w.ok.shows in
-    record {
-      notes = [];
-      trace = t;
-      added = added;
-      sees = sees;
-      joins = notes ∙ write_joins l.notes r.stamp line;
-      bears = of_write (λ j n. label_of j n ≡ l.label) (record { stamp = r.stamp; line = line }) refl;
+
+-- ---- one that it took
+
+module _ (s : Script) (x : WorldOf) (l m : LaneOf) (write : Write) (next : IsNextCall s x l (calls.Clock write)) (r : ClockReading)
+    (w : AcceptsWrite write l.pass.clock.knows m.pass.clock.knows r) (at : WritesAt l.pass.timers.known.seen m.pass.timers.known.seen r.stamp)
+    (timers : LooksOn l.pass.timers.known m.pass.timers.known) (objects : m.pass.objects ≡ l.pass.objects)
+    (notes : m.notes ≡ with_write_told l.notes l.label write (Ok r)) where
+  abbrev p : WorldPass
+  p = l.pass
+
+  abbrev q : WorldPass
+  q = m.pass
+
+  abbrev ws : List Write
+  ws = writes q.clock.knows
+
+  abbrev line : ClockLine
+  line = line_of_write l.label write r
+
+  -- how many writes there were before, and the write's place among the entries of timers
+  abbrev many : ℕ
+  many = length w.adds.before
+
+  abbrev place : ℕ
+  place = length at.before
+
+  abbrev receipt_of : PlacedEntry
+  receipt_of = record { place = place; number = r.stamp; shown = OfRise 0 }
+
+  abbrev did : Trace
+  did = plain many place (length q.timers.known.seen) (Wrote r.stamp write ∷ [])
+
+  number : many + 1 ≡ r.stamp
+  number = omega (arith, w.count, ap length w.adds.last, length-append w.adds.before (write ∷ []))
+
+  behind : length (writes p.clock.knows) ≤ many
+  behind = begins_length w.adds.begins
+
+  whole : q.timers.known.seen ≡ at.before ++ entries.Rise 0 ∷ at.seen.rest
+  whole = at.seen.whole ∙ append_assoc at.before (entries.Rise 0 ∷ []) at.seen.rest
+
+  there : slice_get q.timers.known.seen place ≡ Some (entries.Rise 0)
+  there = ap (λ es. slice_get es place) whole ∙ at_seam at.before at.seen.rest (entries.Rise 0)
+
+  low : length p.timers.known.seen ≤ place
+  low = begins_length at.from
+
+  high : place < length q.timers.known.seen
+  high = slice_get_within q.timers.known.seen place (entries.Rise 0) there
+
+  sees : SeesOn p q
+  sees = record {
+    timers = timers.seen;
+    clock = w.adds.seen.each 0;
+    objects = same_objects p q objects;
+    opening = ap (λ o. o.knows.opening) objects;
+  }
+
+  stands : StandAt q (log_of p q (receipt_of ∷ []) did)
+  stands = record {
+    rise = (low, tt);
+    below = (high, tt);
+    made = (
+      record {
+        step = entries.Rise 0;
+        there = there;
+        owner = refl;
+        number = ap (λ es. rises_of 0 (take place es) + 1) whole ∙ ap (λ es. rises_of 0 es + 1) (take-append_seam at.before (entries.Rise 0 ∷ at.seen.rest))
+            ∙ at.count;
+      },
+      tt,
+    );
+    shows = λ e follows. (
+      record {
+        step = entries.Rise 0;
+        there = ap (λ es. slice_get es place) follows.timers.1 ∙ at_left q.timers.known.seen follows.timers.0 place (entries.Rise 0) there;
+        entry = refl;
+      },
+      tt,
+    );
+  }
+
+  logged : IsRightLog (log_of p q (receipt_of ∷ []) did) (calls.Clock write) (answers.Clock r.stamp) (seen_by p) (seen_by q)
+  logged = record {
+    forward = omega (arith, low, high);
+    last = omega arith;
+    inside = ((low, high), tt);
+    entered = refl;
+    reading = (behind, omega (arith, number, w.count));
+    writes = (omega (arith, number), tt);
+    clock_steps = (behind, (omega (arith, number), omega (arith, w.count)));
+    move_steps = (omega arith, omega arith);
+    object_steps = λ i. begins_length (sees.objects.each i);
+  }
+
+  shown : reading_after (take r.stamp ws) ≡ r
+  shown = ap (λ n. reading_after (take n ws)) w.count ∙ ap reading_after (take_all _ ws (omega arith)) ∙ sym w.shows
+
+  took_kept : KeepsCall s l (calls.Clock write) (answers.Clock r.stamp) m
+  took_kept = record {
+    notes = receipt_of ∷ [];
+    trace = did;
+    added = write_notes r.stamp line;
+    sees = sees;
+    joins = notes ∙ write_joins l.notes r.stamp line;
+    bears = of_write (λ j n. label_of j n ≡ l.label) (record { stamp = r.stamp; line = line }) refl;
+    tells = record {
+      receipts = same_order refl;
       tells = record {
-        receipts = same_order refl;
-        tells = record {
-          writes = refl;
-          looks = λ i. refl;
-          objects = λ i. refl;
-          skips = λ i. refl;
-          writes_rise = (omega (arith, number), tt);
-          looks_rise = λ i. tt;
-          objects_rise = λ i. tt;
-        };
+        writes = refl;
+        looks = λ i. refl;
+        objects = λ i. refl;
+        skips = λ i. refl;
+        writes_rise = (omega (arith, number), tt);
+        looks_rise = λ i. tt;
+        objects_rise = λ i. tt;
       };
-      few = omega arith;
-      places = record {
-        timers = λ i n. omega (arith, ap (λ t. count (is_place i n) t.known.mine) timers);
-        objects = λ i n. no_places (is_place i n) p.objects.knows.pass.mine q.objects.knows.pass.mine (ap (λ o. o.knows.pass.mine) objects);
-        clock = λ n. ap (count (is_place 0 n)) w.ok.place ∙ total-append (λ k. one_if (is_place 0 n k)) p.clock.knows.pass.mine ((0, r.stamp) ∷ []);
-      };
-      seen = of_write (λ j. IsNoteSeen j q (log_of p q [] t)) (record { stamp = r.stamp; line = line }) (record {
-        before = many;
-        number = number;
-        inside = (behind, omega (arith, number, w.ok.count));
-        there = subst (λ xs. slice_get xs many ≡ Some write) (sym adds.last) (at_seam adds.before [] write);
-        shows = subst (ShowsReading line) (sym whole) (record { mono = refl; real = refl; boot = refl; changes = refl });
-      });
-      stand = stand_from (λ clock. Unit) p q [] enters t (λ e follows. tt);
-      promised = promised_from next m [] t (answers.Clock r.stamp) logged
-          (λ e follows joined has kept low. wrote_made r.stamp write kept (ap length same_seen ∙ low));
-    }
+    };
+    few = omega arith;
+    places = record {
+      timers = λ i n. omega (arith, ap (count (is_place i n)) timers.mine);
+      objects = λ i n. no_places (is_place i n) p.objects.knows.pass.mine q.objects.knows.pass.mine (ap (λ o. o.knows.pass.mine) objects);
+      clock = λ n. ap (count (is_place 0 n)) w.place ∙ total-append (λ k. one_if (is_place 0 n k)) p.clock.knows.pass.mine ((0, r.stamp) ∷ []);
+    };
+    seen = of_write (λ j. IsNoteSeen j q (log_of p q (receipt_of ∷ []) did)) (record { stamp = r.stamp; line = line }) (record {
+      before = many;
+      number = number;
+      inside = (behind, omega (arith, number, w.count));
+      there = subst (λ xs. slice_get xs many ≡ Some write) (sym w.adds.last) (at_seam w.adds.before [] write);
+      shows = subst (ShowsReading line) (sym shown) (record { mono = refl; real = refl; boot = refl; changes = refl });
+    });
+    stand = stands;
+    promised = promised_from next m (receipt_of ∷ []) did (answers.Clock r.stamp) logged
+        (λ e follows joined has kept first. wrote_made r.stamp write kept (omega (arith, first, low)) (omega (arith, high)) (omega arith, tt));
+  }
+
+  -- its reading was right before it
+  took_turn : KeepsTurn s l (calls.Clock write) (answers.Clock r.stamp) m
+  unfolding took_kept
+  took_turn = turn_by_itself took_kept (λ e follows has joined fits.
+      let trace : (e.logs l.label).trace ≡ did = ap (λ (g : CallLog). g.trace) has.kept in record {
+        moment = place;
+        behind = low;
+        before = omega (arith, ap (λ (t : Trace). t.first) trace);
+        writes = writes_seen at.before joined (goes_before (record { rest = entries.Rise 0 ∷ at.seen.rest; whole = whole }) follows.timers) ∙ omega (arith, at.count, number, ap (λ (t : Trace). t.at) trace);
+      })
 
 -- law: a lane keeps a write of the clock
 pub keeps_write : {s : Script} {x : WorldOf} {l m : LaneOf} {a : Answer} {write : Write} → IsNextCall s x l (calls.Clock write)
-    → CallsWrite x l m a write → KeepsCall s l (calls.Clock write) a m
-keeps_write {s = s} {l = l} {m = m} {write = write} next c =
-    subst (λ a. KeepsCall s l (calls.Clock write) a m) (sym c.told) (write_kept next c.answer c.writes c.timers c.objects c.notes)
+    → CallsWrite x l m a write → KeepsTurn s l (calls.Clock write) a m
+keeps_write {s = s} {x = x} {l = l} {m = m} {write = write} next c =
+    subst (λ a. KeepsTurn s l (calls.Clock write) a m) (sym c.told) (by_answer c.answer c.writes c.places c.notes)
+  where
+    by_answer : (answer : Result ClockReading ClockFault) → AnswersWrite write l.pass.clock.knows m.pass.clock.knows answer
+        → HasPlace l.pass.timers.known m.pass.timers.known m.pass.clock.knows answer → m.notes ≡ with_write_told l.notes l.label write answer
+        → KeepsTurn s l (calls.Clock write) (write_told answer) m
+    by_answer (Ok r) w places notes = took_turn s x l m write next r w.ok places.place c.timers c.objects notes
+    by_answer (Err fault) w places notes =
+        let b : LaneOf = record { label = l.label; pass = m.pass; notes = m.notes } in
+        let reads : ReadsFirst l b =
+        record { label = refl; notes = notes; objects = c.objects; timers = c.timers; clock = w.err.looks; moment = places.refused } in
+        turn_read reads refl refl (refused_kept (next_begun reads next) fault w.err.cause refl refl)

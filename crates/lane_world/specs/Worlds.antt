@@ -7,6 +7,7 @@ use Rattle.pass_names.specs.SharedHistory.{child_known, first_known, splitter_kn
 use Rattle.counted_row.specs.Views.{first_view, new_view, split_view}
 use Rattle.clock_cell.specs.Views.{IsPassOfClock, KnowsClock, first_clock_view, new_clock_view, split_clock_view}
 use Rattle.base_row.specs.Calls as rows
+use Rattle.base_row.specs.declared.view.Opening.{Opening}
 use Rattle.hr_timers.specs.Known.{IsEvacuable, IsPassOf}
 use Rattle.timer_objects.specs.declared.callback.Callback.{Callback}
 use Rattle.timer_objects.specs.declared.callback.Callback.TheVariants as runs
@@ -54,9 +55,13 @@ decl_as (kinds.Fd base) clock = record { kind = over.Fd; clock = clock; base = b
 abbrev pub decl_of : Declaration → Decl
 decl_of d = decl_as d.kind d.clock
 
+-- what the timers of a script begin with: its bases, the timers as it declares them, and one counter, for the clock's writes
+abbrev pub opening_for : Script → Opening
+opening_for s = rows.opening_with s.bases (declareds_of s) (terms_of s) 1
+
 -- the world is this script's: its timers on their clocks and bases, with its limit, and what stands over each
 pub record IsWorldOf (s : Script) (x : WorldOf) : Type 0 where
-  pub timers : x.timers.about ≡ rows.opening_with s.bases (declareds_of s) (terms_of s) 1
+  pub timers : x.timers.about ≡ opening_for s
   pub decls : x.objects.decls ≡ map decl_of s.timers
   pub limit : x.objects.limit ≡ s.limit
   pub callbacks : x.callbacks ≡ map (λ d. callback_of d.kind) s.timers
