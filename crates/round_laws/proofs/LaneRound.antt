@@ -10,7 +10,7 @@ use Rattle.lane_notes.specs.Notes.{NotesOf, both_noted, no_notes}
 use Rattle.record_text.specs.declared.record.Answer.{Answer}
 use Rattle.record_text.specs.declared.record.Label.{Label}
 use Rattle.run_history.specs.Fits.{Seen}
-use Rattle.run_history.specs.Promises.{IsPromised}
+use Rattle.run_history.specs.Promises.{IsPromisedInTurn}
 use Rattle.run_history.specs.Runs.{CallLog, witness_of}
 use Rattle.run_history.specs.Order.{CallInRound, calls_of}
 use Rattle.script_text.specs.Scripts.{IsInRange}
@@ -18,7 +18,7 @@ use Rattle.script_text.specs.declared.script.Call.{Call}
 use Rattle.script_text.specs.declared.script.Round.{Round}
 use Rattle.script_text.specs.declared.script.Script.{Script}
 use Rattle.lane_world.specs.Called.{lane_of, LaneOf, Called}
-use Rattle.lane_world.proofs.Kept.{Follows, KeepsCall, log_of, seen_by, StandAt, Tallies}
+use Rattle.lane_world.proofs.Kept.{Follows, KeepsTurn, log_of, seen_by, StandAt, Tallies}
 use Rattle.lane_world.proofs.SeenMore.{follows_less, more_begun, more_called, more_split, more_trans, no_less, SeesMore, stand_later}
 use Rattle.lane_world.specs.Rounds.{as_index, BeginsFirst, BeginsRound, IsLaneOf, lane_calls, LeftOf, MakesLane, next_of, CalledAll}
 use Rattle.lane_world.specs.Worlds.{ArePassesOf, IsWhole, IsWorldOf, WorldOf}
@@ -26,7 +26,7 @@ use Rattle.lane_world.specs.declared.Lane.{Lane}
 use Rattle.lane_world.specs.declared.WorldPass.{WorldPass}
 use Rattle.round_laws.proofs.CallingLanes.{calls_bound, in_round}
 use Rattle.round_laws.proofs.Chains.{lies_later, lies_pushed, ListOf, lies_new, LiesIn}
-use Rattle.round_laws.proofs.LaneKept.{KeepsEach, fits_lane_behind}
+use Rattle.round_laws.proofs.LaneKept.{KeepsEach, fits_lane_behind, turn_joins, turn_more, turn_places, turn_promised}
 use Rattle.round_laws.proofs.NotesJoined.{are_later, AreOf, call_notes, joined, none_noted}
 use Rattle.lane_world.proofs.PartLists.{both_noted-assoc, each_weaker, no_notes-joins}
 use Rattle.round_laws.proofs.Tallies.{tallies_none, tallies_more, tallies_split}
@@ -113,10 +113,13 @@ IsFrom lane start done c g = (c.lane ≡ lane) × (start ≤ c.call) × IsAt don
 
 -- ---- one more call
 
-module _ {s : Script} {l : LaneOf} {call : Call} {a : Answer} {m : LaneOf} (kept : KeepsCall s l call a m) (before : List Seen) (lane : ℕ)
+module _ {s : Script} {l : LaneOf} {call : Call} {a : Answer} {m : LaneOf} (turn : KeepsTurn s l call a m) (before : List Seen) (lane : ℕ)
     (done : List DoneCall) (label : l.label ≡ label_at lane (length done)) where
   abbrev log : CallLog
-  log = log_of l.pass m.pass kept.notes kept.trace
+  log = log_of turn.begun.pass m.pass turn.kept.notes turn.kept.trace
+
+  begun_label : turn.begun.label ≡ label_at lane (length done)
+  begun_label = turn.label ∙ label
 
   abbrev at : CallInRound
   at = record { round = length before; call = call }
@@ -129,9 +132,9 @@ module _ {s : Script} {l : LaneOf} {call : Call} {a : Answer} {m : LaneOf} (kept
       → IsKeptOf s (before ++ seen_by base ∷ []) l.pass lane (record { done = done; rest = at ∷ rest })
       → IsKeptOf s (before ++ seen_by base ∷ []) m.pass lane (record { done = done ++ one ∷ []; rest = rest })
   kept_one base rest sees so_far =
-      let more = more_called kept.sees in
-      let promise : IsPromised s lane (length done) log (Follows m.pass) call a (seen_by l.pass) (seen_by m.pass) =
-      subst (λ (c : Label). IsPromised s c.lane c.call log (Follows m.pass) call a (seen_by l.pass) (seen_by m.pass)) label kept.promised in
+      let more = turn_more turn in
+      let promise : IsPromisedInTurn s lane (length done) log (Follows m.pass) call a (seen_by l.pass) (seen_by m.pass) =
+      subst (λ (c : Label). IsPromisedInTurn s c.lane c.call log (Follows m.pass) call a (seen_by l.pass) (seen_by m.pass)) label (turn_promised turn) in
       record {
         parts = so_far.parts ∙ sym (append_assoc (calls_in done) (at ∷ []) rest)
             ∙ ap (λ ps. ps ++ rest) (sym (map-append (λ (d : DoneCall). d.at) done (one ∷ [])));
@@ -143,11 +146,16 @@ module _ {s : Script} {l : LaneOf} {call : Call} {a : Answer} {m : LaneOf} (kept
               subst (λ n. FitsLane (witness_of s e) lane n (seen_by m.pass) rest later) (length-append done (one ∷ [])) fits,
             ));
         each = All-append (Stands (before ++ seen_by base ∷ []) m.pass) done (one ∷ []) (kept_later more so_far).each
-            (record { stand = kept.stand; lies = λ x. lies_new x before l.pass m.pass kept.notes kept.trace (no_less sees) (no_less more) }, tt);
+            (record {
+              stand = turn.kept.stand;
+              lies = λ x. lies_new x before turn.begun.pass m.pass turn.kept.notes turn.kept.trace (no_less (more_trans sees (more_called turn.sees)))
+                  (no_less (more_called turn.kept.sees));
+            }, tt);
         next = λ x j g h this that.
             ⊎_elim (λ there. ⊎_elim (λ behind. so_far.next x j g h there behind)
             (λ new. let most = ((all_at (Stands (before ++ seen_by base ∷ []) l.pass) done j g so_far.each there).lies x).most in
-            omega (arith, most, ap (λ n. n.0) (x.of_log l.pass m.pass kept.notes kept.trace), ap (λ (d : DoneCall). (x.span d.log).0) new.1))
+            omega (arith, most, x.rises (no_less (more_called turn.sees)), ap (λ n. n.0) (x.of_log turn.begun.pass m.pass turn.kept.notes turn.kept.trace),
+            ap (λ (d : DoneCall). (x.span d.log).0) new.1))
             (at_push done one (suc j) h that))
             (λ new. absurd (omega (arith, new.0, slice_get_within (done ++ one ∷ []) (suc j) h that, length-append done (one ∷ []))))
             (at_push done one j g this);
@@ -157,13 +165,13 @@ module _ {s : Script} {l : LaneOf} {call : Call} {a : Answer} {m : LaneOf} (kept
   notes_one : (start : ℕ) → start ≤ length done → AreOf l.pass l.notes (IsFrom lane start done)
       → AreOf m.pass m.notes (IsFrom lane start (done ++ one ∷ []))
   notes_one start low are =
-      subst (λ ns. AreOf m.pass ns (IsFrom lane start (done ++ one ∷ []))) (sym kept.joins)
-      (joined (are_later (more_called kept.sees) are) (call_notes kept)
-      (λ c g h old new. absurd (omega (arith, slice_get_within done c.call old.2.0 old.2.1, ap (λ (d : Label). d.call) (new.0 ∙ label))))
+      subst (λ ns. AreOf m.pass ns (IsFrom lane start (done ++ one ∷ []))) (sym (turn_joins turn))
+      (joined (are_later (turn_more turn) are) (call_notes turn.kept)
+      (λ c g h old new. absurd (omega (arith, slice_get_within done c.call old.2.0 old.2.1, ap (λ (d : Label). d.call) (new.0 ∙ begun_label))))
       (λ c g old. (old.0, old.1, (old.2.0, at_left done (one ∷ []) c.call old.2.0 old.2.1, old.2.2)))
-      (λ c g new. subst (λ (d : Label). IsFrom lane start (done ++ one ∷ []) d g) (sym (new.0 ∙ label)) (refl, low, (one, at_seam done [] one, new.1)))
+      (λ c g new. subst (λ (d : Label). IsFrom lane start (done ++ one ∷ []) d g) (sym (new.0 ∙ begun_label)) (refl, low, (one, at_seam done [] one, new.1)))
       (λ c g both. ⊎_elim (λ there. inl (both.0, both.1, (both.2.0, there, both.2.2)))
-      (λ last. inr (ap (λ n. label_at n c.call) both.0 ∙ ap (label_at lane) last.0 ∙ sym label, ap (λ (d : DoneCall). d.log) last.1 ∙ both.2.2))
+      (λ last. inr (ap (λ n. label_at n c.call) both.0 ∙ ap (label_at lane) last.0 ∙ sym begun_label, ap (λ (d : DoneCall). d.log) last.1 ∙ both.2.2))
       (at_push done one c.call both.2.0 both.2.1)))
 
 -- ---- a round
@@ -235,22 +243,22 @@ module _ {s : Script} {x : WorldOf} (each : KeepsEach s x) (world : IsWorldOf s 
       let label : l.label ≡ label_at lane (length done) =
       old.label ∙ ap (label_at lane) (omega (arith, (slice_get_within (calls_of s lane) (length done) at there), calls_bound s lane range)) in
       let has = subst (λ (d : Label). slice_get (calls_of s d.lane) d.call ≡ Some at) (sym label) there in
-      let kept = each l n c a (record { world = world; range = range; whole = whole; objects = old.opening; at = at; there = has; is = refl }) called in
-      let k = one kept before lane done label in
+      let turn = each l n c a (record { world = world; range = range; whole = whole; objects = old.opening; at = at; there = has; is = refl }) called in
+      let k = one turn before lane done label in
       record {
         all = done ++ k ∷ [];
         answers = map-append (λ (d : DoneCall). d.answer) done (k ∷ []);
-        few = omega (arith, ap (λ (ns : NotesOf). length ns.writes) kept.joins, length-append l.notes.writes kept.added.writes, kept.few);
+        few = omega (arith, ap (λ (ns : NotesOf). length ns.writes) (turn_joins turn), length-append l.notes.writes turn.kept.added.writes, turn.kept.few);
         is = record {
           label = ap (λ (d : Label). label_at d.lane (as_index (d.call + 1))) (same ∙ label)
               ∙ ap (λ i. label_at lane (as_index i)) (sym (length-append done (k ∷ [])));
-          opening = kept.sees.opening ∙ old.opening;
-          sees = more_trans old.sees (more_called kept.sees);
+          opening = turn.kept.sees.opening ∙ (turn.sees.opening ∙ old.opening);
+          sees = more_trans old.sees (turn_more turn);
           begins = begins_trans old.begins (begins_more done (k ∷ []));
-          kept = kept_one kept before lane done label base rest old.sees old.kept;
-          are = notes_one kept before lane done label (length first) (begins_length old.begins) old.are;
-          tallies = subst (Tallies (length s.timers) n.pass) (both_noted-assoc start l.notes kept.added ∙ ap (both_noted start) (sym kept.joins))
-              (tallies_more (both_noted start l.notes) kept.added old.tallies kept.places);
+          kept = kept_one turn before lane done label base rest old.sees old.kept;
+          are = notes_one turn before lane done label (length first) (begins_length old.begins) old.are;
+          tallies = subst (Tallies (length s.timers) n.pass) (both_noted-assoc start l.notes turn.kept.added ∙ ap (both_noted start) (sym (turn_joins turn)))
+              (tallies_more (both_noted start l.notes) turn.kept.added old.tallies (turn_places turn));
         };
       }
 
