@@ -1,6 +1,9 @@
 -- A whole run: the rounds of a script from its first passes on, and the record of what all lanes have left, which shows all that the last passes have seen.
 use Rattle.std.specs.Prelude.{ℕ, ◌≡◌, length, map, ◌+◌, Some, List, [], ◌∷◌}
 use Rattle.clock_cell.specs.Views.{writes}
+use Rattle.ordered_clock.specs.Moments.{told}
+use Rattle.pass_names.specs.Passes.{Looks}
+use Rattle.pass_names.specs.SharedHistory.{LooksOn}
 use Rattle.record_text.specs.declared.record.RunRecord.{RunRecord}
 use Rattle.script_text.specs.declared.script.Script.{Script}
 use Rattle.lane_notes.specs.Notes.{NotesOf}
@@ -33,10 +36,19 @@ pub record ShowsLeft (s : Script) (left : LeftOf) (r : RunRecord) : Type 0 where
   pub in_order : IsSortedFrom left.notes sorted
   pub shows : r ≡ record_from s.version sorted s.bases (length s.timers) left.answers
 
--- the rounds were made in turn, and the record shows the notes and answers that they left, the notes in order
+-- the clock was read until the timers' passes were told of just the writes that it had; nothing else was done
+pub record Settles (p q : WorldPass) : Type 0 where
+  pub timers : LooksOn p.timers.known q.timers.known
+  pub objects : q.objects ≡ p.objects
+  pub clock : Looks p.clock.knows.pass q.clock.knows.pass
+  pub all : told q.timers.known ≡ length (writes q.clock.knows)
+
+-- the rounds were made in turn, the clock was settled, and the record shows the notes and answers that the rounds left, the notes in order
 pub record MakesRun (x : WorldOf) (s : Script) (p : WorldPass) (r : RunRecord) (q : WorldPass) : Type 0 where
   pub left : LeftOf
-  pub rounds : MakesRounds x s.rounds p (none_left s.lanes) q left
+  pub before : WorldPass
+  pub rounds : MakesRounds x s.rounds p (none_left s.lanes) before left
+  pub settles : Settles before q
   pub shows : ShowsLeft s left r
 
 -- ---- what it shows

@@ -7,3 +7,4 @@ pub mod LaneRound
 pub mod LanesTaken
 pub mod RoundsLeft
 pub mod LeftByRounds
+pub mod Settled
