@@ -14,6 +14,7 @@ use Rattle.run_history.specs.Order.{calls_of, IsLabel}
 use Rattle.script_text.specs.Scripts.{IsInRange}
 use Rattle.script_text.specs.declared.script.Script.{Script}
 use Rattle.record_text.specs.declared.record.Answer.{Answer}
+use Rattle.seq_timer.specs.Systems.{rises_of}
 use Rattle.timer_objects.specs.Known.{seen_of}
 use Rattle.lane_world.specs.Runs.{ObjectMove}
 use Rattle.lane_world.proofs.Kept.{Follows, IsNoteSeen, NoteKind, StandAt, Tallies, TellLog, label_of, list_of, own_notes}
@@ -38,6 +39,8 @@ pub record AreLastOf (s : Script) (x : WorldOf) (q : WorldPass) : Type 0 where
   pub whole : IsWhole x
   pub passes : ArePassesOf x q
   pub last : AreLast q
+  -- of the counter for the clock's writes the timers' pass was told of just as many rises as the clock took writes
+  pub told : rises_of 0 q.timers.known.seen ≡ length (writes q.clock.knows)
 
 -- ---- the run
 
