@@ -1,4 +1,4 @@
--- What the last passes know at the end of a run: of which timers, bases and objects entries are, and that each of them was noted once.
+-- What the last passes know at the end of a run: of which timers, bases, counters and objects entries are, and that each of them was noted once.
 use Rattle.run_history.specs.Receipts as receipts
 use Rattle.std.proofs.Common.{◌≡◌, ℕ, ◌<◌, ◌≤◌, zero, suc, Some, List, [], ◌∷◌, filter, length, map, arith, refl, sym, ap, ◌∙◌, subst}
 use Rattle.std.specs.List.{slice_get}
@@ -100,12 +100,13 @@ filter-map make p (x ∷ xs) =
       | false ↦ filter-map make p xs
     ]
 
--- the notes that pass a test, of each kind
+-- law: the notes that pass a test are those of each kind
 pub told_parts : (p : ToldNote → Bool) (notes : NotesOf) → filter p (told_notes notes)
     ≡ filter p (map of_entry notes.entries) ++ (filter p (map of_base notes.bases) ++ filter p (map of_write notes.writes))
 told_parts p notes = filter-append p (map of_entry notes.entries) (map of_base notes.bases ++ map of_write notes.writes)
     ∙ ap (λ xs. filter p (map of_entry notes.entries) ++ xs) (filter-append p (map of_base notes.bases) (map of_write notes.writes))
 
+-- law: three parts that are the same as others make the same list
 pub same_parts : {X : Type 0} {a b c d e f : List X} → a ≡ b → c ≡ d → e ≡ f → a ++ (c ++ e) ≡ b ++ (d ++ f)
 same_parts one two three = λ i. one i ++ (two i ++ three i)
 
@@ -145,12 +146,15 @@ module _ {s : Script} {q : WorldPass} {notes : NotesOf} {logs : Label → CallLo
 
   -- a timer's note, and a base's, among all
   pub entry_stands : (e : EntryNote) → HasPlace notes.entries e → HasPlace (told_notes notes) (of_entry e)
-  entry_stands e st = let o = stands_in_map of_entry notes.entries e st in (o.0, at_left (map of_entry notes.entries) (map of_base notes.bases ++ map of_write notes.writes) o.0 _ o.1)
+  entry_stands e st = let o = stands_in_map of_entry notes.entries e st in
+      (o.0, at_left (map of_entry notes.entries) (map of_base notes.bases ++ map of_write notes.writes) o.0 _ o.1)
 
   pub base_stands : (e : BaseNote) → HasPlace notes.bases e → HasPlace (told_notes notes) (of_base e)
-  base_stands e st = let o = stands_in_map of_base notes.bases e st in
-      (length (map of_entry notes.entries) + o.0, at_behind (map of_entry notes.entries) (map of_base notes.bases ++ map of_write notes.writes) o.0 _
-      (at_left (map of_base notes.bases) (map of_write notes.writes) o.0 _ o.1))
+  base_stands e st = let o = stands_in_map of_base notes.bases e st in (
+    length (map of_entry notes.entries) + o.0,
+    at_behind (map of_entry notes.entries) (map of_base notes.bases ++ map of_write notes.writes) o.0 _
+        (at_left (map of_base notes.bases) (map of_write notes.writes) o.0 _ o.1),
+  )
 
 -- ---- what the last passes have seen
 
@@ -191,7 +195,7 @@ module _ {s : Script} {x : WorldOf} {q : WorldPass} (last : AreLastOf s x q) whe
   one_counter : x.timers.about.counters ≡ 1
   one_counter = ap (λ (o : Opening). o.counters) last.world.timers
 
-  -- no counter but the one that is there was seen to rise
+  -- a rise that was seen is that of the counter that is there
   rose_there : (p k : ℕ) → slice_get q.timers.known.seen p ≡ Some (entries.Rise k) → k ≡ 0
   rose_there p zero at = refl
   rose_there p (suc k) at =
@@ -277,7 +281,7 @@ module _ {s : Script} {x : WorldOf} {q : WorldPass} (last : AreLastOf s x q) whe
     pub writes_once : AreEachOnce place_of_write 0 (length (writes q.clock.knows)) notes.writes
     writes_once = once_from _ left.places.clock ((last.passes.known.all_entries last.last.clock).once 0)
 
-    -- law: so each rise of each counter is, all of which the clock's writes are
+    -- law: so each rise of each counter is: the first one rose at the clock's writes, and no other rose
     pub rises_once : (k : ℕ) → AreEachOnce place_of_write k (receipts.count (CountersList k) q.timers.known.seen) notes.writes
     rises_once zero = subst (λ n. AreEachOnce place_of_write 0 n notes.writes) (sym last.told) writes_once
     rises_once (suc k) = none_noted_past place_of_write (suc k) notes.writes (CountersList (suc k)) (λ is. absurd (omega (arith, is))) (λ e st is. sym is)
