@@ -39,7 +39,7 @@ pub record AreLastOf (s : Script) (x : WorldOf) (q : WorldPass) : Type 0 where
   pub whole : IsWhole x
   pub passes : ArePassesOf x q
   pub last : AreLast q
-  -- the timers' pass was told of just the clock's writes
+  -- of the counter for the clock's writes the timers' pass was told of just as many rises as the clock took writes
   pub told : rises_of 0 q.timers.known.seen ≡ length (writes q.clock.knows)
 
 -- ---- the run
@@ -49,7 +49,8 @@ abbrev pub span_of : Option ObjectMove → ℕ × ℕ
 span_of None = (0, 0)
 span_of (Some h) = (h.call.from, h.call.to)
 
--- a run with this record: the order of all timers' and bases' entries, and the spans of objects' entries, are as the last passes have seen them
+-- a run with this record: the order of all timers' and bases' entries and the clock's writes, and the spans of objects' entries, are as the last passes have
+-- seen them
 abbrev pub ending_of : RunRecord → WorldPass → (Label → CallLog) → RoundStarts → Ending
 ending_of r q logs starts = record {
   run = r;

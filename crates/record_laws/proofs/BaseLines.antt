@@ -23,7 +23,8 @@ shifts_in : (clock : List ClockLine) (b : ℕ) (ms : List Move)
 shifts_in clock b [] = refl
 shifts_in clock b (m ∷ ms) = here (shifts_in clock b ms) m.shown
   where
-    here : shifts_of b (map (entry_of_move clock) ms) ≡ map (λ n. event_in n.shown) (moves_on (BasesList b) ms) → (shown : Shown) → shifts_of b (map (entry_of_move clock) (record m { shown = shown } ∷ ms))
+    here : shifts_of b (map (entry_of_move clock) ms) ≡ map (λ n. event_in n.shown) (moves_on (BasesList b) ms) → (shown : Shown)
+        → shifts_of b (map (entry_of_move clock) (record m { shown = shown } ∷ ms))
         ≡ map (λ n. event_in n.shown) (moves_on (BasesList b) (record m { shown = shown } ∷ ms))
     here rest (OfTimer t entry) = rest
     here rest (OfRise k) = rest

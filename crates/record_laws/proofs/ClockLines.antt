@@ -38,8 +38,8 @@ writes_from [] r accepted shows = tt
 writes_from (line ∷ lines) r accepted shows =
     (accepted.0, shows 0 line refl, writes_from lines (after_write r line.write) accepted.1 (λ k. shows (suc k)))
 
--- the clock has one list
-all_of_clock : (ns : List WriteNote) → filter (is_of_list place_of_write 0) ns ≡ ns
+-- law: the clock has one list
+pub all_of_clock : (ns : List WriteNote) → filter (is_of_list place_of_write 0) ns ≡ ns
 all_of_clock [] = refl
 all_of_clock (n ∷ ns) = ap (λ ms. n ∷ ms) (all_of_clock ns)
 

@@ -1,9 +1,10 @@
--- The sorted notes of entries, each with the place that its call's receipt has: they are what a record's lines of timers and bases are made of.
+-- The sorted notes of entries and writes, each with the place that its call's receipt has: they are what a record's lines of timers, of bases and of the
+-- clock are made of.
 use Rattle.script_text.proofs.Lists.{All-map}
 use Rattle.lane_notes.specs.Sorted.{Place}
 use Rattle.run_history.specs.Receipts as receipts
 use mathlib.Core.Bool.{cond}
-use Rattle.std.proofs.Common.{◌≡◌, ℕ, ◌+◌, ◌<◌, ◌≤◌, true, false, nat_eq, Some, List, [], ◌∷◌, filter, length, map, take, arith, refl, sym, ap, ◌∙◌, subst}
+use Rattle.std.proofs.Common.{◌≡◌, ℕ, ◌+◌, ◌<◌, ◌≤◌, zero, suc, true, false, nat_eq, Some, List, [], ◌∷◌, filter, length, map, take, arith, refl, sym, ap, ◌∙◌, subst}
 use Rattle.std.specs.List.{AllByRecursion, slice_get}
 use Rattle.std.proofs.lemmas.List.{length-map}
 use Rattle.seq_timer.specs.declared.system.SystemEntry.{SystemEntry}
@@ -11,14 +12,14 @@ use Rattle.std.specs.List.Sorted.{IsPermutation}
 use Rattle.std.proofs.Common.{◌⊎◌, ◌++◌, Bool, inl, inr, ⊎_elim}
 use Rattle.std.proofs.lemmas.Bool.{eqb-true}
 use Rattle.std.proofs.lemmas.List.{append-nil}
-use Rattle.std.proofs.lemmas.List.Elements.{filter-append}
 use Rattle.std.proofs.lemmas.List.Sorted.{IsPermutation-append, IsPermutation-map}
 use Rattle.record_text.proofs.Lists.{All-append}
 use Rattle.lane_notes.specs.Notes.{NotesOf}
 use Rattle.lane_notes.specs.Records.{base_line, record_from, timer_line}
-use Rattle.lane_notes.specs.Sorted.{is_of_list, IsSortedFrom, place_of_base, place_of_entry, place_of_look}
+use Rattle.lane_notes.specs.Sorted.{is_of_list, IsSortedFrom, place_of_base, place_of_entry, place_of_look, place_of_write}
 use Rattle.lane_notes.specs.declared.notes.BaseNote.{BaseNote}
 use Rattle.lane_notes.specs.declared.notes.EntryNote.{EntryNote}
+use Rattle.lane_notes.specs.declared.notes.WriteNote.{WriteNote}
 use Rattle.lane_notes.proofs.Lists.{noted_lines-shown}
 use Rattle.lane_notes.proofs.Rising.{RiseBehind, RiseBehind-sorted}
 use Rattle.lane_notes.proofs.Standing.{HasPlace, stands_permuted, stood_before}
@@ -28,22 +29,24 @@ use Rattle.run_history.specs.Actions.{also}
 use Rattle.run_history.specs.Order.{IsLabel}
 use Rattle.script_text.specs.declared.script.Script.{Script}
 use Rattle.run_history.specs.Receipts.{AreFiled, Filed, files_on, IsAhead, IsMade, line_filed, PlacedEntry, RiseBy}
-use Rattle.run_history.specs.Witnesses.{BasesList, CountersList, OfBase, OfTimer, Owner, ShownLine, TimersList, is_owner, line_of_base, line_of_timer, lines_at, owner_of}
+use Rattle.run_history.specs.Witnesses.{BasesList, CountersList, OfBase, OfTimer, Owner, ShownLine, TimersList, is_owner, line_of_base, line_of_timer, line_of_write, lines_at, owner_of}
 use Rattle.run_history.specs.Runs.{CallLog}
 use Rattle.run_history.proofs.Known.{behind_all, rises_lower}
 use Rattle.run_history.proofs.Laid.{same_place}
 use Rattle.run_history.proofs.Lists.{all_at, each, at_map, map_get}
-use Rattle.lane_world.proofs.Kept.{BaseNotes, EntryNotes, ToldNote, of_base, of_entry, told_notes}
+use Rattle.lane_world.proofs.Kept.{BaseNotes, EntryNotes, ToldNote, WriteNotes, of_base, of_entry, of_write, told_notes}
 use Rattle.lane_world.proofs.PartLists.{each_weaker}
 use Rattle.lane_world.proofs.Left.{AreLastOf, AreLeft}
 use Rattle.lane_world.specs.Worlds.{WorldOf}
 use Rattle.lane_world.specs.declared.WorldPass.{WorldPass}
-use Rattle.record_laws.proofs.LastSeen.{base_lines_are, entries_once, has_receipt, HasReceipt, is_told, none_past, note_made, noted_at, shifts_once, timer_lines_are}
-use Rattle.record_laws.proofs.Numbered.{as_many, at_most_one, number_within}
+use Rattle.record_laws.proofs.LastSeen.{base_lines_are, entries_once, has_receipt, HasReceipt, is_told, none_past, note_made, noted_at, rises_once, same_parts, shifts_once, timer_lines_are, told_parts}
+use Rattle.record_laws.proofs.Numbered.{as_many, at_most_one, none_long, number_within}
+use Rattle.record_laws.proofs.ClockLines.{all_of_clock}
+use Rattle.std.proofs.lemmas.Simd.{map-map}
 
 -- ---- notes with their receipts
 
--- whether a note of an entry is of this list
+-- whether a note is of this list
 abbrev pub is_on : Owner → ToldNote → Bool
 is_on o n = is_owner (owner_of n.shown) o
 
@@ -87,17 +90,24 @@ files_rise : (logs : Label → CallLog) (o : Owner) (k : ℕ) (ps : List (WithRe
 files_rise logs o k [] rise = tt
 files_rise logs o k (p ∷ ps) rise = (rise.0, files_rise logs (owner_of p.0.shown) p.0.number ps rise.1)
 
-bases_rise : (b k : ℕ) (bs : List BaseNote) → RiseBehind place_of_base b k bs → RiseTold (BasesList b) k (map of_base bs)
-bases_rise b k [] rise = tt
-bases_rise b k (x ∷ bs) rise =
-    (⊎_elim (λ less. inl less) (λ same. inr (ap (λ n. BasesList n) same.0, same.1)) rise.0, bases_rise x.base x.number bs rise.1)
+writes_rise : (k : ℕ) (ws : List WriteNote) → RiseBehind place_of_write 0 k ws → RiseTold (CountersList 0) k (map of_write ws)
+writes_rise k [] rise = tt
+writes_rise k (w ∷ ws) rise = (⊎_elim (λ less. inl less) (λ same. inr (refl, same.1)) rise.0, writes_rise w.stamp ws rise.1)
 
-told_rise : (t k : ℕ) (es : List EntryNote) (bs : List BaseNote) → RiseBehind place_of_entry t k es → RiseBehind place_of_base 0 0 bs
-    → RiseTold (TimersList t) k (map of_entry es ++ map of_base bs)
-told_rise t k [] [] rise behind = tt
-told_rise t k [] (x ∷ bs) rise behind = (inl tt, bases_rise x.base x.number bs behind.1)
-told_rise t k (e ∷ es) bs rise behind =
-    (⊎_elim (λ less. inl less) (λ same. inr (ap (λ n. TimersList n) same.0, same.1)) rise.0, told_rise e.timer e.number es bs rise.1 behind)
+bases_rise : (b k : ℕ) (bs : List BaseNote) (ws : List WriteNote) → RiseBehind place_of_base b k bs → RiseBehind place_of_write 0 0 ws
+    → RiseTold (BasesList b) k (map of_base bs ++ map of_write ws)
+bases_rise b k [] [] rise behind = tt
+bases_rise b k [] (w ∷ ws) rise behind = (inl tt, writes_rise w.stamp ws behind.1)
+bases_rise b k (x ∷ bs) ws rise behind =
+    (⊎_elim (λ less. inl less) (λ same. inr (ap (λ n. BasesList n) same.0, same.1)) rise.0, bases_rise x.base x.number bs ws rise.1 behind)
+
+told_rise : (t k : ℕ) (es : List EntryNote) (bs : List BaseNote) (ws : List WriteNote) → RiseBehind place_of_entry t k es → RiseBehind place_of_base 0 0 bs
+    → RiseBehind place_of_write 0 0 ws → RiseTold (TimersList t) k (map of_entry es ++ (map of_base bs ++ map of_write ws))
+told_rise t k [] [] [] rise behind last = tt
+told_rise t k [] [] (w ∷ ws) rise behind last = (inl tt, writes_rise w.stamp ws last.1)
+told_rise t k [] (x ∷ bs) ws rise behind last = (inl tt, bases_rise x.base x.number bs ws behind.1 last)
+told_rise t k (e ∷ es) bs ws rise behind last =
+    (⊎_elim (λ less. inl less) (λ same. inr (ap (λ n. TimersList n) same.0, same.1)) rise.0, told_rise e.timer e.number es bs ws rise.1 behind last)
 
 -- ---- notes of one list
 
@@ -116,42 +126,35 @@ lines_on of place o l line test same (x ∷ xs) =
       | false ↦ λ is. rest
     ] refl
 
-no_timers_on : (b : ℕ) (es : List EntryNote) → filter (is_on (BasesList b)) (map of_entry es) ≡ []
-no_timers_on b [] = refl
-no_timers_on b (e ∷ es) = no_timers_on b es
-
-no_bases_on : (t : ℕ) (bs : List BaseNote) → filter (is_on (TimersList t)) (map of_base bs) ≡ []
-no_bases_on t [] = refl
-no_bases_on t (b ∷ bs) = no_bases_on t bs
-
--- no note is of a counter
-no_counters_on : (k : ℕ) (ns : NotesOf) → filter (is_on (CountersList k)) (told_notes ns) ≡ []
-no_counters_on k ns = filter-append (is_on (CountersList k)) (map of_entry ns.entries) (map of_base ns.bases)
-    ∙ ap (λ zs. zs ++ filter (is_on (CountersList k)) (map of_base ns.bases)) (of_entries ns.entries) ∙ of_bases ns.bases
-  where
-    of_entries : (es : List EntryNote) → filter (is_on (CountersList k)) (map of_entry es) ≡ []
-    of_entries [] = refl
-    of_entries (e ∷ es) = of_entries es
-
-    of_bases : (bs : List BaseNote) → filter (is_on (CountersList k)) (map of_base bs) ≡ []
-    of_bases [] = refl
-    of_bases (b ∷ bs) = of_bases bs
+-- and those of another kind are of none
+none_on : {X : Type 0} (of : X → ToldNote) (o : Owner) → ((x : X) → is_on o (of x) ≡ false) → (xs : List X) → filter (is_on o) (map of xs) ≡ []
+none_on of o other [] = refl
+none_on of o other (x ∷ xs) =
+    let notes = filter (is_on o) (map of xs) in
+    ap (λ b. cond b (of x ∷ notes) notes) (other x) ∙ none_on of o other xs
 
 of_timer_told : (t : ℕ) (ns : NotesOf) → map line_told (filter (is_on (TimersList t)) (told_notes ns))
     ≡ map (λ n. record { label = n.label; shown = OfTimer t n.entry }) (filter (is_of_list place_of_entry t) ns.entries)
 of_timer_told t ns =
-    ap (map line_told) (filter-append (is_on (TimersList t)) (map of_entry ns.entries) (map of_base ns.bases)
-    ∙ ap (λ zs. filter (is_on (TimersList t)) (map of_entry ns.entries) ++ zs) (no_bases_on t ns.bases)
-    ∙ append-nil (filter (is_on (TimersList t)) (map of_entry ns.entries))) ∙ lines_on of_entry place_of_entry (TimersList t) t _ (λ e. refl)
+    let o = TimersList t in
+    ap (map line_told) (told_parts (is_on o) ns ∙ same_parts refl (none_on of_base o (λ x. refl) ns.bases) (none_on of_write o (λ x. refl) ns.writes)
+    ∙ append-nil (filter (is_on o) (map of_entry ns.entries))) ∙ lines_on of_entry place_of_entry o t _ (λ e. refl)
     (λ e is. ap (λ u. record { label = e.label; shown = OfTimer u e.entry }) is) ns.entries
 
 of_base_told : (b : ℕ) (ns : NotesOf) → map line_told (filter (is_on (BasesList b)) (told_notes ns))
     ≡ map (λ n. record { label = n.label; shown = OfBase b n.event }) (filter (is_of_list place_of_base b) ns.bases)
 of_base_told b ns =
-    ap (map line_told) (filter-append (is_on (BasesList b)) (map of_entry ns.entries) (map of_base ns.bases)
-    ∙ ap (λ zs. zs ++ filter (is_on (BasesList b)) (map of_base ns.bases)) (no_timers_on b ns.entries)) ∙ lines_on of_base place_of_base (BasesList b) b _
-    (λ e. refl)
+    let o = BasesList b in
+    ap (map line_told) (told_parts (is_on o) ns ∙ same_parts (none_on of_entry o (λ x. refl) ns.entries) refl (none_on of_write o (λ x. refl) ns.writes)
+    ∙ append-nil (filter (is_on o) (map of_base ns.bases))) ∙ lines_on of_base place_of_base o b _ (λ e. refl)
     (λ e is. ap (λ u. record { label = e.label; shown = OfBase u e.event }) is) ns.bases
+
+of_write_told : (k : ℕ) (ns : NotesOf) → map line_told (filter (is_on (CountersList k)) (told_notes ns))
+    ≡ map (λ n. line_of_write n.line) (filter (is_of_list place_of_write k) ns.writes)
+of_write_told k ns =
+    let o = CountersList k in
+    ap (map line_told) (told_parts (is_on o) ns ∙ same_parts (none_on of_entry o (λ x. refl) ns.entries) (none_on of_base o (λ x. refl) ns.bases) refl)
+    ∙ lines_on of_write place_of_write o k _ (λ e. refl) (λ e is. refl) ns.writes
 
 -- ---- the record's lines
 
@@ -162,7 +165,8 @@ module _ {s : Script} {x : WorldOf} {q : WorldPass} {notes sorted : NotesOf} {lo
 
   same_told : IsPermutation (told_notes notes) (told_notes sorted)
   same_told = IsPermutation-append _ _ _ _ (IsPermutation-map of_entry notes.entries sorted.entries is.entries.same)
-      (IsPermutation-map of_base notes.bases sorted.bases is.bases.same)
+      (IsPermutation-append _ _ _ _ (IsPermutation-map of_base notes.bases sorted.bases is.bases.same)
+      (IsPermutation-map of_write notes.writes sorted.writes is.writes.same))
 
   -- a note stands among the sorted ones where it stands among those that were left
   stood : (n : ToldNote) → HasPlace (told_notes sorted) n → HasPlace (told_notes notes) n
@@ -206,7 +210,19 @@ module _ {s : Script} {x : WorldOf} {q : WorldPass} {notes sorted : NotesOf} {lo
   shapes : (o : Owner) → map line_filed (files_on o filed_notes) ≡ map line_told (filter (is_on o) (told_notes sorted))
   shapes o = files_lines logs o pairs ∙ ap (λ ns. map line_told (filter (is_on o) ns)) (are_notes logs (told_notes sorted) each_has)
 
-  -- the lines of a list are those of its receipts
+  -- a list has as many receipts as entries
+  many_filed : (o : Owner) → length (files_on o filed_notes) ≡ receipts.count o seen
+  many_filed (TimersList t) =
+      sym (length-map (files_on (TimersList t) filed_notes) line_filed) ∙ ap length (shapes (TimersList t) ∙ of_timer_told t sorted)
+      ∙ length-map (filter (is_of_list place_of_entry t) sorted.entries) _ ∙ as_many is.entries (entries_once last left t)
+  many_filed (BasesList b) =
+      sym (length-map (files_on (BasesList b) filed_notes) line_filed) ∙ ap length (shapes (BasesList b) ∙ of_base_told b sorted)
+      ∙ length-map (filter (is_of_list place_of_base b) sorted.bases) _ ∙ as_many is.bases (shifts_once last left b)
+  many_filed (CountersList k) =
+      sym (length-map (files_on (CountersList k) filed_notes) line_filed) ∙ ap length (shapes (CountersList k) ∙ of_write_told k sorted)
+      ∙ length-map (filter (is_of_list place_of_write k) sorted.writes) _ ∙ as_many is.writes (rises_once last left k)
+
+  -- and its lines are theirs
   lines_filed : (o : Owner) → lines_at (record_from s.version sorted s.bases (length s.timers) answers) o ≡ map line_filed (files_on o filed_notes)
   lines_filed (TimersList t) =
       ap (map (line_of_timer t)) (timer_lines_are last left is answers t)
@@ -219,21 +235,15 @@ module _ {s : Script} {x : WorldOf} {q : WorldPass} {notes sorted : NotesOf} {lo
       each_line : (bs : List BaseNote) → map (line_of_base b) (map base_line bs) ≡ map (λ n. record { label = n.label; shown = OfBase b n.event }) bs
       each_line [] = refl
       each_line (n ∷ bs) = ap (λ zs. record { label = n.label; shown = OfBase b n.event } ∷ zs) (each_line bs)
-  lines_filed (CountersList k) = sym (shapes (CountersList k) ∙ ap (map line_told) (no_counters_on k sorted))
+  lines_filed (CountersList zero) =
+      map-map line_of_write (λ (n : WriteNote). n.line) sorted.writes ∙ ap (map (λ (n : WriteNote). line_of_write n.line)) (sym (all_of_clock sorted.writes))
+      ∙ sym (shapes (CountersList 0) ∙ of_write_told 0 sorted)
+  lines_filed (CountersList (suc k)) =
+      let o = CountersList (suc k) in
+      sym (none_long (map line_filed (files_on o filed_notes))
+      (length-map (files_on o filed_notes) line_filed ∙ many_filed o ∙ none_past last o (λ is. absurd (omega (arith, is)))))
 
-  -- and as many
-  many_filed : (o : Owner) → length (files_on o filed_notes) ≡ receipts.count o seen
-  many_filed (TimersList t) =
-      sym (length-map (files_on (TimersList t) filed_notes) line_filed) ∙ ap length (shapes (TimersList t) ∙ of_timer_told t sorted)
-      ∙ length-map (filter (is_of_list place_of_entry t) sorted.entries) _ ∙ as_many is.entries (entries_once last left t)
-  many_filed (BasesList b) =
-      sym (length-map (files_on (BasesList b) filed_notes) line_filed) ∙ ap length (shapes (BasesList b) ∙ of_base_told b sorted)
-      ∙ length-map (filter (is_of_list place_of_base b) sorted.bases) _ ∙ as_many is.bases (shifts_once last left b)
-  many_filed (CountersList k) =
-      sym (length-map (files_on (CountersList k) filed_notes) line_filed) ∙ ap length (shapes (CountersList k) ∙ ap (map line_told) (no_counters_on k sorted))
-      ∙ sym (none_past last (CountersList k) (λ there. there))
-
-  -- law: the record's lines of timers and bases are the receipts of all calls, sorted
+  -- law: the record's lines of timers, of bases and of the clock are the receipts of all calls, sorted
   pub are_filed : AreFiled (record_from s.version sorted s.bases (length s.timers) answers) seen (λ c. (logs c).notes) filed_notes
   are_filed = record {
     rise = λ c. rises_lower 0 (logs c).moves.0 (map (λ y. y.place) (logs c).notes) (omega arith) (left.stand c).rise;
@@ -242,11 +252,13 @@ module _ {s : Script} {x : WorldOf} {q : WorldPass} {notes sorted : NotesOf} {lo
     back = λ i f at. let m = map_get (file logs) pairs i f at in
         (m.0.1.index, subst (λ (g : Filed). slice_get (logs g.label).notes m.0.1.index ≡ Some g.note) m.2 m.0.1.there);
     sorts = files_rise logs (TimersList 0) 0 pairs (subst (RiseTold (TimersList 0) 0) (sym (are_notes logs (told_notes sorted) each_has))
-        (told_rise 0 0 sorted.entries sorted.bases
+        (told_rise 0 0 sorted.entries sorted.bases sorted.writes
         (RiseBehind-sorted place_of_entry notes.entries sorted.entries is.entries (λ l n. at_most_one is.entries (entries_once last left l) n)
         (each _ notes.entries (λ p n at. (number_within is.entries (entries_once last left n.timer) n (p, at) refl).0)))
         (RiseBehind-sorted place_of_base notes.bases sorted.bases is.bases (λ l n. at_most_one is.bases (shifts_once last left l) n)
-        (each _ notes.bases (λ p n at. (number_within is.bases (shifts_once last left n.base) n (p, at) refl).0)))));
+        (each _ notes.bases (λ p n at. (number_within is.bases (shifts_once last left n.base) n (p, at) refl).0)))
+        (RiseBehind-sorted place_of_write notes.writes sorted.writes is.writes (λ l n. at_most_one is.writes (rises_once last left l) n)
+        (each _ notes.writes (λ p n at. (number_within is.writes (rises_once last left 0) n (p, at) refl).0)))));
     as_many = many_filed;
     lines = lines_filed;
   }
@@ -254,9 +266,11 @@ module _ {s : Script} {x : WorldOf} {q : WorldPass} {notes sorted : NotesOf} {lo
   -- a note's label is a call's
   note_called : (n : ToldNote) → HasPlace (told_notes notes) n → IsLabel s n.label
   note_called n st = all_at (λ (m : ToldNote). IsLabel s m.label) (told_notes notes) st.0 n (All-append (λ (m : ToldNote). IsLabel s m.label)
-      (map of_entry notes.entries) (map of_base notes.bases)
+      (map of_entry notes.entries) (map of_base notes.bases ++ map of_write notes.writes)
       (All-map _ of_entry notes.entries (each_weaker notes.entries (λ e in_it. in_it.0) (left.seen EntryNotes)))
-      (All-map _ of_base notes.bases (each_weaker notes.bases (λ e in_it. in_it.0) (left.seen BaseNotes)))) st.1
+      (All-append (λ (m : ToldNote). IsLabel s m.label) (map of_base notes.bases) (map of_write notes.writes)
+      (All-map _ of_base notes.bases (each_weaker notes.bases (λ e in_it. in_it.0) (left.seen BaseNotes)))
+      (All-map _ of_write notes.writes (each_weaker notes.writes (λ e in_it. in_it.0) (left.seen WriteNotes))))) st.1
 
   -- law: receipts are of calls of the script, in their calls' spans
   pub receipts_inside : (c : Label) → AllByRecursion (λ y. IsLabel s c × ((logs c).moves.0 ≤ y.place) × (y.place < (logs c).moves.1)) (logs c).notes

@@ -62,7 +62,8 @@ module _ {s : Script} {x : WorldOf} {q : WorldPass} {notes sorted : NotesOf} {lo
   look_noted n st = all_at (λ m. IsLabel s m.label × IsNoteSeen LookNotes q (logs m.label) m) notes.looks st.0 n (left.seen LookNotes) st.1
 
   -- law: a call's looks under the record's lines are what it was told
-  pub looks_own : (c : Label) (t : ℕ) → own_looks c 1 (lines_of_timer (record_from s.version sorted s.bases (length s.timers) answers) t) ≡ looked t (logs c).trace.actions
+  pub looks_own : (c : Label) (t : ℕ)
+      → own_looks c 1 (lines_of_timer (record_from s.version sorted s.bases (length s.timers) answers) t) ≡ looked t (logs c).trace.actions
   looks_own c t =
       let shapes = map (shape place_of_look (λ n. n.reply)) (filter (is_of_list place_of_look t) sorted.looks) in
       ap (own_looks c 1) (timer_lines_are last left is answers t)

@@ -1,4 +1,4 @@
--- What the last passes know at the end of a run: of which timers, bases and objects entries are, and that each of them was noted once.
+-- What the last passes know at the end of a run: of which timers, bases, counters and objects entries are, and that each of them was noted once.
 use Rattle.run_history.specs.Receipts as receipts
 use Rattle.std.proofs.Common.{◌≡◌, ℕ, ◌<◌, ◌≤◌, zero, suc, Some, List, [], ◌∷◌, filter, length, map, arith, refl, sym, ap, ◌∙◌, subst}
 use Rattle.std.specs.List.{slice_get}
@@ -38,7 +38,7 @@ use Rattle.run_history.proofs.Laid.{counts_more}
 use Rattle.run_history.proofs.Lists.{all_at, at_left, each}
 use Rattle.run_history.proofs.Owners.{count_is, entries_at}
 use Rattle.run_history.specs.Witnesses.{BasesList, CountersList, Owner, Shown, TimersList, owner_of, owner_of_entry}
-use Rattle.lane_world.proofs.Kept.{ToldNote, base_note_place, note_place, of_base, of_entry, own_notes, told_in, told_notes}
+use Rattle.lane_world.proofs.Kept.{ToldNote, base_note_place, note_place, of_base, of_entry, of_write, own_notes, told_in, told_notes}
 use Rattle.lane_world.proofs.Left.{AreLastOf, AreLeft}
 use Rattle.lane_world.specs.Worlds.{WorldOf}
 use Rattle.lane_world.specs.declared.WorldPass.{WorldPass}
@@ -100,6 +100,16 @@ filter-map make p (x ∷ xs) =
       | false ↦ filter-map make p xs
     ]
 
+-- law: the notes that pass a test are those of each kind
+pub told_parts : (p : ToldNote → Bool) (notes : NotesOf) → filter p (told_notes notes)
+    ≡ filter p (map of_entry notes.entries) ++ (filter p (map of_base notes.bases) ++ filter p (map of_write notes.writes))
+told_parts p notes = filter-append p (map of_entry notes.entries) (map of_base notes.bases ++ map of_write notes.writes)
+    ∙ ap (λ xs. filter p (map of_entry notes.entries) ++ xs) (filter-append p (map of_base notes.bases) (map of_write notes.writes))
+
+-- law: three parts that are the same as others make the same list
+pub same_parts : {X : Type 0} {a b c d e f : List X} → a ≡ b → c ≡ d → e ≡ f → a ++ (c ++ e) ≡ b ++ (d ++ f)
+same_parts one two three = λ i. one i ++ (two i ++ three i)
+
 module _ {s : Script} {q : WorldPass} {notes : NotesOf} {logs : Label → CallLog} (left : AreLeft s q notes logs) where
   abbrev own : Label → List ToldNote
   own c = filter (λ n. is_label c n.label) (told_notes notes)
@@ -107,9 +117,8 @@ module _ {s : Script} {q : WorldPass} {notes : NotesOf} {logs : Label → CallLo
   own_told : (c : Label) → told_notes (own_notes c notes) ≡ own c
   own_told c =
       let mine = λ (n : ToldNote). is_label c n.label in
-      sym (filter-append mine (map of_entry notes.entries) (map of_base notes.bases) ∙ ap (λ xs. xs ++ filter mine (map of_base notes.bases))
-      (filter-map of_entry mine notes.entries) ∙ ap (λ xs. map of_entry (filter (λ e. mine (of_entry e)) notes.entries) ++ xs)
-      (filter-map of_base mine notes.bases))
+      sym (told_parts mine notes
+      ∙ same_parts (filter-map of_entry mine notes.entries) (filter-map of_base mine notes.bases) (filter-map of_write mine notes.writes))
 
   told_so : (c : Label) → IsPermutation (map receipt (logs c).notes) (map told_in (own c))
   told_so c = subst (λ ts. IsPermutation (map receipt (logs c).notes) (map told_in ts)) (own_told c) (left.tell c).receipts
@@ -137,11 +146,15 @@ module _ {s : Script} {q : WorldPass} {notes : NotesOf} {logs : Label → CallLo
 
   -- a timer's note, and a base's, among all
   pub entry_stands : (e : EntryNote) → HasPlace notes.entries e → HasPlace (told_notes notes) (of_entry e)
-  entry_stands e st = let o = stands_in_map of_entry notes.entries e st in (o.0, at_left (map of_entry notes.entries) (map of_base notes.bases) o.0 _ o.1)
+  entry_stands e st = let o = stands_in_map of_entry notes.entries e st in
+      (o.0, at_left (map of_entry notes.entries) (map of_base notes.bases ++ map of_write notes.writes) o.0 _ o.1)
 
   pub base_stands : (e : BaseNote) → HasPlace notes.bases e → HasPlace (told_notes notes) (of_base e)
-  base_stands e st = let o = stands_in_map of_base notes.bases e st in
-      (length (map of_entry notes.entries) + o.0, at_behind (map of_entry notes.entries) (map of_base notes.bases) o.0 _ o.1)
+  base_stands e st = let o = stands_in_map of_base notes.bases e st in (
+    length (map of_entry notes.entries) + o.0,
+    at_behind (map of_entry notes.entries) (map of_base notes.bases ++ map of_write notes.writes) o.0 _
+        (at_left (map of_base notes.bases) (map of_write notes.writes) o.0 _ o.1),
+  )
 
 -- ---- what the last passes have seen
 
@@ -167,11 +180,11 @@ base_at many b n (x ∷ bs) =
     ∙ ap (λ k. one_if ((x.base == b) && (x.number == n)) + k) (base_at many b n bs)
 
 module _ {s : Script} {x : WorldOf} {q : WorldPass} (last : AreLastOf s x q) where
-  -- whether a list is there; no counter is
+  -- whether a list is there; of counters the one of the clock's writes is
   abbrev pub IsThere : Owner → Type 0
   IsThere (TimersList t) = t < length s.timers
   IsThere (BasesList b) = b < s.bases
-  IsThere (CountersList k) = ⊥
+  IsThere (CountersList k) = k ≡ 0
 
   many_timers : length x.timers.about.timers ≡ length s.timers
   many_timers = ap (λ (o : Opening). length o.timers) last.world.timers ∙ length-map (declareds_of s) _ ∙ length-map s.timers declared_as
@@ -179,16 +192,18 @@ module _ {s : Script} {x : WorldOf} {q : WorldPass} (last : AreLastOf s x q) whe
   many_bases : x.timers.about.bases ≡ s.bases
   many_bases = ap (λ (o : Opening). o.bases) last.world.timers
 
-  no_counters : x.timers.about.counters ≡ 0
-  no_counters = ap (λ (o : Opening). o.counters) last.world.timers
+  one_counter : x.timers.about.counters ≡ 1
+  one_counter = ap (λ (o : Opening). o.counters) last.world.timers
 
-  -- no rise was seen
-  none_rose : (p k : ℕ) → slice_get q.timers.known.seen p ≡ Some (entries.Rise k) → ⊥
-  none_rose p k at =
+  -- a rise that was seen is that of the counter that is there
+  rose_there : (p k : ℕ) → slice_get q.timers.known.seen p ≡ Some (entries.Rise k) → k ≡ 0
+  rose_there p zero at = refl
+  rose_there p (suc k) at =
       let seen = q.timers.known.seen in
-      let never : rises_of k seen ≡ 0 = last.passes.timers.knows.counters k (subst (λ n. n ≤ k) (sym no_counters) (omega arith)) in
-      let more = counts_more seen p (length seen) (CountersList k) (entries.Rise k) at refl (slice_get_within seen p (entries.Rise k) at) in
-      omega (arith, more, ap (rises_of k) (take_all (length seen) seen (omega arith)), never)
+      let never : rises_of (suc k) seen ≡ 0 = last.passes.timers.knows.counters (suc k) (subst (λ n. n ≤ suc k) (sym one_counter) (omega arith)) in
+      let more = counts_more seen p (length seen) (CountersList (suc k)) (entries.Rise (suc k)) at refl
+      (slice_get_within seen p (entries.Rise (suc k)) at) in
+      absurd (omega (arith, more, ap (rises_of (suc k)) (take_all (length seen) seen (omega arith)), never))
 
   -- the list of an entry that was seen is there
   there_within : (p : ℕ) (e : SystemEntry) → slice_get q.timers.known.seen p ≡ Some e → IsThere (owner_of_entry e)
@@ -198,7 +213,7 @@ module _ {s : Script} {x : WorldOf} {q : WorldPass} (last : AreLastOf s x q) whe
       here : (e : SystemEntry) → slice_get q.timers.known.seen p ≡ Some e → IsWithin s.bases (length s.timers) e → IsThere (owner_of_entry e)
       here (entries.Timer e) at in_it = in_it
       here (entries.Base c) at in_it = in_it
-      here (entries.Rise k) at in_it = none_rose p k at
+      here (entries.Rise k) at in_it = rose_there p k at
 
   pub many_objects : length q.objects.knows.opening ≡ length s.timers
   many_objects = ap length last.passes.objects.row.made ∙ length-map x.objects.decls _ ∙ ap length last.world.decls ∙ length-map s.timers _
@@ -214,7 +229,7 @@ module _ {s : Script} {x : WorldOf} {q : WorldPass} (last : AreLastOf s x q) whe
       past (subst IsThere at.owner (there_within at.place e at.there))))
 
   module _ {notes : NotesOf} {logs : Label → CallLog} (left : AreLeft s q notes logs) where
-    -- law: a note is of a timer or a base that is there
+    -- law: a note is of a timer, a base or a counter that is there
     pub note_within : (n : ToldNote) → HasPlace (told_notes notes) n → IsThere (owner_of n.shown)
     note_within n st = let made = note_made left n (has_receipt left n st) in
         subst IsThere made.owner (there_within _ made.step made.there)
@@ -265,6 +280,11 @@ module _ {s : Script} {x : WorldOf} {q : WorldPass} (last : AreLastOf s x q) whe
     -- law: each write of the clock is
     pub writes_once : AreEachOnce place_of_write 0 (length (writes q.clock.knows)) notes.writes
     writes_once = once_from _ left.places.clock ((last.passes.known.all_entries last.last.clock).once 0)
+
+    -- law: so each rise of each counter is: the first one rose at the clock's writes, and no other rose
+    pub rises_once : (k : ℕ) → AreEachOnce place_of_write k (receipts.count (CountersList k) q.timers.known.seen) notes.writes
+    rises_once zero = subst (λ n. AreEachOnce place_of_write 0 n notes.writes) (sym last.told) writes_once
+    rises_once (suc k) = none_noted_past place_of_write (suc k) notes.writes (CountersList (suc k)) (λ is. absurd (omega (arith, is))) (λ e st is. sym is)
 
     -- law: so the record's lines of a timer, of a base and of an object are made of its sorted notes
     pub timer_lines_are : {sorted : NotesOf} → IsSortedFrom notes sorted → (answers : List (List Answer)) (t : ℕ)
