@@ -109,7 +109,12 @@ turn_read {s = s} {l = l} {b = b} {m = m} {call = call} {a = a} reads takes same
             behind = begins_length moment.from;
             before = omega (arith, begins_length moment.seen, fits.move_steps.0);
             writes = writes_seen moment.at joined (goes_before moment.seen (goes_before kept.sees.timers follows.timers))
-                ∙ omega (arith, moment.count, none_more, fits.clock_steps.0,
-                falls_below at (map (λ x. x.0) (wrote (w.traces l.label).actions)) (length (writes m.pass.clock.knows)) fits.clock_steps.1);
+                ∙ omega (
+                  arith,
+                  moment.count,
+                  none_more,
+                  fits.clock_steps.0,
+                  falls_below at (map (λ x. x.0) (wrote (w.traces l.label).actions)) (length (writes m.pass.clock.knows)) fits.clock_steps.1,
+                );
           });
     }

@@ -79,6 +79,7 @@ whole_of s x range is =
       callbacks = ap length is.callbacks ∙ length-map s.timers (λ d. callback_of d.kind) ∙ sym many;
       bases = omega (arith, bases, ap bases_of is.callbacks, callbacks_suit s.bases s.timers range.kinds);
       few = omega (arith, bases, range.bases.1, bases_few s.version);
+      counts = omega (arith, ap (λ (o : Opening). o.counters) is.timers);
     }
   where
     raw : Decl

@@ -8,21 +8,16 @@ use Rattle.record_text.specs.declared.record.Answer.{Answer}
 use Rattle.lane_world.specs.Called.{CallsObject, LaneOf, ReadsClock, lane_caller, with_done}
 use Rattle.lane_world.specs.Worlds.{WorldOf}
 use Rattle.lane_world.specs.declared.WorldPass.{WorldPass}
-use Rattle.clock_cell.specs.Views.{seen_reading}
-use Rattle.pass_names.specs.Passes.{Looks}
-use Rattle.clock_cell.specs.Views.{writes}
-use Rattle.std.proofs.Common.{length}
 
 -- The call began with empty logs. The notes were made after it, and left the passes as they were. `y` are the world's parts.
 pub calls_object : {x y : WorldOf} {l m : LaneOf} {p : WorldPass} {a : Answer} (Does : WorldOf → Caller → Caller → ClockReading → Type 0)
     {begun : List Receipt} {objects_begun : List ObjectReceipt} (reading : ClockReading) (log : List Receipt) (object_log : List ObjectReceipt) → y ≡ x
-    → m.pass ≡ p → reading ≡ seen_reading p.clock.knows → reading.stamp ≡ length (writes p.clock.knows) → Looks l.pass.clock.knows.pass p.clock.knows.pass
-    → (begun ≡ []) × (objects_begun ≡ [])
+    → m.pass ≡ p → ReadsClock l.pass p reading → (begun ≡ []) × (objects_begun ≡ [])
     → Does y (lane_caller l.pass begun objects_begun) (lane_caller p log object_log) reading → m.notes ≡ with_done l.notes l.label log object_log
     → CallsObject x l m a (Does x)
-calls_object {y = y} {l = l} {m = m} {p = p} Does {objects_begun = objects_begun} reading log object_log is same shows count looks empty does notes = record {
+calls_object {y = y} {l = l} {m = m} {p = p} Does {objects_begun = objects_begun} reading log object_log is same reads empty does notes = record {
   reading = reading;
-  reads = subst (λ q. ReadsClock l.pass q reading) (sym same) (record { shows = shows; count = count; looks = looks });
+  reads = subst (λ q. ReadsClock l.pass q reading) (sym same) reads;
   log = log;
   object_log = object_log;
   does = subst (λ z. Does z (lane_caller l.pass [] []) (lane_caller m.pass log object_log) reading) is

@@ -22,8 +22,14 @@ use Rattle.lane_run.proofs.Making.{whole_of}
 use Rattle.record_laws.proofs.ObjectLines.{object_lines_show}
 use Rattle.record_text.specs.declared.record.Answer.{Answer}
 use Rattle.script_text.specs.declared.script.Call.TheVariants as calls
-use Rattle.lane_world.specs.Called.{Called, LaneOf, CallsObject, gettime_told}
-use Rattle.lane_world.proofs.Kept.{IsNextCall, KeepsCall}
+use Rattle.lane_world.specs.Called.{CalledThen, CallsReading, LaneOf, CallsObject, TakesReading, gettime_told}
+use Rattle.run_history.specs.Fits.{reads_clock}
+use Rattle.call_laws.proofs.Turns.{next_begun, turn_plain, turn_read}
+use Rattle.std.proofs.lemmas.Bool.{true≢false}
+use Rattle.script_text.specs.declared.script.Call.{Call}
+use Rattle.round_laws.proofs.Settled.{left_settled, rounds_settled}
+use Rattle.std.proofs.Common.{true}
+use Rattle.lane_world.proofs.Kept.{IsNextCall, KeepsCall, KeepsTurn}
 use Rattle.call_laws.proofs.Expired.{keeps_expire}
 use Rattle.call_laws.proofs.ObjectLooks.{keeps_overrun, keeps_readable, keeps_gettime-posix}
 use Rattle.call_laws.proofs.Sights.{keeps_peek}
@@ -45,7 +51,7 @@ use Rattle.call_laws.proofs.OffLine.{keeps_offline, keeps_online}
 
 -- law: a lane keeps a gettime
 pub keeps_gettime : {s : Script} {x : WorldOf} {l m : LaneOf} {a : Answer} {timer : ℕ} → IsNextCall s x l (calls.Gettime timer)
-    → Called x l (calls.Gettime timer) a m → KeepsCall s l (calls.Gettime timer) a m
+    → CalledThen x l (calls.Gettime timer) a m → KeepsCall s l (calls.Gettime timer) a m
 keeps_gettime {s = s} {x = x} {l = l} {m = m} {a = a} {timer = timer} next called =
     by_kind (kind_of s timer) refl (subst CallsFor (declared_over s x timer next.world) called.1)
   where
@@ -58,21 +64,43 @@ keeps_gettime {s = s} {x = x} {l = l} {m = m} {a = a} {timer = timer} next calle
     by_kind (kinds.Posix base) is c = keeps_gettime-posix next is called.0 c
     by_kind (kinds.Fd base) is c = keeps_gettime-fd next is called.0 c
 
--- law: a lane keeps each call
+-- law: a call by a reading that was taken is kept by itself
+keeps_then : {s : Script} {x : WorldOf} {l m : LaneOf} {call : Call} {a : Answer} → TakesReading call → IsNextCall s x l call → CalledThen x l call a m
+    → KeepsCall s l call a m × (m.pass.clock ≡ l.pass.clock)
+keeps_then {call = calls.Start timer request} takes next c = (keeps_start next c, c.reads.same)
+keeps_then {call = calls.Expire context base budget} takes next c = (keeps_expire next c, c.reads.same)
+keeps_then {call = calls.Settime timer flags value interval} takes next c = (keeps_settime next c, c.2.reads.same)
+keeps_then {call = calls.Gettime timer} takes next c = (keeps_gettime next c, c.1.reads.same)
+keeps_then {call = calls.Accept timer} takes next c = (keeps_accept next c, c.2.reads.same)
+keeps_then {call = calls.Read timer len} takes next c = (keeps_read next c, c.2.reads.same)
+keeps_then {call = calls.Readable timer} takes next c = (keeps_readable next c, c.1.reads.same)
+keeps_then {call = calls.Offline base heir budget} takes next c = (keeps_offline next c, c.reads.same)
+keeps_then {call = calls.Clock write} takes next c = absurd takes
+keeps_then {call = calls.Cancel timer} takes next c = absurd (true≢false (sym takes))
+keeps_then {call = calls.Peek timer} takes next c = absurd (true≢false (sym takes))
+keeps_then {call = calls.Overrun timer} takes next c = absurd (true≢false (sym takes))
+keeps_then {call = calls.Online base} takes next c = absurd (true≢false (sym takes))
+
+keeps_reading : {s : Script} {x : WorldOf} {l m : LaneOf} {call : Call} {a : Answer} → TakesReading call → reads_clock call ≡ true → IsNextCall s x l call
+    → CallsReading x l m call a → KeepsTurn s l call a m
+keeps_reading takes reads next c =
+    let kept = keeps_then takes (next_begun c.reads next) c.called in turn_read c.reads reads kept.1 kept.0
+
+-- law: a lane keeps each call in its turn
 pub keeps_call : (s : Script) (x : WorldOf) → KeepsEach s x
-keeps_call s x l m (calls.Start timer request) a next c = keeps_start next c
-keeps_call s x l m (calls.Cancel timer) a next c = keeps_cancel next c
-keeps_call s x l m (calls.Peek timer) a next c = keeps_peek next c
-keeps_call s x l m (calls.Expire context base budget) a next c = keeps_expire next c
+keeps_call s x l m (calls.Cancel timer) a next c = turn_plain refl (keeps_cancel next c)
+keeps_call s x l m (calls.Peek timer) a next c = turn_plain refl (keeps_peek next c)
+keeps_call s x l m (calls.Overrun timer) a next c = turn_plain refl (keeps_overrun next c)
+keeps_call s x l m (calls.Online base) a next c = turn_plain refl (keeps_online next c)
 keeps_call s x l m (calls.Clock write) a next c = keeps_write next c
-keeps_call s x l m (calls.Settime timer flags value interval) a next c = keeps_settime next c
-keeps_call s x l m (calls.Gettime timer) a next c = keeps_gettime next c
-keeps_call s x l m (calls.Accept timer) a next c = keeps_accept next c
-keeps_call s x l m (calls.Overrun timer) a next c = keeps_overrun next c
-keeps_call s x l m (calls.Read timer len) a next c = keeps_read next c
-keeps_call s x l m (calls.Readable timer) a next c = keeps_readable next c
-keeps_call s x l m (calls.Offline base heir budget) a next c = keeps_offline next c
-keeps_call s x l m (calls.Online base) a next c = keeps_online next c
+keeps_call s x l m (calls.Start timer request) a next c = keeps_reading refl refl next c
+keeps_call s x l m (calls.Expire context base budget) a next c = keeps_reading refl refl next c
+keeps_call s x l m (calls.Settime timer flags value interval) a next c = keeps_reading refl refl next c
+keeps_call s x l m (calls.Gettime timer) a next c = keeps_reading refl refl next c
+keeps_call s x l m (calls.Accept timer) a next c = keeps_reading refl refl next c
+keeps_call s x l m (calls.Read timer len) a next c = keeps_reading refl refl next c
+keeps_call s x l m (calls.Readable timer) a next c = keeps_reading refl refl next c
+keeps_call s x l m (calls.Offline base heir budget) a next c = keeps_reading refl refl next c
 
 -- ---- the run
 
@@ -87,17 +115,19 @@ pub run_recorded : (s : Script) (x : WorldOf) (p : WorldPass) (r : RunRecord) (q
 run_recorded s x p r q range world first main ok makes =
     let run : MakesRun x s p r q = subst (λ (k : Result RunRecord AllocError). IfOk k (λ y. MakesRun x s p y q)) ok makes in
     let whole = whole_of s x range world in
-    let left = left_by_rounds s x p q run.left (keeps_call s x) world range whole first run.rounds in
-    let of : AreLastOf s x q = record { range = range; world = world; whole = whole; passes = main.pass; last = main_last main } in
+    let made = left_by_rounds s x p run.before run.left (keeps_call s x) world range whole first run.rounds in
+    let left = left_settled run.settles made.2 in
+    let rounds = rounds_settled run.settles made.3 in
+    let of : AreLastOf s x q = record { range = range; world = world; whole = whole; passes = main.pass; last = main_last main; told = run.settles.all } in
     let record_is = record_from s.version run.shows.sorted s.bases (length s.timers) run.left.answers in
-    let e = ending_of record_is q left.0 left.1 in
+    let e = ending_of record_is q made.0 made.1 in
     subst (λ y. IsWholeRecord s y q) (sym run.shows.shows) (record {
-      fits = run_fits s record_is (is_run of left.2 run.shows.in_order run.left.answers left.1 left.3);
+      fits = run_fits s record_is (is_run of left run.shows.in_order run.left.answers made.1 rounds);
       shows = record {
-        clock = clock_writes of left.2 run.shows.in_order;
-        timers = shows s e (is_ending of left.2 run.shows.in_order run.left.answers left.1 left.3);
-        bases = shows_shifts s e (is_ending of left.2 run.shows.in_order run.left.answers left.1 left.3);
+        clock = clock_writes of left run.shows.in_order;
+        timers = shows s e (is_ending of left run.shows.in_order run.left.answers made.1 rounds);
+        bases = shows_shifts s e (is_ending of left run.shows.in_order run.left.answers made.1 rounds);
         spans = e.spans;
-        objects = object_lines_show of left.2 run.shows.in_order run.left.answers left.1;
+        objects = object_lines_show of left run.shows.in_order run.left.answers made.1;
       };
     })

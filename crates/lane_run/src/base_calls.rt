@@ -2,11 +2,12 @@
 ghost use Rattle.std.specs.Prelude.{◌≡◌, ◌≤◌, ◌<◌, [], IfOk, OnOk};
 ghost use Rattle.hr_timers.specs.Known.{IsEvacuable};
 ghost use Rattle.script_text.specs.Scripts.{most_budget};
-ghost use Rattle.lane_world.specs.Called.{CallsOffline, CallsOnline, LeavesLane, LeavesRest, lane_of, offline_told, online_told, with_shift};
+ghost use Rattle.lane_world.specs.Called.{CallsOffline, CallsOnline, LeavesLane, LeavesRest, ReadsClock, lane_of, offline_told, online_told, with_shift};
 ghost use Rattle.lane_world.specs.Worlds.{ArePassesOf};
 
 use crate::world::World;
 use hr_timers::{Log, OfflineAnswer, OnlineAnswer};
+use ktime::Reading;
 use lane_notes::{BaseNote, note_receipts};
 use lane_world::Lane;
 use record_text::Answer;
@@ -23,8 +24,10 @@ pub(crate) fn offline<R: Wait>(
     base: u32,
     heir: u32,
     budget: u64,
+    reading: Reading,
 ) -> Result<Answer, AllocError>
     requires pass { ArePassesOf world.now lane.old.pass }
+    requires reading { ReadsClock lane.old.pass lane.old.pass reading }
     requires first { lane.old.pass.timers.known.id.name ≡ [] }
     requires evacuable { IsEvacuable world.now.timers.about }
     requires base { (base < world.now.timers.about.bases) × (heir < base) }
@@ -34,7 +37,6 @@ pub(crate) fn offline<R: Wait>(
 {
     let mut log = Log::make(alloc);
     log.reserve(2 * budget as usize)?;
-    let reading = world.clock.read(rt, &mut lane.pass.clock);
     let most = budget as u32;
     let pass = &mut lane.pass.timers;
     let answer = world

@@ -6,7 +6,7 @@ ghost use Rattle.expire_pass.specs.Handlers.{CanServe};
 ghost use Rattle.timer_objects.specs.Firings.{firing as firing_meaning, ready_of};
 ghost use Rattle.timer_objects.specs.Known.{IsObjectsPass};
 ghost use Rattle.script_text.specs.Scripts.{most_budget};
-ghost use Rattle.lane_world.specs.Called.{CallsExpire, LeavesLane, claimed_in, expire_told, is_claim_event, lane_of};
+ghost use Rattle.lane_world.specs.Called.{CallsExpire, LeavesLane, ReadsClock, claimed_in, expire_told, is_claim_event, lane_of};
 ghost use Rattle.lane_world.specs.Expiries.{KeepsName, RunsGated, RunsWith};
 ghost use Rattle.lane_world.specs.Worlds.{ArePassesOf};
 
@@ -73,14 +73,15 @@ pub(crate) fn expire<R: Wait, G: Gate>(
     context: Context,
     base: u32,
     budget: u64,
+    reading: Reading,
 ) -> Result<Answer, AllocError>
     requires pass { ArePassesOf world.now lane.old.pass }
+    requires reading { ReadsClock lane.old.pass lane.old.pass reading }
     requires base { base < world.now.timers.about.bases }
     requires budget { budget ≤ most_budget }
     ensures leaves { LeavesLane world.now lane.old lane.new }
     ensures call { IfOk result (λ a. CallsExpire world.now (lane_of lane.old) (lane_of lane.new) a context base budget) }
 {
-    let reading = world.clock.read(rt, &mut lane.pass.clock);
     let Expired {
         answer,
         log,

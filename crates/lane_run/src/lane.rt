@@ -2,7 +2,7 @@
 ghost use Rattle.std.specs.Prelude.{◌≡◌, ◌≤◌, ◌<◌, ◌∷◌, [], false, IfOk, OnOk, length};
 ghost use Rattle.std.specs.List.{AllByRecursion};
 ghost use Rattle.script_text.specs.Scripts.{IsCallInRange};
-ghost use Rattle.lane_world.specs.Called.{Called, LeavesLane, lane_of};
+ghost use Rattle.lane_world.specs.Called.{Called, CalledThen, CallsReading, LeavesLane, ReadsClock, TakesReading, lane_of};
 ghost use Rattle.lane_world.specs.Rounds.{AnswersCall, MakesCalls, lane_calls};
 ghost use Rattle.lane_world.specs.Worlds.{ArePassesOf, CanCall, KeepPasses, LeadsByName};
 
@@ -10,8 +10,10 @@ use crate::base_calls::{offline, online};
 use crate::expiring::expire;
 use crate::gate::{Gate, Point};
 use crate::object_calls::{accept, gettime, overrun, read, readable, settime};
+use crate::reading::read_clock;
 use crate::timer_calls::{cancel, peek, start, write};
 use crate::world::World;
+use ktime::Reading;
 use lane_world::Lane;
 use record_text::Answer;
 use script_text::{Call, Round};
@@ -94,7 +96,7 @@ fn make_noted<R: Wait, G: Gate>(
     Ok(())
 }
 
-/// Makes a call.
+/// Makes a call, behind its reading of the clock where it takes one.
 fn make<R: Wait, G: Gate>(
     rt: &R,
     alloc: Global,
@@ -110,29 +112,87 @@ fn make<R: Wait, G: Gate>(
     ensures call { IfOk result (λ a. Called world.now (lane_of lane.old) call a (lane_of lane.new)) }
 {
     match call {
-        Call::Start { timer, request } => start(rt, alloc, world, lane, timer, request),
         Call::Cancel { timer } => cancel(rt, alloc, world, lane, timer),
         Call::Peek { timer } => Ok(peek(world, lane, timer)),
+        Call::Overrun { timer } => Ok(overrun(rt, alloc, world, lane, timer)),
+        Call::Online { base } => online(rt, world, lane, base),
+        Call::Clock { write: wanted } => write(rt, world, lane, wanted),
+        Call::Start { .. }
+        | Call::Expire { .. }
+        | Call::Settime { .. }
+        | Call::Gettime { .. }
+        | Call::Accept { .. }
+        | Call::Read { .. }
+        | Call::Readable { .. }
+        | Call::Offline { .. } => make_reading(rt, alloc, world, gate, lane, call),
+    }
+}
+
+/// Reads the clock, and makes a call by this reading.
+fn make_reading<R: Wait, G: Gate>(
+    rt: &R,
+    alloc: Global,
+    world: &World,
+    gate: &G,
+    lane: &mut Lane,
+    call: Call,
+) -> Result<Answer, AllocError>
+    requires pass { ArePassesOf world.now lane.old.pass }
+    requires first { LeadsByName lane.old.label.lane lane.old.pass }
+    requires call { CanCall world.now lane.old.label.lane call }
+    requires reads { TakesReading call }
+    ensures leaves { LeavesLane world.now lane.old lane.new }
+    ensures call { IfOk result (λ a. CallsReading world.now (lane_of lane.old) (lane_of lane.new) call a) }
+{
+    let reading = read_clock(rt, world, lane);
+    let answer = make_then(rt, alloc, world, gate, lane, call, reading)?;
+    Ok(answer)
+}
+
+/// Makes a call by a reading that the lane has just taken.
+fn make_then<R: Wait, G: Gate>(
+    rt: &R,
+    alloc: Global,
+    world: &World,
+    gate: &G,
+    lane: &mut Lane,
+    call: Call,
+    reading: Reading,
+) -> Result<Answer, AllocError>
+    requires pass { ArePassesOf world.now lane.old.pass }
+    requires first { LeadsByName lane.old.label.lane lane.old.pass }
+    requires call { CanCall world.now lane.old.label.lane call }
+    requires reads { TakesReading call }
+    requires reading { ReadsClock lane.old.pass lane.old.pass reading }
+    ensures leaves { LeavesLane world.now lane.old lane.new }
+    ensures call { IfOk result (λ a. CalledThen world.now (lane_of lane.old) call a (lane_of lane.new)) }
+{
+    match call {
+        Call::Start { timer, request } => start(rt, alloc, world, lane, timer, request, reading),
         Call::Expire {
             context,
             base,
             budget,
-        } => expire(rt, alloc, world, gate, lane, context, base, budget),
-        Call::Clock { write: wanted } => write(rt, world, lane, wanted),
+        } => expire(rt, alloc, world, gate, lane, context, base, budget, reading),
         Call::Settime {
             timer,
             flags,
             value,
             interval,
-        } => settime(rt, alloc, world, lane, timer, flags, value, interval),
-        Call::Gettime { timer } => gettime(rt, alloc, world, lane, timer),
-        Call::Accept { timer } => accept(rt, alloc, world, lane, timer),
-        Call::Overrun { timer } => Ok(overrun(rt, alloc, world, lane, timer)),
-        Call::Read { timer, len } => read(rt, alloc, world, lane, timer, len),
-        Call::Readable { timer } => Ok(readable(rt, alloc, world, lane, timer)),
+        } => settime(
+            rt, alloc, world, lane, timer, flags, value, interval, reading,
+        ),
+        Call::Gettime { timer } => gettime(rt, alloc, world, lane, timer, reading),
+        Call::Accept { timer } => accept(rt, alloc, world, lane, timer, reading),
+        Call::Read { timer, len } => read(rt, alloc, world, lane, timer, len, reading),
+        Call::Readable { timer } => Ok(readable(rt, alloc, world, lane, timer, reading)),
         Call::Offline { base, heir, budget } => {
-            offline(rt, alloc, world, lane, base, heir, budget)
+            offline(rt, alloc, world, lane, base, heir, budget, reading)
         }
-        Call::Online { base } => online(rt, world, lane, base),
+        Call::Cancel { .. }
+        | Call::Peek { .. }
+        | Call::Overrun { .. }
+        | Call::Online { .. }
+        | Call::Clock { .. } => unreachable!(),
     }
 }

@@ -12,6 +12,7 @@ mod expiring;
 mod gate;
 mod lane;
 mod object_calls;
+mod reading;
 mod rounds;
 mod running;
 mod timer_calls;

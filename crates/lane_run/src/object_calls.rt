@@ -9,12 +9,12 @@ ghost use Rattle.timer_fd.specs.declared.answers.SettimeAnswer.{SettimeAnswer};
 ghost use Rattle.timer_objects.specs.declared.answers.Gettime.{Gettime};
 ghost use Rattle.timer_objects.specs.declared.answers.Readable.{Readable};
 ghost use Rattle.record_text.specs.declared.record.Answer.TheVariants as answers;
-ghost use Rattle.lane_world.specs.Called.{CallsObject, CallsOverrun, LeavesLane, LeavesRest, accept_told, gettime_told, lane_of, read_told, settime_told, with_done};
+ghost use Rattle.lane_world.specs.Called.{CallsObject, CallsOverrun, LeavesLane, LeavesRest, ReadsClock, accept_told, gettime_told, lane_of, read_told, settime_told, with_done};
 ghost use Rattle.lane_world.specs.Worlds.{ArePassesOf, IsObject, IsOfKind};
 
 use crate::world::World;
 use expire_pass::Log;
-use ktime::TimeSpec;
+use ktime::{Reading, TimeSpec};
 use lane_notes::{note_object_receipts, note_receipts};
 use lane_world::Lane;
 use posix_timer::AcceptAnswer;
@@ -70,14 +70,13 @@ macro_rules! on_object {
     };
 }
 
-/// A call on an object with a reading of the clock and logs of its own, and the notes of these. It gives the answer and the reading.
+/// A call on an object by a reading of the clock, with logs of its own, and the notes of these.
 macro_rules! noted {
-    ($rt:ident, $alloc:ident, $world:ident, $lane:ident; $call:ident($($word:ident),+)) => {{
+    ($rt:ident, $alloc:ident, $world:ident, $lane:ident, $reading:ident; $call:ident($($word:ident),+)) => {{
         let mut logs = make_logs($alloc)?;
-        let reading = $world.clock.read($rt, &mut $lane.pass.clock);
-        let answer = on_object!($rt, $world, $lane, logs.timers, logs.objects; $call($($word),+, reading));
+        let answer = on_object!($rt, $world, $lane, logs.timers, logs.objects; $call($($word),+, $reading));
         note_logs($lane, &logs)?;
-        (answer, reading)
+        answer
     }};
 }
 
@@ -91,13 +90,15 @@ pub(crate) fn settime<R: Wait>(
     flags: u64,
     value: TimeSpec,
     interval: TimeSpec,
+    reading: Reading,
 ) -> Result<Answer, AllocError>
     requires pass { ArePassesOf world.now lane.old.pass }
+    requires reading { ReadsClock lane.old.pass lane.old.pass reading }
     requires object { IsObject world.now timer }
     ensures leaves { LeavesLane world.now lane.old lane.new }
     ensures call { IfOk result (λ a. (s : SettimeAnswer) × (a ≡ settime_told s) × CallsObject world.now (lane_of lane.old) (lane_of lane.new) a (λ old new reading. Settimes world.now.objects world.now.timers.about old new timer flags value interval reading s)) }
 {
-    let (answer, _) = noted!(rt, alloc, world, lane; settime(timer, flags, value, interval));
+    let answer = noted!(rt, alloc, world, lane, reading; settime(timer, flags, value, interval));
     Ok(settime_answer(answer))
 }
 
@@ -121,13 +122,15 @@ pub(crate) fn gettime<R: Wait>(
     world: &World,
     lane: &mut Lane,
     timer: u32,
+    reading: Reading,
 ) -> Result<Answer, AllocError>
     requires pass { ArePassesOf world.now lane.old.pass }
+    requires reading { ReadsClock lane.old.pass lane.old.pass reading }
     requires object { IsObject world.now timer }
     ensures leaves { LeavesLane world.now lane.old lane.new }
     ensures call { IfOk result (λ a. (g : Gettime) × CallsObject world.now (lane_of lane.old) (lane_of lane.new) a (λ old new reading. Gettimes world.now.objects world.now.timers.about old new timer reading (decl_at world.now.objects timer).kind g × (a ≡ gettime_told (decl_at world.now.objects timer).kind reading.stamp g))) }
 {
-    let (answer, reading) = noted!(rt, alloc, world, lane; gettime(timer));
+    let answer = noted!(rt, alloc, world, lane, reading; gettime(timer));
     Ok(gettime_answer(answer, world.objects.kind(timer), reading.stamp))
 }
 
@@ -161,13 +164,15 @@ pub(crate) fn accept<R: Wait>(
     world: &World,
     lane: &mut Lane,
     timer: u32,
+    reading: Reading,
 ) -> Result<Answer, AllocError>
     requires pass { ArePassesOf world.now lane.old.pass }
+    requires reading { ReadsClock lane.old.pass lane.old.pass reading }
     requires kind { IsOfKind world.now over.Posix timer }
     ensures leaves { LeavesLane world.now lane.old lane.new }
     ensures call { IfOk result (λ a. (s : AcceptAnswer) × (a ≡ accept_told s) × CallsObject world.now (lane_of lane.old) (lane_of lane.new) a (λ old new reading. Accepts world.now.objects world.now.timers.about old new timer reading s)) }
 {
-    let (answer, _) = noted!(rt, alloc, world, lane; accept(timer));
+    let answer = noted!(rt, alloc, world, lane, reading; accept(timer));
     Ok(accept_answer(answer))
 }
 
@@ -190,13 +195,15 @@ pub(crate) fn read<R: Wait>(
     lane: &mut Lane,
     timer: u32,
     len: u64,
+    reading: Reading,
 ) -> Result<Answer, AllocError>
     requires pass { ArePassesOf world.now lane.old.pass }
+    requires reading { ReadsClock lane.old.pass lane.old.pass reading }
     requires kind { IsOfKind world.now over.Fd timer }
     ensures leaves { LeavesLane world.now lane.old lane.new }
     ensures call { IfOk result (λ a. (s : ReadAnswer) × (a ≡ read_told s) × CallsObject world.now (lane_of lane.old) (lane_of lane.new) a (λ old new reading. ReadsFd world.now.objects world.now.timers.about old new timer len reading s)) }
 {
-    let (answer, _) = noted!(rt, alloc, world, lane; read(timer, len));
+    let answer = noted!(rt, alloc, world, lane, reading; read(timer, len));
     Ok(read_answer(answer))
 }
 
@@ -242,13 +249,14 @@ pub(crate) fn readable<R: Wait>(
     world: &World,
     lane: &mut Lane,
     timer: u32,
+    reading: Reading,
 ) -> Answer
     requires pass { ArePassesOf world.now lane.old.pass }
+    requires reading { ReadsClock lane.old.pass lane.old.pass reading }
     requires kind { IsOfKind world.now over.Fd timer }
     ensures leaves { LeavesLane world.now lane.old lane.new }
     ensures call { (found : Readable) × CallsObject world.now (lane_of lane.old) (lane_of lane.new) result (λ old new reading. LooksReadable old new timer reading found × (result ≡ answers.Readable found.ready reading.stamp found.stamp)) }
 {
-    let reading = world.clock.read(rt, &mut lane.pass.clock);
     let mut log = Log::make(alloc);
     let mut object_log = ObjectLog::make(alloc);
     let found = on_object!(rt, world, lane, log, object_log; readable(timer, reading));

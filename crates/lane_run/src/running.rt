@@ -7,6 +7,7 @@ ghost use Rattle.run_history.specs.Fits.{Fits};
 ghost use Rattle.lane_world.specs.Worlds.{AreFirst, AreLast, ArePassesOf, IsWorldOf};
 
 use crate::gate::Gate;
+use crate::reading::settle;
 use crate::rounds::{Left, make_round};
 use crate::world::World;
 use lane_notes::{Notes, record_of};
@@ -78,6 +79,7 @@ fn make_rounds<R: Threads + Wait + Sync, G: Gate>(
             return (main, Err(fault));
         }
     }
+    settle(rt, world, &mut main);
     (main, record_left(alloc, script, left))
 }
 

@@ -1,11 +1,12 @@
 //! The calls on timers by themselves, and the writes of the clock.
 ghost use Rattle.std.specs.Prelude.{◌≡◌, ◌≤◌, ◌<◌, [], IfOk, length};
-ghost use Rattle.lane_world.specs.Called.{CallsCancel, CallsPeek, CallsStart, CallsWrite, LeavesLane, cancel_told, lane_of, start_told};
+ghost use Rattle.lane_world.specs.Called.{CallsCancel, CallsPeek, CallsStart, CallsWrite, LeavesLane, ReadsClock, cancel_told, lane_of, start_told};
 ghost use Rattle.lane_world.specs.Worlds.{ArePassesOf};
 
 use crate::world::World;
 use clock_model::{ClockFault, Write};
 use hr_timers::{Log, StartAnswer};
+use ktime::Reading;
 use lane_notes::note_receipts;
 use lane_world::Lane;
 use record_text::{Answer, ClockLine};
@@ -32,15 +33,16 @@ pub(crate) fn start<R: Wait>(
     lane: &mut Lane,
     timer: u32,
     request: StartRequest,
+    reading: Reading,
 ) -> Result<Answer, AllocError>
     requires pass { ArePassesOf world.now lane.old.pass }
+    requires reading { ReadsClock lane.old.pass lane.old.pass reading }
     requires timer { timer < length world.now.timers.about.timers }
     requires base { request.base < world.now.timers.about.bases }
     ensures leaves { LeavesLane world.now lane.old lane.new }
     ensures call { IfOk result (λ a. CallsStart world.now (lane_of lane.old) (lane_of lane.new) a timer request) }
 {
     let mut log = make_log(alloc)?;
-    let reading = world.clock.read(rt, &mut lane.pass.clock);
     let StartRequest { mode, ns, base, .. } = request;
     let asked = Asked {
         mode,
@@ -133,7 +135,16 @@ pub(crate) fn write<R: Wait>(
     ensures leaves { LeavesLane world.now lane.old lane.new }
     ensures call { IfOk result (λ a. CallsWrite world.now (lane_of lane.old) (lane_of lane.new) a write) }
 {
-    match world.clock.write(rt, &mut lane.pass.clock, write) {
+    let pass = &mut lane.pass;
+    let answer = ordered_clock::write(
+        rt,
+        &world.timers,
+        &mut pass.timers,
+        &world.clock,
+        &mut pass.clock,
+        write,
+    );
+    match answer {
         Ok(after) => {
             let line = ClockLine {
                 label: lane.label,

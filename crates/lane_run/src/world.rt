@@ -2,7 +2,7 @@
 ghost use Rattle.std.specs.Prelude.{◌≡◌, ◌≤◌, ◌<◌, [], IfOk, OnOk, length, map};
 ghost use Rattle.pass_names.specs.Passes.{HasEach};
 ghost use Rattle.pass_names.specs.SharedHistory.{first_known};
-ghost use Rattle.base_row.specs.Calls.{opening_of};
+ghost use Rattle.base_row.specs.Calls.{opening_with};
 ghost use Rattle.hr_timers.specs.Known.{HasEachPlace, HasEachShift, IsPassOf};
 ghost use Rattle.clock_cell.specs.Views.{KnowsClock};
 ghost use Rattle.script_text.specs.Scripts.{IsInRange};
@@ -15,7 +15,7 @@ use hr_timers::{Pass, Timers};
 use lane_world::WorldPass;
 use record_text::Version;
 use script_text::{Callback, Declaration, Kind, Script};
-use seq_timer::{Context, Declared};
+use seq_timer::{Context, Declared, Terms};
 use std::alloc::{AllocError, Global};
 use std::marker::Model;
 use std::sync::Wait;
@@ -144,7 +144,7 @@ impl World {
 /// How many entries past its limit may move a timer off a base that goes off line, in version 2 of the script.
 const REACH: u64 = 1024;
 
-/// The timers of a script, declared so. In version 2 their bases may go off line.
+/// The timers of a script, declared so, with one counter, for the clock's writes. In version 2 their bases may go off line.
 fn make_timers(
     alloc: Global,
     script: &Script,
@@ -153,13 +153,17 @@ fn make_timers(
     requires range { IsInRange script.now }
     requires few { length timers.now ≡ length script.now.timers }
     ensures pass { IfOk result (λ r. IsPassOf r.0 r.1) }
-    ensures about { IfOk result (λ r. r.0.about ≡ opening_of script.now.bases timers.now (terms_of script.now)) }
+    ensures about { IfOk result (λ r. r.0.about ≡ opening_with script.now.bases timers.now (terms_of script.now) 1) }
     ensures first { IfOk result (λ r. r.1.known ≡ first_known) }
 {
-    match script.version {
-        Version::One => Timers::make_full(alloc, script.bases, timers, script.limit),
-        Version::Two => { Timers::make_evacuable(alloc, script.bases, timers, script.limit, REACH) }
-    }
+    let terms = match script.version {
+        Version::One => Terms::limited(script.limit),
+        Version::Two => Terms {
+            limit: script.limit,
+            reach: REACH,
+        },
+    };
+    Timers::make_counting(alloc, script.bases, timers, terms, 1)
 }
 
 /// As what timers are declared.

@@ -341,12 +341,16 @@ CalledThen x l (calls.Readable timer) a m =
 CalledThen x l (calls.Offline base heir budget) a m = CallsOffline x l m a base heir budget
 CalledThen x l (calls.Online base) a m = CallsOnline x l m a base
 
+-- the call reads the clock, and only then does something
+abbrev pub TakesReading : Call → Type 0
+TakesReading (calls.Clock write) = ⊥
+TakesReading call = reads_clock call ≡ true
+
 -- a call that begins with a reading
 pub record CallsReading (x : WorldOf) (l m : LaneOf) (call : Call) (a : Answer) : Type 0 where
   pub begun : LaneOf
   pub reads : ReadsFirst l begun
   pub called : CalledThen x begun call a m
-  pub clock : LeavesClock begun.pass m.pass
 
 -- what a call does and answers
 abbrev pub Called : WorldOf → LaneOf → Call → Answer → LaneOf → Type 0

@@ -92,9 +92,8 @@ pub fits_lane_behind : (w : Witness) (lane index : ℕ) (less before : Seen) (ps
 fits_lane_behind w lane index less before [] [] no_less fits = tt
 fits_lane_behind w lane index less before [] (a ∷ given) no_less fits = absurd fits
 fits_lane_behind w lane index less before (p ∷ ps) [] no_less fits = absurd fits
-fits_lane_behind w lane index less before (p ∷ ps) (a ∷ given) no_less fits =
-    (
-      fits.0,
-      (fits_behind w (label_at lane index) p.call a less before fits.0 no_less fits.1.0, reads_behind w (label_at lane index) p.call no_less.moves fits.1.1),
-      fits.2,
-    )
+fits_lane_behind w lane index less before (p ∷ ps) (a ∷ given) no_less fits = (
+  fits.0,
+  (fits_behind w (label_at lane index) p.call a less before fits.0 no_less fits.1.0, reads_behind w (label_at lane index) p.call no_less.moves fits.1.1),
+  fits.2,
+)

@@ -145,17 +145,24 @@ module _ {s : Script} {l : LaneOf} {call : Call} {a : Answer} {m : LaneOf} (turn
               promise e follows (has (length done) one (at_seam done [] one)) joined,
               subst (λ n. FitsLane (witness_of s e) lane n (seen_by m.pass) rest later) (length-append done (one ∷ [])) fits,
             ));
-        each = All-append (Stands (before ++ seen_by base ∷ []) m.pass) done (one ∷ []) (kept_later more so_far).each
-            (record {
-              stand = turn.kept.stand;
-              lies = λ x. lies_new x before turn.begun.pass m.pass turn.kept.notes turn.kept.trace (no_less (more_trans sees (more_called turn.sees)))
-                  (no_less (more_called turn.kept.sees));
-            }, tt);
+        each = All-append (Stands (before ++ seen_by base ∷ []) m.pass) done (one ∷ []) (kept_later more so_far).each (
+          record {
+            stand = turn.kept.stand;
+            lies = λ x. lies_new x before turn.begun.pass m.pass turn.kept.notes turn.kept.trace (no_less (more_trans sees (more_called turn.sees)))
+                (no_less (more_called turn.kept.sees));
+          },
+          tt,
+        );
         next = λ x j g h this that.
             ⊎_elim (λ there. ⊎_elim (λ behind. so_far.next x j g h there behind)
             (λ new. let most = ((all_at (Stands (before ++ seen_by base ∷ []) l.pass) done j g so_far.each there).lies x).most in
-            omega (arith, most, x.rises (no_less (more_called turn.sees)), ap (λ n. n.0) (x.of_log turn.begun.pass m.pass turn.kept.notes turn.kept.trace),
-            ap (λ (d : DoneCall). (x.span d.log).0) new.1))
+            omega (
+              arith,
+              most,
+              x.rises (no_less (more_called turn.sees)),
+              ap (λ n. n.0) (x.of_log turn.begun.pass m.pass turn.kept.notes turn.kept.trace),
+              ap (λ (d : DoneCall). (x.span d.log).0) new.1,
+            ))
             (at_push done one (suc j) h that))
             (λ new. absurd (omega (arith, new.0, slice_get_within (done ++ one ∷ []) (suc j) h that, length-append done (one ∷ []))))
             (at_push done one j g this);

@@ -107,8 +107,8 @@ pub record Move : Type 0 where
   pub label : Label
   pub shown : Shown
 
--- a script, a record of it, and what the record doesn't print: an order of all timers' and bases' entries and the clock's writes; what each call did; and for each entry of an
--- object, by the object and the entry's number, how many entries the object's timer had at the start and at the end of the entry's span
+-- a script, a record of it, and what the record doesn't print: an order of all timers' and bases' entries and the clock's writes; what each call did; and
+-- for each entry of an object, by the object and the entry's number, how many entries the object's timer had at the start and at the end of its span
 pub record Witness : Type 0 where
   pub script : Script
   pub run : RunRecord
@@ -161,9 +161,9 @@ standing_along w n b = ((system_along w n).bases b).standing
 abbrev pub writes_along : Witness → ℕ → ℕ
 writes_along w n = rises_of 0 (take n (entries_in w))
 
--- The order is one of all entries and writes, and all entries together are one history that a library on one thread gives: each is a step of its timer and of the base
--- that it is on, is sent only to a base that is there, and is started only on one that is on line; each claim takes the first timer of its context in the
--- base's queues; and a base is taken off line only while it has no timer.
+-- The order is one of all entries and writes, and all entries together are one history that a library on one thread gives: each is a step of its timer and
+-- of the base that it is on, is sent only to a base that is there, and is started only on one that is on line; each claim takes the first timer of its
+-- context in the base's queues; and a base is taken off line only while it has no timer.
 pub record IsOneHistory (w : Witness) : Type 0 where
   pub all : (o : Owner) → moves_on o w.moves ≡ moves_from 0 (lines_at w.run o)
   pub history : IsSystemHistory w.script.bases (declareds_of w.script) (terms_of w.script) (entries_in w)

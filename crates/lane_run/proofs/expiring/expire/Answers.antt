@@ -1,4 +1,4 @@
-use Rattle.std.proofs.Common.{◌∙◌, rules, sym, ap}
+use Rattle.std.proofs.Common.{◌∙◌, rules, refl, sym, ap}
 use Rattle.ktime.specs.Readings.{ClockReading}
 use Rattle.lane_notes.proofs.Receipts.{with_receipts-append}
 use Rattle.lane_notes.specs.Entries.{with_receipts}
@@ -9,10 +9,10 @@ use Rattle.lane_run.proofs.expiring.expire.Goals as goal
 
 pub returns-clause-call : goal.returns-clause-call
 returns-clause-call g c =
-    let read = c.read-reading in
+    let was = c.requires.reading in
     let ran = c.in_ok-answer.field-0 in record {
-      reading = read.result;
-      reads = record { shows = read.ensures.reading; count = read.ensures.count; looks = read.ensures.looks };
+      reading = c.args.reading;
+      reads = record { same = refl; shows = was.shows; count = was.count };
       log = ran.log.receipts;
       callback_log = ran.callback_log.receipts;
       object_log = ran.object_log.receipts;
@@ -27,5 +27,5 @@ returns-clause-call g c =
           (c.in_ok-note_receipts.ensures ∙ ap (λ rs. with_receipts c.args.lane.now.notes c.args.lane.now.label rs) c.receipts.ensures)
           ∙ sym (with_receipts-append c.args.lane.now.notes c.args.lane.now.label ran.log.receipts ran.callback_log.receipts));
       told = c.answer_of.ensures ∙ ap (λ (r : ClockReading). expire_told r.stamp c.in_ok-fired.fired ran.answer) c.reading.view_is
-          ∙ ap (λ fired. expire_told read.result.stamp fired ran.answer) c.in_ok-fired.ensures;
+          ∙ ap (λ fired. expire_told c.args.reading.stamp fired ran.answer) c.in_ok-fired.ensures;
     }

@@ -1,14 +1,14 @@
+use Rattle.std.proofs.Common.{refl}
 use Rattle.timer_objects.specs.Calls.{ReadsFd}
 use Rattle.lane_run.proofs.Objects.{calls_object}
 use Rattle.lane_run.proofs.object_calls.read.Goals as goal
 
 pub returns-clause-call : goal.returns-clause-call
 returns-clause-call g c =
-    let read = c.read-reading in
+    let was = c.requires.reading in
     let made = c.read-answer in (
       made.result,
       c.read_answer.ensures,
-      calls_object (λ x old new reading. ReadsFd x.objects x.timers.about old new c.args.timer c.args.len reading made.result) read.result
-          made.new.log.receipts made.new.object_log.receipts c.world.view_is c.note_logs.ensures.rest.3 read.ensures.reading read.ensures.count
-          read.ensures.looks c.in_ok-logs.ensures.empty made.ensures.reads c.in_ok-note_logs.ensures.notes,
+      calls_object (λ x old new reading. ReadsFd x.objects x.timers.about old new c.args.timer c.args.len reading made.result) c.args.reading
+          made.new.log.receipts made.new.object_log.receipts c.world.view_is c.note_logs.ensures.rest.3 (record { same = refl; shows = was.shows; count = was.count }) c.in_ok-logs.ensures.empty made.ensures.reads c.in_ok-note_logs.ensures.notes,
     )

@@ -9,11 +9,11 @@ returns-clause-call g c =
     let p = c.args.lane.now in
     let r = c.args.request in
     let its = start_logged (ap (λ (x : WorldOf). x.timers.about) c.world.view_is) p.pass.timers.known c.start_logged-answer.new.pass.known c.args.timer
-    c.in_ok-log.log c.start_logged-answer.new.sink c.in_ok-log.ensures.empty c.start_logged-answer.result (ap (λ slack. asked_for r.mode r.ns slack r.base c.read-reading.result) c.unwrap_or.ensures)
+    c.in_ok-log.log c.start_logged-answer.new.sink c.in_ok-log.ensures.empty c.start_logged-answer.result (ap (λ slack. asked_for r.mode r.ns slack r.base c.args.reading) c.unwrap_or.ensures)
     c.start_logged-answer.ensures.starts in
     record {
-      reading = c.read-reading.result;
-      reads = record { shows = c.read-reading.ensures.reading; count = c.read-reading.ensures.count; looks = c.read-reading.ensures.looks };
+      reading = c.args.reading;
+      reads = record { same = refl; shows = c.requires.reading.shows; count = c.requires.reading.count };
       answer = c.start_logged-answer.result;
       starts = its.0;
       objects = refl;

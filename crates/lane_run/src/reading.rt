@@ -1,0 +1,45 @@
+//! The one reading of a call, and the end of a run's clock.
+ghost use Rattle.std.specs.Prelude.{◌≡◌, length, []};
+ghost use Rattle.clock_cell.specs.Views.{seen_reading, writes};
+ghost use Rattle.lane_world.specs.Called.{LeavesLane, ReadsFirst, lane_of};
+ghost use Rattle.lane_world.specs.Rounds.{IsMain};
+ghost use Rattle.lane_world.specs.Runs.{Settles};
+ghost use Rattle.lane_world.specs.Worlds.{ArePassesOf};
+
+use crate::world::World;
+use ktime::Reading;
+use lane_world::{Lane, WorldPass};
+use std::sync::Wait;
+
+/// Reads the clock, in its place among the entries of the timers.
+pub(crate) fn read_clock<R: Wait>(rt: &R, world: &World, lane: &mut Lane) -> Reading
+    requires pass { ArePassesOf world.now lane.old.pass }
+    ensures leaves { LeavesLane world.now lane.old lane.new }
+    ensures reads { ReadsFirst (lane_of lane.old) (lane_of lane.new) }
+    ensures reading { result ≡ seen_reading lane.new.pass.clock.knows }
+    ensures count { result.stamp ≡ length (writes lane.new.pass.clock.knows) }
+{
+    let pass = &mut lane.pass;
+    ordered_clock::read(
+        rt,
+        &world.timers,
+        &mut pass.timers,
+        &world.clock,
+        &mut pass.clock,
+    )
+}
+
+/// Settles the clock at the end of a run: the timers' first pass is told of just the writes that the clock has.
+pub(crate) fn settle<R: Wait>(rt: &R, world: &World, main: &mut WorldPass)
+    requires main { IsMain world.now main.old [] }
+    ensures main { IsMain world.now main.new [] }
+    ensures settles { Settles main.old main.new }
+{
+    ordered_clock::settle(
+        rt,
+        &world.timers,
+        &mut main.timers,
+        &world.clock,
+        &mut main.clock,
+    );
+}
