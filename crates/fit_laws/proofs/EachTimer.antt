@@ -315,7 +315,7 @@ module _ (w : Witness) (f : FitsIn w) where
       subst (λ n. FitsTimers w.script w.run (record { lane = lane; call = n }) p.call answer) (none index)
       (subst (λ (x : CallInRound). FitsTimers w.script w.run (record { lane = lane; call = index }) x.call answer) (same_Some q p at_p)
       (subst (FitsTimers w.script w.run (record { lane = lane; call = index }) q.call) (same_Some a answer at_a)
-      (knows_from (record { lane = lane; call = index }) q.call a before fits.0 fits.1)))
+      (knows_from (record { lane = lane; call = index }) q.call a before fits.0 fits.1.0)))
     where
       none : (n : ℕ) → n ≡ n + 0
       none n = omega arith

@@ -1,5 +1,5 @@
 -- One list's part of the order of all entries: its own moves, and among those the ones of a call; and what a timer's part shows of its history.
-use Rattle.std.proofs.Common.{◌≡◌, ℕ, ◌+◌, zero, suc, true, false, nat_eq, if◌then◌else◌, List, [], ◌∷◌, ◌++◌, filter, length, map, take, drop, Some, arith, refl, sym, ap, ◌∙◌}
+use Rattle.std.proofs.Common.{◌≡◌, ◌≤◌, ℕ, ◌+◌, zero, suc, true, false, nat_eq, if◌then◌else◌, List, [], ◌∷◌, ◌++◌, filter, length, map, take, drop, Some, arith, refl, sym, ap, ◌∙◌}
 use Rattle.std.specs.List.{AllByRecursion, slice_get}
 use Rattle.std.proofs.lemmas.Option.{same_Some}
 use Rattle.std.proofs.Math.Seq.{take-append_seam}
@@ -36,6 +36,20 @@ on_drop o (suc n) (m ∷ ms) =
     elim (is_owner (owner_of m.shown) o) as (λ b. drop (length (also b m (moves_on o (take n ms)))) (also b m (moves_on o ms)) ≡ moves_on o (drop n ms)) [
       | true ↦ on_drop o n ms
       | false ↦ on_drop o n ms
+    ]
+
+-- a list has no fewer later
+pub on_rises : (o : Owner) (ms : List Move) (a b : ℕ) → a ≤ b → length (moves_on o (take a ms)) ≤ length (moves_on o (take b ms))
+on_rises o [] zero b le = omega arith
+on_rises o [] (suc a) zero le = omega arith
+on_rises o [] (suc a) (suc b) le = omega arith
+on_rises o (m ∷ ms) zero b le = omega arith
+on_rises o (m ∷ ms) (suc a) zero le = absurd (omega (arith, le))
+on_rises o (m ∷ ms) (suc a) (suc b) le =
+    let rest = on_rises o ms a b (omega (arith, le)) in
+    elim (is_owner (owner_of m.shown) o) as (λ x. length (also x m (moves_on o (take a ms))) ≤ length (also x m (moves_on o (take b ms)))) [
+      | true ↦ omega (arith, rest)
+      | false ↦ rest
     ]
 
 -- where a move stands among its list's, and how many of them it says to be before it

@@ -34,7 +34,7 @@ use Rattle.run_history.specs.Truths.{IsMoment, Saw}
 use Rattle.run_history.proofs.Actions.{all_entered-append}
 use Rattle.run_history.proofs.Lists.{at_map}
 use Rattle.run_history.proofs.OwnHistories.{entries_on, own_entry, own_history}
-use Rattle.fit_laws.proofs.OwnParts.{all_on, before_at, labels_of_lines, of_timer, of_timer-entered, of_timer-from, of_timer-on, on_drop, on_place, on_take, own_early, take_from}
+use Rattle.fit_laws.proofs.OwnParts.{all_on, before_at, labels_of_lines, of_timer, of_timer-entered, of_timer-from, of_timer-on, on_drop, on_place, on_rises, on_take, own_early, take_from}
 use Rattle.run_history.proofs.Points.{count_own}
 
 -- an entry after so many
@@ -191,21 +191,7 @@ module _ (w : Witness) (one : IsOneHistory w) (timers : length w.run.timers ≡ 
 
   -- law: a timer has no fewer entries later
   pub seen_rises : (a b t : ℕ) → a ≤ b → seen w a t ≤ seen w b t
-  seen_rises a b t le = rises w.moves a b le
-    where
-      rises : (ms : List Move) (a b : ℕ) → a ≤ b → length (moves_on (TimersList t) (take a ms)) ≤ length (moves_on (TimersList t) (take b ms))
-      rises [] zero b le = omega arith
-      rises [] (suc a) zero le = omega arith
-      rises [] (suc a) (suc b) le = omega arith
-      rises (m ∷ ms) zero b le = omega arith
-      rises (m ∷ ms) (suc a) zero le = absurd (omega (arith, le))
-      rises (m ∷ ms) (suc a) (suc b) le =
-          let rest = rises ms a b (omega (arith, le)) in
-          elim (is_owner (owner_of m.shown) (TimersList t)) as (λ x. length (also x m (moves_on (TimersList t) (take a ms))) ≤ length (also x m (moves_on
-          (TimersList t) (take b ms)))) [
-            | true ↦ omega (arith, rest)
-            | false ↦ rest
-          ]
+  seen_rises a b t le = on_rises (TimersList t) w.moves a b le
 
   -- law: a claim was in turn at its place
   pub turn_at : (p t : ℕ) (m : Move) (entry : ShownEntry) (base reading : ℕ) → slice_get w.moves p ≡ Some m → m.shown ≡ OfTimer t entry

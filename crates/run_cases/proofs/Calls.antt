@@ -10,14 +10,15 @@ use Rattle.record_text.specs.declared.record.Answer.{Answer}
 use Rattle.record_text.specs.declared.record.Label.{Label}
 use Rattle.record_text.specs.declared.record.ObjectLine.{ObjectLine}
 use Rattle.script_text.specs.declared.script.Call.{Call}
+use Rattle.script_text.specs.declared.script.Call.TheVariants as calls
 use Rattle.run_history.specs.Actions.{own, looked, made, own_looks, skips_under, own_skips, skipped, wrote}
 use Rattle.run_history.specs.Told.{object_called, object_stamp_in, object_steps_on, stamps_on}
 use Rattle.run_history.specs.Histories.{clock_labels, lines_of_timer}
 use Rattle.run_history.specs.Objects.{lines_of_object}
 use Rattle.run_history.specs.Order.{CallInRound, NeverFall}
 use Rattle.run_history.specs.Calls.{AllKeepExpiries, AllMoved, Does}
-use Rattle.run_history.specs.Witnesses.{Witness, labels}
-use Rattle.run_history.specs.Fits.{FitsLane}
+use Rattle.run_history.specs.Witnesses.{Witness, labels, writes_along}
+use Rattle.run_history.specs.Fits.{FitsLane, HasRead, ReadsInTurn}
 use Rattle.run_history.specs.Traces.{all_entered, HasTraced, own_moves}
 use Rattle.run_history.specs.Truths.{AnswerHolds, AreTrue, IsClaimSpan, WasFront, WasOffLine}
 use Rattle.run_history.proofs.OthersMade.{none_moved}
@@ -35,11 +36,13 @@ last_of n (m ∷ ms) = last_of m ms
 abbrev pub clock_then : Witness → Label → ℕ
 clock_then w c = last_of (w.traces c).at (map (λ x. x.0) (wrote (w.traces c).actions))
 
--- a call's reading, its first and its last moment stand where they may, behind these numbers of writes and of entries
+-- a call's reading, its first and its last moment stand where they may, behind these numbers of writes and of moves, and it has as many of the clock's
+-- writes as stand before the first moment
 abbrev pub is_placed : Witness → Label → ℕ → ℕ → Bool
 is_placed w c clock moves =
     (is_point w.script c 0 (w.traces c).at (clock_labels w.run)
-    && never_fall clock ((w.traces c).at ∷ map (λ x. x.0) (wrote (w.traces c).actions)) (clock_then w c))
+    && (never_fall clock ((w.traces c).at ∷ map (λ x. x.0) (wrote (w.traces c).actions)) (clock_then w c)
+    && nat_eq (writes_along w (w.traces c).first) (w.traces c).at))
     && ((is_point w.script c 0 (w.traces c).first (labels w)
     && is_point w.script c (length (all_entered (w.traces c).actions)) (w.traces c).last (labels w)) && nat_le moves (w.traces c).first)
 
@@ -70,6 +73,14 @@ are_placed w lane index clock moves (p ∷ ps) =
     is_placed w (record { lane = lane; call = index }) clock moves
     && are_placed w lane (index + 1) (clock_then w (record { lane = lane; call = index })) (w.traces (record { lane = lane; call = index })).last ps
 
+-- a call that could have read the clock there did so in its turn, if it read it
+in_turn : (w : Witness) (c : Label) (call : Call) (from : ℕ) → HasRead w c from → ReadsInTurn w c call from
+in_turn w c (calls.Cancel timer) from read = tt
+in_turn w c (calls.Peek timer) from read = tt
+in_turn w c (calls.Overrun timer) from read = tt
+in_turn w c (calls.Online base) from read = tt
+in_turn w c call from read = read
+
 -- law: so the calls of a lane fit
 pub lane_fits : (w : Witness) (lane index clock moves objects : ℕ) (ps : List CallInRound) (given : List Answer)
     → are_placed w lane index clock moves ps ≡ true
@@ -82,30 +93,41 @@ lane_fits w lane index clock moves objects (p ∷ ps) (a ∷ more) placed right 
     let t = w.traces c in
     let these = map (λ x. x.0) (wrote t.actions) in
     let both = and_parts (is_placed w c clock moves) (are_placed w lane (index + 1) (clock_then w c) t.last ps) placed in
-    let halves = and_parts (is_point w.script c 0 t.at (clock_labels w.run) && never_fall clock (t.at ∷ these) (clock_then w c))
+    let halves = and_parts (is_point w.script c 0 t.at (clock_labels w.run)
+    && (never_fall clock (t.at ∷ these) (clock_then w c) && nat_eq (writes_along w t.first) t.at))
     ((is_point w.script c 0 t.first (labels w) && is_point w.script c (length (all_entered t.actions)) t.last (labels w))
     && nat_le moves t.first) both.0 in
-    let times = and_parts (is_point w.script c 0 t.at (clock_labels w.run)) (never_fall clock (t.at ∷ these) (clock_then w c)) halves.0 in
+    let times = and_parts (is_point w.script c 0 t.at (clock_labels w.run))
+    (never_fall clock (t.at ∷ these) (clock_then w c) && nat_eq (writes_along w t.first) t.at) halves.0 in
+    let readings = and_parts (never_fall clock (t.at ∷ these) (clock_then w c)) (nat_eq (writes_along w t.first) t.at) times.1 in
     let rest = and_parts (is_point w.script c 0 t.first (labels w) && is_point w.script c (length (all_entered t.actions)) t.last (labels w))
     (nat_le moves t.first) halves.1 in
     let ends = and_parts (is_point w.script c 0 t.first (labels w))
     (is_point w.script c (length (all_entered t.actions)) t.last (labels w)) rest.0 in (
       record { clock = clock_then w c; moves = t.last; objects = λ i. right.0 },
-      record {
-        traced = right.1.traced;
-        does = right.1.does;
-        keeps = right.1.keeps;
-        turns = right.1.turns;
-        reading = point_passes w.script c 0 t.at (clock_labels w.run) times.0;
-        begins = point_passes w.script c 0 t.first (labels w) ends.0;
-        ends = point_passes w.script c (length (all_entered t.actions)) t.last (labels w) ends.1;
-        truth = right.1.truth;
-        expiries = right.1.expiries;
-        seen = right.1.seen;
-        clock_steps = steps_pass clock (t.at ∷ these) (clock_then w c) times.1;
-        move_steps = (upto moves t.first rest.1, omega arith);
-        object_steps = right.1.steps;
-      },
+      (
+        record {
+          traced = right.1.traced;
+          does = right.1.does;
+          keeps = right.1.keeps;
+          turns = right.1.turns;
+          reading = point_passes w.script c 0 t.at (clock_labels w.run) times.0;
+          begins = point_passes w.script c 0 t.first (labels w) ends.0;
+          ends = point_passes w.script c (length (all_entered t.actions)) t.last (labels w) ends.1;
+          truth = right.1.truth;
+          expiries = right.1.expiries;
+          seen = right.1.seen;
+          clock_steps = steps_pass clock (t.at ∷ these) (clock_then w c) readings.0;
+          move_steps = (upto moves t.first rest.1, omega arith);
+          object_steps = right.1.steps;
+        },
+        in_turn w c p.call moves (record {
+          moment = t.first;
+          behind = upto moves t.first rest.1;
+          before = omega arith;
+          writes = eqb-true (writes_along w t.first) t.at readings.1;
+        }),
+      ),
       lane_fits w lane (index + 1) (clock_then w c) t.last right.0 ps more both.1 right.2,
     )
 

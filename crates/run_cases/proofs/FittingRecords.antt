@@ -1,29 +1,25 @@
 -- The records that fit: a witness for each, and what makes it fit.
 use Rattle.std.proofs.Common.{◌≡◌, ℕ, true, false, [], ◌∷◌, List, None, get_or, arith, refl, inl, inr}
 use Rattle.ktime.specs.Times.{passed}
-use Rattle.ktime.specs.declared.clock_id.ClockId.{ClockId}
-use Rattle.ktime.specs.declared.clock_id.ClockId.TheVariants as clocks
 use Rattle.ktime.specs.declared.mode.Mode.TheVariants as modes
 use Rattle.clock_model.specs.declared.write.Write.TheVariants as writes
 use Rattle.seq_timer.specs.declared.context.Context.TheVariants as contexts
 use Rattle.seq_timer.specs.Systems.{after_entry, changed, IsSystemHistory}
-use Rattle.seq_timer.specs.Tables.{IsStopped, in_context, is_kept_on, is_smaller}
 use Rattle.record_text.specs.declared.record.Answer.TheVariants as answers
 use Rattle.record_text.specs.declared.record.Answer.{Answer}
 use Rattle.record_text.specs.declared.record.Armed.TheVariants as armings
 use Rattle.record_text.specs.declared.record.CallbackReply.TheVariants as replies
 use Rattle.record_text.specs.declared.record.RunRecord.{RunRecord}
-use Rattle.run_history.specs.Histories.{reading_at}
 use Rattle.script_text.specs.Declarations.{declareds_of, terms_of}
 use Rattle.script_text.specs.declared.script.Call.TheVariants as calls
 use Rattle.run_history.specs.Actions.{Entered, Looked, Made, Wrote}
 use Rattle.run_history.specs.Order.{calls_of}
-use Rattle.run_history.specs.Witnesses.{Witness, entries_in, timer_along, Trace}
+use Rattle.run_history.specs.Witnesses.{CountersList, TimersList, Witness, entries_in, Trace}
 use Rattle.run_history.specs.Fits.{Fits}
-use Rattle.run_cases.specs.Fitting.{accept_entry, accepted_record, accepted_script, beside, beside_script, cancelled_record, expired_lines, idle_record, idle_script, kept_start, late_record, moved_record, moved_script, moved_start, rearming_start, none_entry, running_record, set_entry, told_record, told_script, trigger_entry, early_record, early_script, waiting_record, waiting_script, contexts_record, contexts_script}
-use Rattle.run_cases.specs.Lines.{at, slack_entry, start, cancel_entry, out_entry}
+use Rattle.run_cases.specs.Fitting.{accept_entry, accepted_record, accepted_script, beside, beside_script, cancelled_record, expired_lines, idle_record, idle_script, kept_start, late_record, moved_record, moved_script, moved_start, rearming_start, none_entry, running_record, set_entry, told_record, told_script, trigger_entry}
+use Rattle.run_cases.specs.Lines.{at, start, cancel_entry, out_entry}
 use Rattle.run_cases.proofs.Calls.{are_placed, IsRight, right}
-use Rattle.run_cases.proofs.Witnesses.{armed_as, armed_by, witness_by, did, done_by, fired, next, none_then, stays, stopped_by, ran, step, three, two}
+use Rattle.run_cases.proofs.Witnesses.{armed_as, armed_by, witness_along, witness_by, did, done_by, fired, next, stays, ran, step, three, two}
 use Rattle.run_cases.proofs.Small.{fits_by}
 use Rattle.run_cases.proofs.Tests.{le, lt, point_passes}
 
@@ -31,8 +27,9 @@ use Rattle.run_cases.proofs.Tests.{le, lt, point_passes}
 
 -- its witness
 abbrev idle_witness : Witness
-idle_witness = witness_by idle_script idle_record (0 ∷ 0 ∷ 0 ∷ []) ((did 0 (Entered 0 1 (start modes.Rel 100 100) ∷ []) 0 1
-    ∷ did 0 (Wrote 1 (writes.Advance 100) ∷ []) 1 1 ∷ ran 0 1 (fired 2 1 [] 3 false ∷ []) 1 3 ∷ did 1 [] 3 3 ∷ did 1 [] 3 3 ∷ []) ∷ [])
+idle_witness = witness_along idle_script idle_record (TimersList 0 ∷ CountersList 0 ∷ TimersList 0 ∷ TimersList 0 ∷ [])
+    ((did 0 (Entered 0 1 (start modes.Rel 100 100) ∷ []) 0 1 ∷ did 0 (Wrote 1 (writes.Advance 100) ∷ []) 1 2
+    ∷ ran 0 1 (fired 2 1 [] 3 false ∷ []) 2 4 ∷ did 1 [] 4 4 ∷ did 1 [] 4 4 ∷ []) ∷ [])
     (λ i k. (0, 0))
 
 -- law: it fits
@@ -44,8 +41,9 @@ idle_fits = fits_by idle_witness (record {
   writes = (record { counted = lt refl; timely = le refl }, record { mono = refl; real = refl; boot = refl; changes = refl }, tt);
   all = (refl, tt);
   bases = (refl, tt);
-  history = two (step refl (inr refl, inl (lt refl)) refl tt)
-      (two (step refl (refl, refl, refl, refl, le refl) refl (refl, refl)) (two (step refl refl refl tt) tt));
+  clock = refl;
+  history = two (step refl (inr refl, inl (lt refl)) refl tt) (two tt
+      (two (step refl (refl, refl, refl, refl, le refl) refl (refl, refl)) (two (step refl refl refl tt) tt)));
   object_histories = (refl, tt);
   object_spans = (tt, tt);
   placed = (refl, tt);
@@ -54,7 +52,7 @@ idle_fits = fits_by idle_witness (record {
       (next 0 (right refl refl refl (refl, tt) (refl, tt) (le refl, tt) refl (inl refl) tt tt)
       (next 0 (right refl refl refl (refl, tt) (refl, tt) (le refl, tt)
       (record { one_reading = refl; claimed = refl; done = refl; contexts = (refl, tt); bodies = ((refl, refl), tt) }, lt refl)
-      (inl refl) (tt, tt) (done_by idle_witness contexts.Hard 1 0 3 refl refl (refl, tt) (λ clock. (refl, tt))))
+      (inl refl) (tt, tt) (done_by idle_witness contexts.Hard 1 0 4 refl refl (refl, tt) (λ clock. (refl, tt))))
       (next 0 (right refl refl refl (refl, tt) (refl, tt) (le refl, tt) refl (inl refl) tt
       (record { stamp = refl; holds = record { armed = refl; running = refl; moving = refl } }))
       (next 0 (right refl refl refl (refl, tt) (refl, tt) (le refl, tt) refl (inl refl) tt (record { stamp = refl; holds = refl })) tt))))
@@ -83,6 +81,7 @@ told_fits = fits_by told_witness (record {
   writes = tt;
   all = (refl, tt);
   bases = (refl, tt);
+  clock = refl;
   history = at_once;
   object_histories = (refl, tt);
   object_spans = (tt, tt);
@@ -122,6 +121,7 @@ moved_fits = fits_by moved_witness (record {
   writes = tt;
   all = (refl, tt);
   bases = (refl, (refl, tt));
+  clock = refl;
   history = two (step refl (inr refl, inl (lt refl)) refl tt) (two (step refl (refl, refl, refl, refl, le refl) refl (refl, refl))
       (two (step refl (inl refl, inl (lt refl)) refl tt) (two (step refl refl refl tt)
       (two (step refl (refl, (λ e. omega (arith, e)), refl) refl (lt refl)) (two (step refl (inr refl, inl (lt refl)) refl tt) tt)))));
@@ -184,6 +184,7 @@ cancelled_fits = fits_by cancelled_witness (record {
   writes = tt;
   all = (refl, tt);
   bases = (refl, tt);
+  clock = refl;
   history = two (step refl (inr refl, inl (lt refl)) refl tt) (two (step refl (refl, refl, refl) refl tt) tt);
   object_histories = (refl, tt);
   object_spans = (tt, tt);
@@ -213,6 +214,7 @@ expired_fits told moment placed cancel = fits_by (expired_witness told moment) (
   writes = tt;
   all = (refl, tt);
   bases = (refl, tt);
+  clock = refl;
   history = at_once;
   object_histories = (refl, tt);
   object_spans = (tt, tt);
@@ -247,11 +249,12 @@ accepted_spans k = get_or ((0, 0) ∷ (0, 1) ∷ (1, 2) ∷ (3, 4) ∷ (4, 4) �
 
 -- its witness
 abbrev accepted_witness : Witness
-accepted_witness = witness_by accepted_script accepted_record (0 ∷ 0 ∷ 0 ∷ 0 ∷ [])
+accepted_witness = witness_along accepted_script accepted_record
+    (TimersList 0 ∷ CountersList 0 ∷ TimersList 0 ∷ TimersList 0 ∷ CountersList 0 ∷ TimersList 0 ∷ [])
     ((did 0 (Entered 0 1 (start modes.Abs 100 100) ∷ Made 0 1 set_entry ∷ []) 0 1
-    ∷ did 0 (Wrote 1 (writes.Advance 100) ∷ []) 1 1 ∷ ran 0 1 (fired 2 1 (Made 0 2 trigger_entry ∷ []) 3 false ∷ []) 1 3
-    ∷ did 1 (Wrote 2 (writes.Advance 35) ∷ []) 3 3 ∷ did 2 (Entered 0 4 rearming_start ∷ Made 0 3 accept_entry ∷ []) 3 4
-    ∷ did 2 (Made 0 4 none_entry ∷ []) 4 4 ∷ did 2 [] 4 4 ∷ []) ∷ []) (λ i. accepted_spans)
+    ∷ did 0 (Wrote 1 (writes.Advance 100) ∷ []) 1 2 ∷ ran 0 1 (fired 2 1 (Made 0 2 trigger_entry ∷ []) 3 false ∷ []) 2 4
+    ∷ did 1 (Wrote 2 (writes.Advance 35) ∷ []) 4 5 ∷ did 2 (Entered 0 4 rearming_start ∷ Made 0 3 accept_entry ∷ []) 5 6
+    ∷ did 2 (Made 0 4 none_entry ∷ []) 6 6 ∷ did 2 [] 6 6 ∷ []) ∷ []) (λ i. accepted_spans)
 
 -- law: it fits
 pub accepted_fits : Fits accepted_script accepted_record
@@ -263,8 +266,9 @@ accepted_fits = fits_by accepted_witness (record {
       (three (record { counted = lt refl; timely = le refl }) (record { mono = refl; real = refl; boot = refl; changes = refl }) tt);
   all = (refl, tt);
   bases = (refl, tt);
-  history = two (step refl (inr refl, inl (lt refl)) refl tt) (two (step refl (refl, refl, refl, refl, le refl) refl (refl, refl))
-      (two (step refl refl refl tt) (two (step refl (inr refl, inl (lt refl)) refl tt) tt)));
+  clock = refl;
+  history = two (step refl (inr refl, inl (lt refl)) refl tt) (two tt (two (step refl (refl, refl, refl, refl, le refl) refl (refl, refl))
+      (two (step refl refl refl tt) (two tt (two (step refl (inr refl, inl (lt refl)) refl tt) tt)))));
   object_histories = two (two (refl, (refl, (refl, (refl, tt)))) (three (lt refl, refl, le refl, le refl, (λ e. absurd (cc), λ e. absurd (cc))) refl
       (three (lt refl) refl (three (lt refl, (λ e. absurd (cc), λ e. absurd (cc))) refl (three (lt refl, (λ e. refl, λ e. refl)) refl tt))))) tt;
   object_spans = ((le refl, le refl, (le refl, le refl, (le refl, le refl, (le refl, le refl, tt)))), tt);
@@ -283,8 +287,8 @@ accepted_fits = fits_by accepted_witness (record {
       (next 1 (right refl refl refl (refl, tt) (refl, tt) (le refl, tt) refl (inl refl) tt tt)
       (next 2 (right refl refl refl (refl, tt) (refl, tt) ((le refl, le refl), tt)
       (record { one_reading = refl; claimed = refl; done = refl; contexts = (refl, tt); bodies = ((inl (2, true, refl), refl), tt) }, lt refl)
-      (inr (1, le refl, point_passes _ _ _ _ _ refl, (2, le refl, (point_passes _ _ _ _ _ refl, tt, tt), (2, le refl, tt, le refl))))
-      ((1, refl, refl), tt) (done_by accepted_witness contexts.Hard 1 0 3 refl refl (refl, tt) (λ clock. (refl, tt))))
+      (inr (2, le refl, point_passes _ _ _ _ _ refl, (3, le refl, (point_passes _ _ _ _ _ refl, tt, tt), (3, le refl, tt, le refl))))
+      ((1, refl, refl), tt) (done_by accepted_witness contexts.Hard 1 0 4 refl refl (refl, tt) (λ clock. (refl, tt))))
       (next 2 (right refl refl refl (refl, tt) (refl, tt) (le refl, tt) refl (inl refl) tt tt)
       (next 3 (right refl refl refl (refl, tt) (refl, tt) ((le refl, le refl), tt) (record {
         arm = armings.Generation 4;
@@ -294,122 +298,10 @@ accepted_fits = fits_by accepted_witness (record {
         timely = le refl;
         arms = (armed_by 4 140, refl, refl, stays refl refl refl);
         done = refl;
-      }) (inr (3, le refl, tt, (4, le refl, (point_passes _ _ _ _ _ refl, (refl, (refl, refl, λ e. refl)), refl), le refl))) tt tt)
+      }) (inr (5, le refl, tt, (6, le refl, (point_passes _ _ _ _ _ refl, (refl, (refl, refl, λ e. refl)), refl), le refl))) tt tt)
       (next 4 (right refl refl refl (refl, tt) (refl, tt) ((le refl, le refl), tt)
       (record { arm = armings.None; ns = 0; start = []; number = 4; timely = le refl; arms = refl; done = refl })
-      (inr (4, le refl, (point_passes _ _ _ _ _ refl, tt, record { empty = refl; seen = λ e. le refl }), le refl)) tt tt)
+      (inr (6, le refl, (point_passes _ _ _ _ _ refl, tt, record { empty = refl; seen = λ e. le refl }), le refl)) tt tt)
       (next 4 (right refl refl refl (refl, tt) (refl, tt) ((le refl, le refl), tt) refl (inl refl) tt (point_passes _ _ _ _ _ refl, refl)) tt))))))
-      ) tt;
-})
-
--- ---- a timer with slack expires when its soft expiry is reached and its hard one isn't
-
--- its witness
-abbrev early_witness : Witness
-early_witness = witness_by early_script early_record (0 ∷ 0 ∷ 0 ∷ [])
-    ((did 0 (Entered 0 1 (slack_entry 0 100) ∷ []) 0 1 ∷ ran 0 0 (fired 2 1 [] 3 false ∷ []) 1 3 ∷ []) ∷ []) (λ i k. (0, 0))
-
--- law: it fits
-pub early_fits : Fits early_script early_record
-unfolding after_entry changed
-early_fits = fits_by early_witness (record {
-  version = refl;
-  passed = refl;
-  writes = tt;
-  all = (refl, tt);
-  bases = (refl, tt);
-  history = two (step refl (inr refl, inl (lt refl)) refl tt)
-      (two (step refl (refl, refl, refl, refl, le refl) refl (refl, refl)) (two (step refl refl refl tt) tt));
-  object_histories = (refl, tt);
-  object_spans = (tt, tt);
-  placed = (refl, tt);
-  calls = two (
-      next 0 (right refl refl refl (refl, tt) (refl, tt) (le refl, tt)
-      (armed_as 1 0 0 100, refl, refl, refl, refl, stays refl refl refl) (inl refl) tt tt)
-      (next 0 (right refl refl refl (refl, tt) (refl, tt) (le refl, tt)
-      (record { one_reading = refl; claimed = refl; done = refl; contexts = (refl, tt); bodies = ((refl, refl), tt) }, lt refl)
-      (inl refl) (tt, tt) (done_by early_witness contexts.Hard 0 0 3 refl refl (refl, tt) (λ clock. (refl, tt)))) tt)
-      ) tt;
-})
-
--- ---- a run is done and claimed nothing, though a soft expiry is reached: that of the timer with the earliest hard expiry isn't
-
--- its witness
-abbrev waiting_witness : Witness
-waiting_witness = witness_by waiting_script waiting_record (0 ∷ 1 ∷ []) ((did 0 (Entered 0 1 (slack_entry 0 100) ∷ []) 0 1
-    ∷ did 0 (Entered 1 1 (start modes.Abs 50 50) ∷ []) 1 2 ∷ ran 0 0 [] 2 2 ∷ []) ∷ []) (λ i k. (0, 0))
-
--- the second timer leads the one clock on which timers are kept, and has a soft expiry that isn't reached
-waiting_stopped : (clock : ClockId) → IsStopped (in_context contexts.Hard (timer_along waiting_witness 2)) 0 (reading_at [] 0) clock
-unfolding after_entry changed
-waiting_stopped clocks.Monotonic = inr (
-  1,
-  record {
-    kept = refl;
-    smaller = none_then waiting_witness contexts.Hard 2 (is_smaller 0 clocks.Monotonic 50) refl refl (refl, (refl, tt));
-  },
-  lt refl,
-)
-waiting_stopped clocks.Realtime = inl (none_then waiting_witness contexts.Hard 2 (is_kept_on 0 clocks.Realtime) refl refl (refl, (refl, tt)))
-waiting_stopped clocks.Boottime = inl (none_then waiting_witness contexts.Hard 2 (is_kept_on 0 clocks.Boottime) refl refl (refl, (refl, tt)))
-
--- law: it fits
-pub waiting_fits : Fits waiting_script waiting_record
-unfolding after_entry changed
-waiting_fits = fits_by waiting_witness (record {
-  version = refl;
-  passed = refl;
-  writes = tt;
-  all = (refl, (refl, tt));
-  bases = (refl, tt);
-  history = two (step refl (inr refl, inl (lt refl)) refl tt) (two (step refl (inr refl, inl (lt refl)) refl tt) tt);
-  object_histories = (refl, (refl, tt));
-  object_spans = (tt, (tt, tt));
-  placed = (refl, tt);
-  calls = two (
-      next 0 (right refl refl refl (refl, (refl, tt)) (refl, (refl, tt)) (le refl, (le refl, tt))
-      (armed_as 1 0 0 100, refl, refl, refl, refl, stays refl refl refl) (inl refl) tt tt)
-      (next 0 (right refl refl refl (refl, (refl, tt)) (refl, (refl, tt)) (le refl, (le refl, tt))
-      (armed_by 1 50, refl, refl, refl, refl, stays refl refl refl) (inl refl) tt tt)
-      (next 0 (right refl refl refl (refl, (refl, tt)) (refl, (refl, tt)) (le refl, (le refl, tt))
-      (record { one_reading = refl; claimed = refl; done = refl; contexts = tt; bodies = tt }, lt refl)
-      (inl refl) tt (stopped_by waiting_witness contexts.Hard 0 0 2 refl refl (refl, (refl, tt)) waiting_stopped)) tt))
-      ) tt;
-})
-
--- ---- a hard and a soft expiry run on one base, each of which fires its own timer
-
--- its witness
-abbrev contexts_witness : Witness
-contexts_witness = witness_by contexts_script contexts_record (0 ∷ 1 ∷ 0 ∷ 0 ∷ 1 ∷ 1 ∷ []) ((did 0 (Entered 0 1 (start modes.Abs 0 0) ∷ []) 0 1
-    ∷ did 0 (Entered 1 1 (start modes.Abs 0 0) ∷ []) 1 2 ∷ ran 0 0 (fired 2 1 [] 3 false ∷ []) 2 4
-    ∷ ran 0 0 (record (fired 2 1 [] 3 false) { timer = 1 } ∷ []) 4 6 ∷ []) ∷ []) (λ i k. (0, 0))
-
--- law: it fits
-pub contexts_fit : Fits contexts_script contexts_record
-unfolding after_entry changed
-contexts_fit = fits_by contexts_witness (record {
-  version = refl;
-  passed = refl;
-  writes = tt;
-  all = (refl, (refl, tt));
-  bases = (refl, tt);
-  history = two (step refl (inr refl, inl (lt refl)) refl tt) (two (step refl (inr refl, inl (lt refl)) refl tt)
-      (two (step refl (refl, refl, refl, refl, le refl) refl (refl, refl))
-      (two (step refl refl refl tt) (two (step refl (refl, refl, refl, refl, le refl) refl (refl, refl)) (two (step refl refl refl tt) tt)))));
-  object_histories = (refl, (refl, tt));
-  object_spans = (tt, (tt, tt));
-  placed = (refl, tt);
-  calls = two (
-      next 0 (right refl refl refl (refl, (refl, tt)) (refl, (refl, tt)) (le refl, (le refl, tt))
-      (armed_by 1 0, refl, refl, refl, refl, stays refl refl refl) (inl refl) tt tt)
-      (next 0 (right refl refl refl (refl, (refl, tt)) (refl, (refl, tt)) (le refl, (le refl, tt))
-      (armed_by 1 0, refl, refl, refl, refl, stays refl refl refl) (inl refl) tt tt)
-      (next 0 (right refl refl refl (refl, (refl, tt)) (refl, (refl, tt)) (le refl, (le refl, tt))
-      (record { one_reading = refl; claimed = refl; done = refl; contexts = (refl, tt); bodies = ((refl, refl), tt) }, lt refl)
-      (inl refl) (tt, tt) (done_by contexts_witness contexts.Hard 0 0 4 refl refl (refl, (refl, tt)) (λ clock. (refl, (refl, tt)))))
-      (next 0 (right refl refl refl (refl, (refl, tt)) (refl, (refl, tt)) (le refl, (le refl, tt))
-      (record { one_reading = refl; claimed = refl; done = refl; contexts = (refl, tt); bodies = ((refl, refl), tt) }, lt refl)
-      (inl refl) (tt, tt) (done_by contexts_witness contexts.Soft 0 0 6 refl refl (refl, (refl, tt)) (λ clock. (refl, (refl, tt))))) tt)))
       ) tt;
 })

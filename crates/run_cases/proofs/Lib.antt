@@ -8,3 +8,6 @@ pub mod Small
 pub mod Tests
 pub mod WrongRecords
 pub mod MovedInTurn
+pub mod VersionTwo
+pub mod LooksAndWrites
+pub mod Readings

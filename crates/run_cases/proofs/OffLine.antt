@@ -73,6 +73,7 @@ heir_fits = fits_by heir_witness (record {
   writes = tt;
   all = (refl, tt);
   bases = (refl, (refl, tt));
+  clock = refl;
   history = two (step refl (refl, (λ e. omega (arith, e)), refl) refl (lt refl)) (two (step refl (inr refl, inl (lt refl)) refl tt)
       (two (step refl (refl, (λ e. omega (arith, e)), refl) refl (lt refl)) (two (step refl (inr refl, inl (lt refl)) refl tt)
       (two (record { within = lt refl; may = (refl, lt refl, lt refl); clear = refl; reach = of_one _ (lt refl) })
@@ -116,7 +117,7 @@ pub stranded_doesnt_fit : Fits stranded_script stranded_record → ⊥
 unfolding after_entry after_shift changed shifted
 stranded_doesnt_fit fits =
     let order : List Owner = BasesList 1 ∷ TimersList 0 ∷ TimersList 0 ∷ [] in
-    let o = in_one_order_of stranded_script stranded_record (moves_by stranded_record [] order) refl (refl, tt) (refl, (refl, tt)) refl fits in
+    let o = in_one_order_of stranded_script stranded_record (moves_by stranded_record [] order) refl (refl, tt) (refl, (refl, tt)) refl refl fits in
     -- at the third place, where the timer is started
     on_line (o.2.history.history.1.1.0.base.online refl)
   where
@@ -130,7 +131,7 @@ pub left_doesnt_fit : Fits left_script left_record → ⊥
 unfolding after_entry after_shift changed shifted
 left_doesnt_fit fits =
     let order : List Owner = TimersList 0 ∷ TimersList 0 ∷ BasesList 1 ∷ [] in
-    let o = in_one_order_of left_script left_record (moves_by left_record [] order) refl (refl, tt) (refl, (refl, tt)) refl fits in
+    let o = in_one_order_of left_script left_record (moves_by left_record [] order) refl (refl, tt) (refl, (refl, tt)) refl refl fits in
     -- at the third place, where the base goes off line
     let clear = o.2.history.history.1.1.0.clear in
     not_there (ap front_of clear)
@@ -196,7 +197,7 @@ early_move_doesnt_fit fits =
 -- law: it does not fit
 pub silent_doesnt_fit : Fits silent_script silent_record → ⊥
 silent_doesnt_fit fits =
-    let o = in_one_order_of silent_script silent_record (moves_by silent_record [] (BasesList 1 ∷ [])) refl (refl, tt) (refl, (refl, tt)) refl fits in
-    let call = (o.2.calls 0).2.1 in
+    let o = in_one_order_of silent_script silent_record (moves_by silent_record [] (BasesList 1 ∷ [])) refl (refl, tt) (refl, (refl, tt)) refl refl fits in
+    let call = (o.2.calls 0).2.1.0 in
     let wrong = call.traced.moves ∙ ap all_entered call.does in
     cc

@@ -9,7 +9,7 @@ use Rattle.record_text.specs.declared.record.RunRecord.{RunRecord}
 use Rattle.script_text.specs.declared.script.Script.{Script}
 use Rattle.run_history.specs.Actions.{also}
 use Rattle.run_history.specs.Order.{is_before, IsInOrder}
-use Rattle.run_history.specs.Witnesses.{BasesList, Witness, is_owner, lines_at, Move, moves_from, moves_on, Owner, owner_of, TimersList, Trace}
+use Rattle.run_history.specs.Witnesses.{BasesList, CountersList, Witness, is_owner, lines_at, Move, moves_from, moves_on, Owner, owner_of, TimersList, Trace}
 use Rattle.run_history.specs.Fits.{Fits, FitsIn}
 use Rattle.run_history.proofs.Owners.{other_owner, owner_is, owner_itself, same_owner}
 use Rattle.run_cases.proofs.Witnesses.{Along, timers_moves}
@@ -145,21 +145,23 @@ one_order s (m ∷ ms) (n ∷ ns) same order apart =
 pub in_one_order_of : (s : Script) (r : RunRecord) (ns : List Move)
     → list_all (λ m. is_list (length r.timers) (length r.bases) (owner_of m.shown)) ns ≡ true
     → Along (λ t. moves_on (TimersList t) ns ≡ moves_from 0 (lines_at r (TimersList t))) 0 r.timers
-    → Along (λ b. moves_on (BasesList b) ns ≡ moves_from 0 (lines_at r (BasesList b))) 0 r.bases → are_apart s ns ≡ true
+    → Along (λ b. moves_on (BasesList b) ns ≡ moves_from 0 (lines_at r (BasesList b))) 0 r.bases
+    → moves_on (CountersList 0) ns ≡ moves_from 0 (lines_at r (CountersList 0)) → are_apart s ns ≡ true
     → Fits s r → (traces : Label → Trace) × (spans : ℕ → ℕ → ℕ × ℕ) × FitsIn (witness_with s r ns traces spans)
-in_one_order_of s r ns there all bases apart fits =
+in_one_order_of s r ns there all bases clock apart fits =
     let o = opened s r fits in
-    let each = each_owner r ns there all bases in (
+    let each = each_owner r ns there all bases clock in (
       o.1,
       o.2,
       subst (λ ms. FitsIn (witness_with s r ms o.1 o.2)) (one_order s o.0 ns (λ x. o.3.history.all x ∙ sym (each x)) o.3.order apart) o.3,
     )
 
--- the same, where all entries are timers' and there is one base
+-- the same, where all entries are timers', there is one base, and the clock isn't written
 pub in_one_order : (s : Script) (r : RunRecord) (order : List ℕ)
     → list_all (λ m. is_list (length r.timers) (length r.bases) (owner_of m.shown)) (timers_moves r order) ≡ true
     → Along (λ t. moves_on (TimersList t) (timers_moves r order) ≡ moves_from 0 (lines_at r (TimersList t))) 0 r.timers
     → are_apart s (timers_moves r order) ≡ true
     → Along (λ b. moves_on (BasesList b) (timers_moves r order) ≡ moves_from 0 (lines_at r (BasesList b))) 0 r.bases
+    → moves_on (CountersList 0) (timers_moves r order) ≡ moves_from 0 (lines_at r (CountersList 0))
     → Fits s r → (traces : Label → Trace) × (spans : ℕ → ℕ → ℕ × ℕ) × FitsIn (witness_with s r (timers_moves r order) traces spans)
-in_one_order s r order there all apart bases fits = in_one_order_of s r (timers_moves r order) there all bases apart fits
+in_one_order s r order there all apart bases clock fits = in_one_order_of s r (timers_moves r order) there all bases clock apart fits

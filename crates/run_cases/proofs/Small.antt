@@ -1,5 +1,5 @@
 -- The record of a small witness fits: tests of the whole, and what is said of each timer and each lane.
-use Rattle.std.proofs.Common.{◌≡◌, ◌≤◌, ◌&&◌, ℕ, ◌+◌, Bool, true, false, nat_eq, nat_lt, List, [], ◌∷◌, length, map, refl, sym, ap, ◌∙◌, subst}
+use Rattle.std.proofs.Common.{◌≡◌, ◌≤◌, ◌&&◌, ℕ, ◌+◌, zero, suc, Bool, true, false, nat_eq, nat_lt, List, [], ◌∷◌, length, map, arith, refl, sym, ap, ◌∙◌, subst}
 use Rattle.std.specs.List.{AllByRecursion, list_all}
 use Rattle.std.proofs.lemmas.Bool.{and_parts, eqb-true}
 use Rattle.std.proofs.lemmas.List.{get_or_past, length-map, nil_from_length}
@@ -46,13 +46,13 @@ is_under s line = are_calls s (map (λ look. look.label) line.looks) && are_sort
 abbrev pub are_under : Witness → Bool
 are_under w = list_all (λ lines. list_all (is_under w.script) lines) w.run.timers && list_all is_unrefused w.run.objects
 
--- a list is one of so many timers, or of so many bases
+-- a list is one of so many timers, or of so many bases, or the clock's
 abbrev pub is_list : ℕ → ℕ → Owner → Bool
 is_list timers bases (TimersList t) = nat_lt t timers
 is_list timers bases (BasesList b) = nat_lt b bases
-is_list timers bases (CountersList k) = false
+is_list timers bases (CountersList k) = nat_lt k 1
 
--- no move is of a counter, or of a timer or a base that isn't there, and no call is of a lane that isn't
+-- no move is of a timer, a base or a counter that isn't there, and no call is of a lane that isn't
 abbrev pub are_there : Witness → Bool
 are_there w =
     list_all (λ m. is_list (length w.run.timers) (length w.run.bases) (owner_of m.shown)) w.moves
@@ -75,6 +75,7 @@ pub record IsSmall (w : Witness) : Type 0 where
   pub writes : AreWrites (at_stamp 0) w.run.clock
   pub all : Along (λ t. moves_on (TimersList t) w.moves ≡ moves_from 0 (lines_at w.run (TimersList t))) 0 w.run.timers
   pub bases : Along (λ b. moves_on (BasesList b) w.moves ≡ moves_from 0 (lines_at w.run (BasesList b))) 0 w.run.bases
+  pub clock : moves_on (CountersList 0) w.moves ≡ moves_from 0 (lines_at w.run (CountersList 0))
   pub history : IsSystemHistory w.script.bases (declareds_of w.script) (terms_of w.script) (entries_in w)
   pub object_histories : Along (λ i. IsLegalObject w.script w.run i (kind_of w.script i)) 0 w.script.timers
   pub object_spans : Along (λ i. AreBehind (w.spans i) 1 0 (lines_of_object w.run i)) 0 w.run.objects
@@ -102,30 +103,32 @@ not_base timers bases b (TimersList u) past less = refl
 not_base timers bases b (BasesList c) past less = other c bases b less past
 not_base timers bases b (CountersList k) past less = refl
 
-not_counter : (timers bases k : ℕ) (o : Owner) → is_list timers bases o ≡ true → is_owner o (CountersList k) ≡ false
+not_counter : (timers bases k : ℕ) (o : Owner) → is_list timers bases o ≡ true → is_owner o (CountersList (suc k)) ≡ false
 not_counter timers bases k (TimersList t) less = refl
 not_counter timers bases k (BasesList b) less = refl
-not_counter timers bases k (CountersList j) less = absurd (cc)
+not_counter timers bases k (CountersList j) less = other j 1 (suc k) less (omega arith)
 
 -- law: so each list's moves are its lines
 pub each_owner : (r : RunRecord) (ms : List Move) → list_all (λ m. is_list (length r.timers) (length r.bases) (owner_of m.shown)) ms ≡ true
     → Along (λ t. moves_on (TimersList t) ms ≡ moves_from 0 (lines_at r (TimersList t))) 0 r.timers
     → Along (λ b. moves_on (BasesList b) ms ≡ moves_from 0 (lines_at r (BasesList b))) 0 r.bases
+    → moves_on (CountersList 0) ms ≡ moves_from 0 (lines_at r (CountersList 0))
     → (o : Owner) → moves_on o ms ≡ moves_from 0 (lines_at r o)
-each_owner r ms there all bases (TimersList t) =
+each_owner r ms there all bases clock (TimersList t) =
     everywhere (λ t. moves_on (TimersList t) ms ≡ moves_from 0 (lines_at r (TimersList t))) r.timers all (λ t past.
     none_on (TimersList t) ms (all_true (λ m. is_owner (owner_of m.shown) (TimersList t) ≡ false)
     (λ m. is_list (length r.timers) (length r.bases) (owner_of m.shown))
     (λ m less. not_timer (length r.timers) (length r.bases) t (owner_of m.shown) past less) ms there)
     ∙ ap (λ lines. moves_from 0 (map (line_of_timer t) lines)) (sym (get_or_past r.timers t [] past))) t
-each_owner r ms there all bases (BasesList b) =
+each_owner r ms there all bases clock (BasesList b) =
     everywhere (λ b. moves_on (BasesList b) ms ≡ moves_from 0 (lines_at r (BasesList b))) r.bases bases (λ b past.
     none_on (BasesList b) ms (all_true (λ m. is_owner (owner_of m.shown) (BasesList b) ≡ false)
     (λ m. is_list (length r.timers) (length r.bases) (owner_of m.shown))
     (λ m less. not_base (length r.timers) (length r.bases) b (owner_of m.shown) past less) ms there)
     ∙ ap (λ lines. moves_from 0 (map (line_of_base b) lines)) (sym (get_or_past r.bases b [] past))) b
-each_owner r ms there all bases (CountersList k) =
-    none_on (CountersList k) ms (all_true (λ m. is_owner (owner_of m.shown) (CountersList k) ≡ false)
+each_owner r ms there all bases clock (CountersList zero) = clock
+each_owner r ms there all bases clock (CountersList (suc k)) =
+    none_on (CountersList (suc k)) ms (all_true (λ m. is_owner (owner_of m.shown) (CountersList (suc k)) ≡ false)
     (λ m. is_list (length r.timers) (length r.bases) (owner_of m.shown))
     (λ m less. not_counter (length r.timers) (length r.bases) k (owner_of m.shown) less) ms there)
 
@@ -175,7 +178,7 @@ small_fits w small =
           r.objects under.1);
       writes = small.writes;
       history = record {
-        all = each_owner r w.moves there.0 small.all small.bases;
+        all = each_owner r w.moves there.0 small.all small.bases small.clock;
         history = small.history;
       };
       object_histories = everywhere (λ i. IsLegalObject s r i (kind_of s i)) s.timers small.object_histories (λ i past.

@@ -23,7 +23,7 @@ use Rattle.run_history.specs.Histories.{reading_at, timer_after}
 use Rattle.script_text.specs.Declarations.{declared_of, declareds_of, terms_of, kind_of}
 use Rattle.run_history.specs.Order.{is_before, IsPoint, made_by}
 use Rattle.run_history.specs.Calls.{fires, IsBody, IsTrigger}
-use Rattle.run_history.specs.Witnesses.{labels, Move, OfTimer, Shown, TimersList, timer_along, entries_in, Witness, Trace, Fired}
+use Rattle.run_history.specs.Witnesses.{CountersList, labels, Move, OfTimer, Shown, TimersList, timer_along, entries_in, Witness, Trace, Fired}
 use Rattle.run_history.specs.Fits.{Fits}
 use Rattle.run_history.specs.Traces.{all_entered}
 use Rattle.run_history.specs.Truths.{IsDone, IsClaimSpan}
@@ -34,9 +34,9 @@ use Rattle.fit_laws.proofs.OwnPoints.{declared_then, same_then, seen, seen_rises
 use Rattle.run_cases.specs.Lines.{at, claim_entry}
 use Rattle.run_cases.specs.Fitting.{waiting_script}
 use Rattle.run_cases.specs.Wrong.{both_record, both_script, tie_record, tie_script, due_record, due_script, uncancelled_record, uncancelled_script, crossed_record, crossed_script, set_entry_of, settimes_record, settimes_script, soon_record, soon_script, past_record, missed_record, missed_script, astray_record, astray_script, versions_record, versions_script}
-use Rattle.run_cases.proofs.Witnesses.{timers_moves}
+use Rattle.run_cases.proofs.Witnesses.{moves_by, timers_moves}
 use Rattle.run_cases.proofs.Tests.{upto}
-use Rattle.run_cases.proofs.Orders.{at_early, at_late, witness_with, found, opened, in_one_order}
+use Rattle.run_cases.proofs.Orders.{at_early, at_late, witness_with, found, opened, in_one_order, in_one_order_of}
 use Rattle.run_cases.proofs.Settimes.{idle_first, settime_span}
 
 -- ---- two functions run at once on one base, by what a lane is told before and behind its claim
@@ -51,8 +51,8 @@ both_dont_fit fits =
     let o = opened both_script both_record fits in
     let w = witness_with both_script both_record o.0 o.1 o.2 in
     let f = o.3 in
-    let one = (f.calls 1).1 in
-    let three = (f.calls 1).2.2.1 in
+    let one = (f.calls 1).1.0 in
+    let three = (f.calls 1).2.2.1.0 in
     let a = (o.1 (at 1 0)).last in
     let b = (o.1 (at 1 2)).last in
     let place = found (TimersList 1) 1 w.moves claim (ap (λ ms. slice_get ms 1) (f.history.all (TimersList 1))) in
@@ -86,14 +86,19 @@ both_dont_fit fits =
 
 -- ---- of two timers with the same expiry the one that was armed later is claimed first
 
+-- the one order: the starts, the write, what each run did
+abbrev tie_moves : List Move
+tie_moves = moves_by tie_record []
+    (TimersList 0 ∷ TimersList 1 ∷ CountersList 0 ∷ TimersList 1 ∷ TimersList 1 ∷ TimersList 0 ∷ TimersList 0 ∷ [])
+
 -- law: it does not fit
 pub tie_doesnt_fit : Fits tie_script tie_record → ⊥
 unfolding after_entry changed
 tie_doesnt_fit fits =
-    let o = in_one_order tie_script tie_record (0 ∷ 1 ∷ 1 ∷ 1 ∷ 0 ∷ 0 ∷ []) refl (refl, (refl, tt)) refl (refl, tt) fits in
-    let w = witness_with tie_script tie_record (timers_moves tie_record (0 ∷ 1 ∷ 1 ∷ 1 ∷ 0 ∷ 0 ∷ [])) o.0 o.1 in
-    -- at the third place, where the second timer is claimed
-    let wrong : 2 < 1 = (turn_at w o.2.history o.2.timers 2 1 _ (claim_entry 0 1 1) 0 1 refl refl refl).ties 0 (λ e. omega (arith, e)) refl refl in
+    let o = in_one_order_of tie_script tie_record tie_moves refl (refl, (refl, tt)) (refl, tt) refl refl fits in
+    let w = witness_with tie_script tie_record tie_moves o.0 o.1 in
+    -- at the fourth place, where the second timer is claimed
+    let wrong : 2 < 1 = (turn_at w o.2.history o.2.timers 3 1 _ (claim_entry 0 1 1) 0 1 refl refl refl).ties 0 (λ e. omega (arith, e)) refl refl in
     omega (arith, wrong)
 
 -- ---- an expiry run has nothing left to do, though at each moment one timer or the other was due
@@ -129,8 +134,8 @@ one_is_due traces spans (suc (suc (suc (suc n)))) made point stopped = omega (ar
 -- law: it does not fit
 pub due_doesnt_fit : Fits due_script due_record → ⊥
 due_doesnt_fit fits =
-    let o = in_one_order due_script due_record (0 ∷ 1 ∷ 0 ∷ []) refl (refl, (refl, tt)) refl (refl, tt) fits in
-    let call = (o.2.calls 1).1 in
+    let o = in_one_order due_script due_record (0 ∷ 1 ∷ 0 ∷ []) refl (refl, (refl, tt)) refl (refl, tt) refl fits in
+    let call = (o.2.calls 1).1.0 in
     let done : IsDone (due_witness o.0 o.1) contexts.Hard 0 0 (o.0 (at 1 0)).last =
     subst (λ k. IsDone (due_witness o.0 o.1) contexts.Hard k 0 (o.0 (at 1 0)).last) (sym call.does.0.one_reading) call.seen in
     one_is_due o.0 o.1 (o.0 (at 1 0)).last _ call.ends (done.stopped clocks.Monotonic)
@@ -154,27 +159,31 @@ armed_there traces spans (suc (suc (suc n))) point idle = omega (arith, point.wi
 -- law: it does not fit
 pub uncancelled_doesnt_fit : Fits uncancelled_script uncancelled_record → ⊥
 uncancelled_doesnt_fit fits =
-    let o = in_one_order uncancelled_script uncancelled_record (0 ∷ 0 ∷ []) refl (refl, tt) refl (refl, tt) fits in
-    let call = (o.2.calls 0).2.1 in
+    let o = in_one_order uncancelled_script uncancelled_record (0 ∷ 0 ∷ []) refl (refl, tt) refl (refl, tt) refl fits in
+    let call = (o.2.calls 0).2.1.0 in
     armed_there o.0 o.1 (o.0 (at 0 1)).first call.begins
     (idle_first (uncancelled_witness o.0 o.1) 0 (o.0 (at 0 1)).actions (o.0 (at 0 1)).first _ _ _ _ (λ is. cc) call.traced.moves call.seen)
 
 -- ---- a settime's start stands behind the claim of an expiry, but its entry stands before that expiry's
 
--- the one order: the start, the claim, the finish, the start
-abbrev crossed_witness : (Label → Trace) → (ℕ → ℕ → ℕ × ℕ) → Witness
-crossed_witness traces spans = witness_with crossed_script crossed_record (timers_moves crossed_record (0 ∷ 0 ∷ 0 ∷ 0 ∷ [])) traces spans
+-- the one order: the start, the write, the claim, the finish, the start
+abbrev crossed_moves : List Move
+crossed_moves = moves_by crossed_record [] (TimersList 0 ∷ CountersList 0 ∷ TimersList 0 ∷ TimersList 0 ∷ TimersList 0 ∷ [])
 
--- the settime ended behind the fourth entry, which is its start
-set_there : (traces : Label → Trace) (spans : ℕ → ℕ → ℕ × ℕ) (n : ℕ) → n ≤ 4 → made_by (at 0 2) (take n (labels (crossed_witness traces spans))) ≡ 1
+abbrev crossed_witness : (Label → Trace) → (ℕ → ℕ → ℕ × ℕ) → Witness
+crossed_witness traces spans = witness_with crossed_script crossed_record crossed_moves traces spans
+
+-- the settime ended behind the fifth move, which is its start
+set_there : (traces : Label → Trace) (spans : ℕ → ℕ → ℕ × ℕ) (n : ℕ) → n ≤ 5 → made_by (at 0 2) (take n (labels (crossed_witness traces spans))) ≡ 1
     → (timer_along (crossed_witness traces spans) n 0).stamp ≡ 4
 unfolding after_entry changed
 set_there traces spans zero small many = absurd (cc)
 set_there traces spans (suc zero) small many = absurd (cc)
 set_there traces spans (suc (suc zero)) small many = absurd (cc)
 set_there traces spans (suc (suc (suc zero))) small many = absurd (cc)
-set_there traces spans (suc (suc (suc (suc zero)))) small many = refl
-set_there traces spans (suc (suc (suc (suc (suc n))))) small many = absurd (omega (arith, small))
+set_there traces spans (suc (suc (suc (suc zero)))) small many = absurd (cc)
+set_there traces spans (suc (suc (suc (suc (suc zero))))) small many = refl
+set_there traces spans (suc (suc (suc (suc (suc (suc n)))))) small many = absurd (omega (arith, small))
 
 -- the span of an expiry's entry is just its claim
 module _ (w : Witness) (base reading claim number : ℕ) (entry : ObjectEntry) where
@@ -211,11 +220,11 @@ module _ (w : Witness) (base reading claim number : ℕ) (entry : ObjectEntry) w
 -- law: it does not fit
 pub crossed_doesnt_fit : Fits crossed_script crossed_record → ⊥
 crossed_doesnt_fit fits =
-    let o = in_one_order crossed_script crossed_record (0 ∷ 0 ∷ 0 ∷ 0 ∷ []) refl (refl, tt) refl (refl, tt) fits in
+    let o = in_one_order_of crossed_script crossed_record crossed_moves refl (refl, tt) (refl, tt) refl refl fits in
     let w = crossed_witness o.0 o.1 in
     let t = o.0 (at 1 0) in
-    let run = (o.2.calls 1).1 in
-    let settime = settime_span {w = w} {c = at 0 2} 0 2 (set_entry_of 50 1 4 1) (o.2.calls 0).2.2.1 refl in
+    let run = (o.2.calls 1).1.0 in
+    let settime = settime_span {w = w} {c = at 0 2} 0 2 (set_entry_of 50 1 4 1) (o.2.calls 0).2.2.1.0 refl in
     let expiry = one_span w 0 t.at 2 3 (object_entries.Trigger 1 1 false) _ t.fired _ _ run.does.1 (run.traced.moves ∙ ap all_entered run.does.0.done)
     (run.traced.objects 0 ∙ ap (made 0) run.does.0.done) run.does.0.bodies run.expiries in
     let behind = (o.2.object_spans 0).2.2.0 in
@@ -246,10 +255,10 @@ ends_there traces spans (suc (suc (suc (suc n)))) small many = absurd (omega (ar
 -- law: it does not fit
 pub settimes_dont_fit : Fits settimes_script settimes_record → ⊥
 settimes_dont_fit fits =
-    let o = in_one_order settimes_script settimes_record (0 ∷ 0 ∷ 0 ∷ []) refl (refl, tt) refl (refl, tt) fits in
+    let o = in_one_order settimes_script settimes_record (0 ∷ 0 ∷ 0 ∷ []) refl (refl, tt) refl (refl, tt) refl fits in
     let w = settimes_witness o.0 o.1 in
-    let zero_call = (o.2.calls 0).1 in
-    let one_call = (o.2.calls 1).1 in
+    let zero_call = (o.2.calls 0).1.0 in
+    let one_call = (o.2.calls 1).1.0 in
     let early = settime_span {w = w} {c = at 1 0} 0 1 (set_entry_of 200 0 3 0) one_call refl in
     let late = settime_span {w = w} {c = at 0 0} 0 2 (set_entry_of 100 0 1 200) zero_call refl in
     let behind = (o.2.object_spans 0).2.0 in
@@ -268,7 +277,7 @@ settimes_dont_fit fits =
 pub soon_doesnt_fit : Fits soon_script soon_record → ⊥
 unfolding after_entry changed
 soon_doesnt_fit fits =
-    let o = in_one_order soon_script soon_record (0 ∷ 0 ∷ 0 ∷ []) refl (refl, tt) refl (refl, tt) fits in
+    let o = in_one_order soon_script soon_record (0 ∷ 0 ∷ 0 ∷ []) refl (refl, tt) refl (refl, tt) refl fits in
     let w = witness_with soon_script soon_record (timers_moves soon_record (0 ∷ 0 ∷ 0 ∷ [])) o.0 o.1 in
     let due : false ≡ true = (turn_at w o.2.history o.2.timers 1 0 _ (claim_entry 0 0 1) 0 0 refl refl refl).next.due in
     false≢true due
@@ -279,7 +288,7 @@ soon_doesnt_fit fits =
 pub past_doesnt_fit : Fits waiting_script past_record → ⊥
 unfolding after_entry changed
 past_doesnt_fit fits =
-    let o = in_one_order waiting_script past_record (0 ∷ 1 ∷ 0 ∷ 0 ∷ []) refl (refl, (refl, tt)) refl (refl, tt) fits in
+    let o = in_one_order waiting_script past_record (0 ∷ 1 ∷ 0 ∷ 0 ∷ []) refl (refl, (refl, tt)) refl (refl, tt) refl fits in
     let w = witness_with waiting_script past_record (timers_moves past_record (0 ∷ 1 ∷ 0 ∷ 0 ∷ [])) o.0 o.1 in
     -- at the third place, where the first timer is claimed, the second one's expiry is earlier
     let smaller : true ≡ false = (turn_at w o.2.history o.2.timers 2 0 _ (claim_entry 0 0 1) 0 0 refl refl refl).next.smaller 1 in
@@ -287,22 +296,26 @@ past_doesnt_fit fits =
 
 -- ---- nothing was left to do, though a timer's hard expiry was reached
 
--- the one order: the start
+-- the one order: the start, the write
+abbrev missed_moves : List Move
+missed_moves = moves_by missed_record [] (TimersList 0 ∷ CountersList 0 ∷ [])
+
 abbrev missed_witness : (Label → Trace) → (ℕ → ℕ → ℕ × ℕ) → Witness
-missed_witness traces spans = witness_with missed_script missed_record (timers_moves missed_record (0 ∷ [])) traces spans
+missed_witness traces spans = witness_with missed_script missed_record missed_moves traces spans
 
 one_is_missed : (traces : Label → Trace) (spans : ℕ → ℕ → ℕ × ℕ) (n made : ℕ)
     → IsPoint missed_script (at 0 2) made n (labels (missed_witness traces spans)) → IsStoppedHard (missed_witness traces spans) 1 n → ⊥
 unfolding after_entry changed
 one_is_missed traces spans zero made point stopped = false≢true (sym point.within.behind.0)
-one_is_missed traces spans (suc zero) made point stopped = not_stopped (missed_witness traces spans) 1 1 0 stopped refl refl
-one_is_missed traces spans (suc (suc n)) made point stopped = omega (arith, point.within.small)
+one_is_missed traces spans (suc zero) made point stopped = false≢true (sym point.within.behind.0)
+one_is_missed traces spans (suc (suc zero)) made point stopped = not_stopped (missed_witness traces spans) 1 2 0 stopped refl refl
+one_is_missed traces spans (suc (suc (suc n))) made point stopped = omega (arith, point.within.small)
 
 -- law: it does not fit
 pub missed_doesnt_fit : Fits missed_script missed_record → ⊥
 missed_doesnt_fit fits =
-    let o = in_one_order missed_script missed_record (0 ∷ []) refl (refl, tt) refl (refl, tt) fits in
-    let call = (o.2.calls 0).2.2.1 in
+    let o = in_one_order_of missed_script missed_record missed_moves refl (refl, tt) (refl, tt) refl refl fits in
+    let call = (o.2.calls 0).2.2.1.0 in
     let done : IsDone (missed_witness o.0 o.1) contexts.Hard 1 0 (o.0 (at 0 2)).last =
     subst (λ k. IsDone (missed_witness o.0 o.1) contexts.Hard k 0 (o.0 (at 0 2)).last) (sym call.does.0.one_reading) call.seen in
     one_is_missed o.0 o.1 (o.0 (at 0 2)).last _ call.ends (done.stopped clocks.Monotonic)
@@ -320,7 +333,7 @@ first_context s x t ts (f ∷ fs) claimed all =
 pub astray_doesnt_fit : Fits astray_script astray_record → ⊥
 astray_doesnt_fit fits =
     let o = opened astray_script astray_record fits in
-    let run = (o.3.calls 0).2.1.does.0 in
+    let run = (o.3.calls 0).2.1.0.does.0 in
     let same : contexts.Soft ≡ contexts.Hard = first_context astray_script contexts.Hard 0 [] (o.1 (at 0 1)).fired run.claimed run.contexts in
     cc
 

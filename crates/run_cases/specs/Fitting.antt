@@ -20,7 +20,7 @@ use Rattle.script_text.specs.declared.script.Call.TheVariants as calls
 use Rattle.script_text.specs.declared.script.Callback.TheVariants as callbacks
 use Rattle.script_text.specs.declared.script.Kind.TheVariants as kinds
 use Rattle.script_text.specs.declared.script.Script.{Script}
-use Rattle.run_cases.specs.Lines.{at, base_line, by, case_object_line, case_script, case_start, claim_lines, hard_expire, hard_raw, line, off_line_record, case_start_entry, raw_record, case_record_in, case_script_in, slack_entry, slack_start, start, cancel_entry, claim_entry, finish_entry, out_entry}
+use Rattle.run_cases.specs.Lines.{advance_line, at, base_line, by, case_object_line, case_script, case_start, claim_lines, hard_expire, hard_raw, line, off_line_record, case_start_entry, raw_record, case_record_in, case_script_in, slack_entry, slack_start, start, cancel_entry, claim_entry, finish_entry, out_entry}
 
 -- ---- a timer is started, expires, is cancelled when it is idle, and is looked at
 
@@ -100,6 +100,55 @@ moved_record = record (raw_record [] ((line 0 0 (start modes.Abs 0 0) ∷ line 0
     ((answers.Started 1 0 false ∷ answers.More 0 (0 ∷ []) ∷ answers.Peek 4 0 true false false ∷ answers.Started 6 1 true ∷ []) ∷ [])) {
       bases = [] ∷ [] ∷ [];
     }
+
+-- ---- a lane looks at a timer and then writes the clock, beside another lane's expiry run, which claims the timer by that write
+
+-- the script
+abbrev pub awaited_script : Script
+awaited_script = case_script 1 2 (hard_raw callbacks.Once ∷ []) ((by 0 (case_start 0 modes.Rel 10 0) ∷ [])
+    ∷ (by 0 (hard_expire 0 4) ∷ by 1 (calls.Peek 0) ∷ by 1 (calls.Clock (writes.Advance 20)) ∷ []) ∷ [])
+
+-- what the look was answered, and all else
+abbrev pub awaited_by : Answer → RunRecord
+awaited_by looked = raw_record (advance_line 1 1 20 ∷ [])
+    ((line 0 0 (start modes.Rel 10 10) ∷ line 0 1 (claim_entry 0 1 1) ∷ line 0 1 (finish_entry false 1) ∷ []) ∷ [])
+    ((answers.Started 1 0 false ∷ answers.Done 1 (0 ∷ []) ∷ []) ∷ (looked ∷ answers.Clock 1 ∷ []) ∷ [])
+
+-- its record: the look found the timer armed
+abbrev pub awaited_record : RunRecord
+awaited_record = awaited_by (answers.Peek 1 0 true false false)
+
+-- ---- a lane looks at a timer and then writes the clock, beside another lane's start of it, which comes first
+
+-- the script
+abbrev pub started_script : Script
+started_script = case_script 1 2 (hard_raw callbacks.Once ∷ [])
+    ((by 0 (case_start 0 modes.Rel 10 0) ∷ by 1 (calls.Peek 0) ∷ by 1 (calls.Clock (writes.Advance 20)) ∷ []) ∷ [])
+
+-- the start's entry, and all else
+abbrev pub started_by : Entry → RunRecord
+started_by entry = raw_record (advance_line 1 1 20 ∷ []) ((line 0 0 entry ∷ []) ∷ [])
+    ((answers.Started 1 0 false ∷ []) ∷ (answers.Peek 1 0 true false false ∷ answers.Clock 1 ∷ []) ∷ [])
+
+-- its record: the start was before the write
+abbrev pub started_record : RunRecord
+started_record = started_by (start modes.Rel 10 10)
+
+-- ---- a lane looks at a timer and then has nothing to expire, beside another lane that writes the clock and then starts the timer
+
+-- the script
+abbrev pub nothing_script : Script
+nothing_script = case_script 1 2 (hard_raw callbacks.Once ∷ [])
+    ((by 0 (calls.Clock (writes.Advance 10)) ∷ by 0 (case_start 0 modes.Abs 5 0) ∷ by 1 (calls.Peek 0) ∷ by 1 (hard_expire 0 4) ∷ []) ∷ [])
+
+-- what the look was answered, and all else
+abbrev pub nothing_by : Answer → RunRecord
+nothing_by looked = raw_record (advance_line 0 0 10 ∷ []) ((line 0 1 (case_start_entry modes.Abs 5 1 0 0 5 false) ∷ []) ∷ [])
+    ((answers.Clock 1 ∷ answers.Started 1 0 false ∷ []) ∷ (looked ∷ answers.Done 0 [] ∷ []) ∷ [])
+
+-- its record: the look was before the start
+abbrev pub nothing_record : RunRecord
+nothing_record = nothing_by (answers.Peek 0 0 false false false)
 
 -- ---- a POSIX timer is set, expires, and has its signal accepted, which arms it again; a second acceptance finds none
 

@@ -1,5 +1,6 @@
 -- Short words for scripts and records of few calls.
 use Rattle.std.specs.Prelude.{ℕ, ◌+◌, Bool, false, Some, List, [], ◌∷◌, map}
+use Rattle.clock_model.specs.declared.write.Write.TheVariants as writes
 use Rattle.ktime.specs.declared.clock_id.ClockId.TheVariants as clocks
 use Rattle.ktime.specs.declared.mode.Mode.{Mode}
 use Rattle.ktime.specs.declared.mode.Mode.TheVariants as modes
@@ -109,6 +110,10 @@ slack_entry ns slack = record {
 -- the claim that a lane's call made of a timer's first generation, by the first reading, and the finish
 abbrev pub claim_lines : ℕ → ℕ → List TimerLine
 claim_lines lane call = line lane call (claim_entry 0 0 1) ∷ line lane call (finish_entry false 1) ∷ []
+
+-- the clock's first write, which a lane's call made: it let so many nanoseconds pass
+abbrev pub advance_line : ℕ → ℕ → ℕ → ClockLine
+advance_line lane call ns = record { label = at lane call; write = writes.Advance ns; mono = ns; real = ns; boot = ns; changes = 0 }
 
 -- an entry of a base that a call of lane 0 made
 abbrev pub base_line : ℕ → BaseEvent → BaseLine

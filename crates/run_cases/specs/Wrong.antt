@@ -19,6 +19,7 @@ use Rattle.script_text.specs.declared.script.Callback.TheVariants as callbacks
 use Rattle.script_text.specs.declared.script.Kind.TheVariants as kinds
 use Rattle.script_text.specs.declared.script.Kind.{Kind}
 use Rattle.script_text.specs.declared.script.Script.{Script}
+use Rattle.run_cases.specs.Fitting.{awaited_by, nothing_by, started_by}
 use Rattle.run_cases.specs.Lines.{at, base_line, by, case_object_line, case_script, case_start, claim_lines, hard_expire, hard_raw, line, off_line_record, out_entry, case_start_entry, raw_record, case_record_in, case_script_in, slack_entry, slack_start, start, cancel_entry, claim_entry, finish_entry}
 
 -- two timers whose callbacks do nothing
@@ -67,6 +68,26 @@ due_script = case_script 1 2 two_timers ((by 0 (case_start 0 modes.Abs 0 0) ∷ 
 abbrev pub due_record : RunRecord
 due_record = raw_record [] ((line 0 0 (start modes.Abs 0 0) ∷ line 0 2 (cancel_entry 1) ∷ []) ∷ (line 0 1 (start modes.Abs 0 0) ∷ []) ∷ [])
     ((answers.Started 1 0 false ∷ answers.Started 1 0 false ∷ answers.Cancelled 1 ∷ []) ∷ (answers.Done 0 [] ∷ []) ∷ [])
+
+-- ---- a lane sees a function run and then makes the write that made its timer due: the script of an expiry run beside a look and a write, and the timer
+-- is claimed by that write
+
+-- a record that breaks it
+abbrev pub hasty_record : RunRecord
+hasty_record = awaited_by (answers.Peek 2 0 false true false)
+
+-- ---- a lane sees a timer started and then makes the write that the start went by: the script of a start beside a look and a write
+
+-- a record that breaks it
+abbrev pub foreseen_record : RunRecord
+foreseen_record = started_by (case_start_entry modes.Rel 10 1 0 0 30 false)
+
+-- ---- a lane sees a timer that was started behind a write, and is due by it, and then has nothing to expire, by the reading before the write: the script
+-- of a look and an expiry run beside a write and a start
+
+-- a record that breaks it
+abbrev pub stale_record : RunRecord
+stale_record = nothing_by (answers.Peek 1 0 true false false)
 
 -- ---- a settime of an armed POSIX timer starts it with no cancel before
 

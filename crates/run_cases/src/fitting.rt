@@ -28,6 +28,15 @@ pub fn a_cancel_beside_an_expiry()
     ensures idle { Fits fitting.beside_script fitting.late_record }
 {}
 
+/// A lane looks at a timer beside another lane. Then it writes the clock, and the other lane's run claims the timer by that write; it writes the clock behind
+/// the other lane's start; or it has nothing to expire yet, as the other lane writes the clock and starts the timer behind that.
+#[tactic(auto, using(crate::proofs::LooksAndWrites::awaited_fits, crate::proofs::LooksAndWrites::started_fits, crate::proofs::LooksAndWrites::nothing_fits))]
+pub fn a_look_and_a_write_beside_another_lane()
+    ensures claimed { Fits fitting.awaited_script fitting.awaited_record }
+    ensures started { Fits fitting.started_script fitting.started_record }
+    ensures nothing { Fits fitting.nothing_script fitting.nothing_record }
+{}
+
 /// A POSIX timer is set, expires, and has its signal accepted, which arms it again; a second acceptance finds none.
 #[tactic(auto, using(crate::proofs::FittingRecords::accepted_fits))]
 pub fn an_accepted_signal_arms_a_timer_again()
@@ -35,19 +44,19 @@ pub fn an_accepted_signal_arms_a_timer_again()
 {}
 
 /// A timer with slack expires when its soft expiry is reached and its hard one isn't.
-#[tactic(auto, using(crate::proofs::FittingRecords::early_fits))]
+#[tactic(auto, using(crate::proofs::VersionTwo::early_fits))]
 pub fn a_soft_expiry_is_enough()
     ensures { Fits fitting.early_script fitting.early_record }
 {}
 
 /// An expiry run ends with nothing left to do though a timer is due by its soft expiry, as the one with the earliest hard expiry isn't.
-#[tactic(auto, using(crate::proofs::FittingRecords::waiting_fits))]
+#[tactic(auto, using(crate::proofs::VersionTwo::waiting_fits))]
 pub fn a_due_timer_waits_behind_an_earlier_one()
     ensures { Fits fitting.waiting_script fitting.waiting_record }
 {}
 
 /// A hard and a soft expiry run on one base each fire the timer of their context.
-#[tactic(auto, using(crate::proofs::FittingRecords::contexts_fit))]
+#[tactic(auto, using(crate::proofs::VersionTwo::contexts_fit))]
 pub fn each_expiry_run_fires_its_own_timer()
     ensures { Fits fitting.contexts_script fitting.contexts_record }
 {}

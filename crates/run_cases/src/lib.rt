@@ -6,7 +6,8 @@ mod wrong;
 
 pub use fitting::{
     a_callback_is_told_that_it_runs, a_cancel_beside_an_expiry,
-    a_due_timer_waits_behind_an_earlier_one, a_soft_expiry_is_enough, a_start_goes_to_the_heir,
+    a_due_timer_waits_behind_an_earlier_one, a_look_and_a_write_beside_another_lane,
+    a_soft_expiry_is_enough, a_start_goes_to_the_heir,
     a_start_while_running_and_one_to_another_base, an_accepted_signal_arms_a_timer_again,
     an_expiry_and_an_idle_cancel, each_expiry_run_fires_its_own_timer,
 };
@@ -15,7 +16,8 @@ pub use wrong::{
     a_moved_timer_keeps_its_expiry, a_record_is_of_its_scripts_version, a_settime_cancels_first,
     an_expiry_run_is_done_at_one_moment, entries_of_objects_and_timers_dont_cross,
     equal_expiries_are_claimed_in_turn, no_claim_looks_past_the_first_timer,
-    no_hard_expiry_is_missed, no_start_ends_on_a_base_off_line,
-    no_timer_expires_before_its_soft_expiry, timers_are_moved_in_turn,
-    two_functions_never_run_at_once_on_a_base,
+    no_function_runs_before_the_write_that_makes_it_due, no_hard_expiry_is_missed,
+    no_run_is_done_by_an_old_reading, no_start_ends_on_a_base_off_line,
+    no_start_goes_by_a_later_write, no_timer_expires_before_its_soft_expiry,
+    timers_are_moved_in_turn, two_functions_never_run_at_once_on_a_base,
 };

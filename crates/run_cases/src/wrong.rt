@@ -21,6 +21,24 @@ pub fn an_expiry_run_is_done_at_one_moment()
     ensures { Fits wrong.due_script wrong.due_record → ⊥ }
 {}
 
+/// A function doesn't run before the write that makes its timer due: a lane doesn't see it run and then make that write.
+#[tactic(auto, using(crate::proofs::Readings::hasty_doesnt_fit))]
+pub fn no_function_runs_before_the_write_that_makes_it_due()
+    ensures { Fits fitting.awaited_script wrong.hasty_record → ⊥ }
+{}
+
+/// A start doesn't go by a later write: a lane doesn't see the timer started and then make that write.
+#[tactic(auto, using(crate::proofs::Readings::foreseen_doesnt_fit))]
+pub fn no_start_goes_by_a_later_write()
+    ensures { Fits fitting.started_script wrong.foreseen_record → ⊥ }
+{}
+
+/// An expiry run isn't done by the reading before a write, when its lane has seen a timer that was started behind the write, and is due by it.
+#[tactic(auto, using(crate::proofs::Readings::stale_doesnt_fit))]
+pub fn no_run_is_done_by_an_old_reading()
+    ensures { Fits fitting.nothing_script wrong.stale_record → ⊥ }
+{}
+
 /// A settime of an armed POSIX timer doesn't leave its cancel out.
 #[tactic(auto, using(crate::proofs::WrongRecords::uncancelled_doesnt_fit))]
 pub fn a_settime_cancels_first()
