@@ -95,9 +95,9 @@ fn turn<R: Wait>(
     ensures places { IfSome result (λ a. HasPlace pass.old.known pass.new.known clock_pass.new.knows a) }
 {
     let least = timers.counter(pass, CLOCK);
-    let now = read_from(rt, clock, clock_pass, least);
-    if let Err(fault) = Clock::at(now).write(write) {
-        timers.raise_counter(pass, CLOCK, least, now.stamp);
+    let reading = read_from(rt, clock, clock_pass, least);
+    if let Err(fault) = Clock::at(reading).write(write) {
+        timers.raise_counter(pass, CLOCK, least, reading.stamp);
         return Some(Err(fault));
     }
     if let Ok(after) = clock.write(rt, clock_pass, write) {

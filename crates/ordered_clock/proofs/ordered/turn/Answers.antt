@@ -7,33 +7,33 @@ use Rattle.ordered_clock.specs.Moments.{ReadsAt}
 use Rattle.ordered_clock.proofs.ordered.turn.Goals as goal
 
 pub at-requires-clause-counted : goal.at-requires-clause-counted
-at-requires-clause-counted g c = (shown_by _ _ c.read_from-now.ensures.reading c.read_from-now.ensures.known.legal).counted
+at-requires-clause-counted g c = (shown_by _ _ c.read_from-reading.ensures.reading c.read_from-reading.ensures.known.legal).counted
 
 pub at-requires-clause-changes : goal.at-requires-clause-changes
-at-requires-clause-changes g c = (shown_by _ _ c.read_from-now.ensures.reading c.read_from-now.ensures.known.legal).changes
+at-requires-clause-changes g c = (shown_by _ _ c.read_from-reading.ensures.reading c.read_from-reading.ensures.known.legal).changes
 
 pub returns-in-Err-clause-places : goal.returns-in-Err-clause-places
 returns-in-Err-clause-places g c = record {
   place = tt;
-  refused = subst (ReadsAt c.args.pass.now.known.seen c.raise_counter.new.pass.known.seen) c.read_from-now.ensures.count
+  refused = subst (ReadsAt c.args.pass.now.known.seen c.raise_counter.new.pass.known.seen) c.read_from-reading.ensures.count
       (read_at _ c.counter-least.ensures.looks.seen c.raise_counter.ensures.looks.seen
-      (omega (arith, c.counter-least.ensures.count, c.read_from-now.ensures.least))
-      (omega (arith, c.raise_counter.ensures.count, ap (λ r. r.stamp) c.now.view_is)));
-  told = omega (arith, c.raise_counter.ensures.count, ap (λ r. r.stamp) c.now.view_is, c.read_from-now.ensures.count);
+      (omega (arith, c.counter-least.ensures.count, c.read_from-reading.ensures.least))
+      (omega (arith, c.raise_counter.ensures.count, ap (λ r. r.stamp) c.reading.view_is)));
+  told = omega (arith, c.raise_counter.ensures.count, ap (λ r. r.stamp) c.reading.view_is, c.read_from-reading.ensures.count);
 }
 
 pub returns-in-Ok-clause-heard : goal.returns-in-Ok-clause-heard
 returns-in-Ok-clause-heard g c =
     let a = c.in-Ok.ensures.answers in
-    hears_again _ _ _ (inr c.read_from-now.ensures.heard) (a.ok.adds.seen.each 0) a.hears
+    hears_again _ _ _ (inr c.read_from-reading.ensures.heard) (a.ok.adds.seen.each 0) a.hears
 
 pub returns-in-Ok-clause-answers : goal.returns-in-Ok-clause-answers
 returns-in-Ok-clause-answers g c =
     let a = c.in-Ok.ensures.answers in
     record {
-      ok = takes_again _ _ _ c.args.write c.in-Ok.after c.read_from-now.ensures.looks a.ok;
+      ok = takes_again _ _ _ c.args.write c.in-Ok.after c.read_from-reading.ensures.looks a.ok;
       err = tt;
-      hears = hears_again _ _ _ (inr c.read_from-now.ensures.heard) (a.ok.adds.seen.each 0) a.hears;
+      hears = hears_again _ _ _ (inr c.read_from-reading.ensures.heard) (a.ok.adds.seen.each 0) a.hears;
       known = a.known;
     }
 
@@ -42,7 +42,7 @@ returns-in-Ok-clause-places g c =
     let a = c.in-Ok.ensures.answers in
     record {
       place = written_at c.in-Ok.after.stamp c.counter-least.ensures.looks.seen c.raise_counter-in-Ok.ensures.looks.seen
-          (omega (arith, c.counter-least.ensures.count, c.read_from-now.ensures.least, c.read_from-now.ensures.count, grown a.ok))
+          (omega (arith, c.counter-least.ensures.count, c.read_from-reading.ensures.least, c.read_from-reading.ensures.count, grown a.ok))
           (omega (arith, c.raise_counter-in-Ok.ensures.count, ap (λ r. r.stamp) c.after.view_is));
       refused = tt;
       told = omega (arith, c.raise_counter-in-Ok.ensures.count, ap (λ r. r.stamp) c.after.view_is, a.ok.count);
