@@ -1,5 +1,5 @@
 -- Of two timers on a base that goes off line, the one that expires later is not moved first.
-use Rattle.std.proofs.Common.{◌≡◌, ◌+◌, ℕ, zero, suc, List, [], ◌∷◌, ◌++◌, Option, None, Some, flat_map, length, arith, refl, sym, ap, ◌∙◌, subst}
+use Rattle.std.proofs.Common.{◌≡◌, ℕ, zero, suc, List, [], ◌∷◌, ◌++◌, Option, None, Some, flat_map, length, arith, refl, sym, ap, ◌∙◌, subst}
 use Rattle.std.specs.List.{AllByRecursion}
 use Rattle.seq_timer.specs.Systems.{after_entry, after_shift, changed, shifted}
 use Rattle.record_text.specs.declared.record.Label.{Label}
@@ -7,10 +7,9 @@ use Rattle.run_history.specs.Calls.{evacuates}
 use Rattle.run_history.specs.Fits.{Fits}
 use Rattle.run_history.specs.Traces.{all_entered}
 use Rattle.run_history.specs.Truths.{IsFront, WasFront}
-use Rattle.run_history.specs.Witnesses.{Evacuation, Move, OfBase, OfRise, OfTimer, Owner, Shown, TimersList, Trace, Witness, timer_along}
+use Rattle.run_history.specs.Witnesses.{Evacuation, Move, OfBase, OfRise, OfTimer, Shown, TimersList, Trace, Witness, timer_along}
 use Rattle.fit_laws.proofs.EachTimer.{heads}
-use Rattle.run_cases.specs.Lines.{case_start_entry, out_entry}
-use Rattle.run_cases.specs.Wrong.{later_move, turns_record, turns_script}
+use Rattle.run_cases.specs.Wrong.{turns_record, turns_script}
 use Rattle.run_cases.proofs.Orders.{in_one_order_of, witness_with}
 use Rattle.run_cases.proofs.Witnesses.{moves_by}
 
