@@ -206,12 +206,14 @@ module _ {s : Script} {IsSo : List ClockLine → Type 0} {label : Label} where
       all_done k (e ∷ es) = (tt, all_done (k + 1) es)
 
   -- law: one entry of a timer, by its receipt
-  pub part_entry : {v : KnownOfTimers} {p : ObjectsPass} {w : KnownOfTimers} (t number : ℕ) (entry : Entry) (one : EntersOne s IsSo v w (number, OfTimer t entry))
+  pub part_entry : {v : KnownOfTimers} {p : ObjectsPass} {w : KnownOfTimers} (t number : ℕ) (entry : Entry)
+      (one : EntersOne s IsSo v w (number, OfTimer t entry))
       → IsPart s IsSo label v p w p (Entered t number entry ∷ []) (one.0 ∷ []) (one_noted label (Entered t number entry))
   part_entry t number entry one = timers_only one.1 (ap (λ (x : ℕ × Shown). x ∷ []) one.2) refl refl (tt, tt) (λ i. (refl, refl, refl))
 
   -- law: one of a base
-  pub part_shift : {v : KnownOfTimers} {p : ObjectsPass} {w : KnownOfTimers} (b number : ℕ) (event : BaseEvent) (one : EntersOne s IsSo v w (number, OfBase b event))
+  pub part_shift : {v : KnownOfTimers} {p : ObjectsPass} {w : KnownOfTimers} (b number : ℕ) (event : BaseEvent)
+      (one : EntersOne s IsSo v w (number, OfBase b event))
       → IsPart s IsSo label v p w p (Shifted b number event ∷ []) (one.0 ∷ []) (one_noted label (Shifted b number event))
   part_shift b number event one = timers_only one.1 (ap (λ (x : ℕ × Shown). x ∷ []) one.2) refl refl (tt, tt) (λ i. (refl, refl, refl))
 

@@ -9,8 +9,6 @@ use Rattle.seq_timer.specs.declared.event.Reply.TheVariants as replies
 use Rattle.record_text.specs.declared.record.Label.{Label}
 use Rattle.run_history.specs.Actions.{Action, Entered, Wrote}
 use Rattle.run_history.specs.Starts.{Arming, arming_actions, IsArming, was_armed_before}
-use Rattle.record_text.specs.declared.record.RunRecord.{RunRecord}
-use Rattle.script_text.specs.declared.script.Script.{Script}
 use Rattle.script_text.specs.declared.script.StartRequest.{StartRequest}
 use Rattle.script_text.specs.declared.script.Call.TheVariants as calls
 use Rattle.script_text.specs.declared.script.Call.{Call}
