@@ -1,6 +1,9 @@
-//! Tests of `posix_timer`: a POSIX timer's calls, and the greatest overrun.
+//! Tests of `posix_timer`: a POSIX timer's calls, a worked history, and the greatest overrun.
 ghost use Rattle.std.specs.Prelude.{◌≡◌, Some};
+ghost use Rattle.ktime.specs.declared.clock_id.ClockId.TheVariants as clocks;
+ghost use Rattle.posix_timer.specs.Histories.{IsPosixHistory};
 ghost use Rattle.posix_timer.specs.Steps.{overrun_of};
+ghost use Rattle.timer_uses.specs.PosixEntries.{stale_and_cleared};
 
 use super::{assert_equal, ns, wanted};
 use ktime::{ClockId, Mode, Reading};
@@ -44,4 +47,10 @@ fn periods_that_passed_before_the_acceptance_are_overruns(rt: HostRuntime) {
 /// DELAYTIMER_MAX is answered where more periods have passed.
 fn the_overrun_stops_at_its_greatest_value()
     ensures { overrun_of (Some 4294967297) ≡ 2147483647 }
+{}
+
+/// Only the armed expiry counts, in its time, and a settime clears it.
+#[tactic(auto, unfolding(ktime::specs::Times::passed))]
+fn stale_expiries_are_not_counted()
+    ensures { IsPosixHistory clocks.Monotonic 0 100 stale_and_cleared }
 {}

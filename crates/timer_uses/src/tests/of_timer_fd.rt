@@ -1,4 +1,8 @@
-//! Tests of `timer_fd`: a descriptor's calls.
+//! Tests of `timer_fd`: a descriptor's calls, and a worked history.
+ghost use Rattle.ktime.specs.declared.clock_id.ClockId.TheVariants as clocks;
+ghost use Rattle.timer_fd.specs.Histories.{IsFdHistory};
+ghost use Rattle.timer_uses.specs.FdEntries.{stale_and_counted};
+
 use super::{assert_equal, ns, wanted};
 use ktime::{ClockId, Mode, Reading};
 use timer_fd::{
@@ -38,3 +42,9 @@ fn periods_that_passed_are_counted_and_read_once(rt: HostRuntime) {
     few_entries();
     one_more_entry();
 }
+
+/// Only the armed expiry counts, in its time, and what was counted is read.
+#[tactic(auto, unfolding(ktime::specs::Times::passed))]
+fn stale_expiries_are_not_counted()
+    ensures { IsFdHistory clocks.Boottime 0 100 stale_and_counted }
+{}
