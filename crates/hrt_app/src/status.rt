@@ -47,28 +47,3 @@ impl Status {
         }
     }
 }
-
-#[cfg(test)]
-mod tests {
-    use super::*;
-
-    #[test]
-    fn each_status_has_its_number_and_its_line(rt: HostRuntime) {
-        let cases = [
-            (Status::Ok, 0, None),
-            (
-                Status::Usage,
-                2,
-                Some("usage: hrt run | hrt gen --seed N --lanes N --calls N"),
-            ),
-            (Status::Refused, 3, None),
-            (Status::ReadFault, 4, Some("hrt: read fault")),
-            (Status::WriteFault, 5, Some("hrt: write fault")),
-            (Status::OutOfMemory, 6, Some("hrt: out of memory")),
-        ];
-        for (status, code, message) in cases {
-            assert_eq!(rt; status.code(), code);
-            assert_eq!(rt; status.message(), message);
-        }
-    }
-}

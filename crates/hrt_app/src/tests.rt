@@ -1,16 +1,14 @@
-//! Whole runs over streams in memory: a record from a source of single bytes, and the points of the gate that a run passes.
+//! Whole runs over streams in memory: the points of the gate that a run passes.
 mod ends;
 mod generated;
 mod lanes;
-mod limits;
 mod many_lanes;
 mod refusals;
 mod streams;
 
-use crate::memory::{BytesSink, BytesSource};
 use crate::status::Status;
-use crate::top::{on_bytes, top};
-use lane_run::{Gate, OpenGate, Point};
+use crate::top::on_bytes;
+use lane_run::{Gate, Point};
 use std::alloc::{AllocError, Global};
 use std::sync::Mutex;
 use std::test::Fail;
@@ -50,56 +48,6 @@ const ONE_SHOT_RECORD: &[u8] = b"record 1\n\
     call 0 3 idle 3\n\
     call 0 4 peek 3 0 0 0 0\n\
     end\n";
-
-#[test]
-fn a_timer_that_expires_runs_its_callback_once(rt: HostRuntime) -> Result<(), Fail> {
-    let words = run_words(rt.alloc())?;
-    for most in [1, 4096] {
-        let mut source = BytesSource::new(ONE_SHOT, most, &[]);
-        let mut sink = BytesSink::new(rt.alloc(), 4096, &[]);
-        let status = top(&rt, &words, &mut source, &mut sink, &OpenGate);
-        assert_eq!(rt; status, Status::Ok);
-        assert_eq!(rt; sink.kept.bytes(), Some(ONE_SHOT_RECORD));
-    }
-    Ok(())
-}
-
-const BOTH_CONTEXTS: &[u8] = b"hrt 2\n\
-    bases 1\n\
-    lanes 1\n\
-    limit 100\n\
-    raw 0 monotonic once\n\
-    soft 1 monotonic once\n\
-    round\n\
-    0 startrange 0 abs 2 5 0\n\
-    0 start 1 rel 0 0\n\
-    0 advance 2\n\
-    0 expire 0 4\n\
-    0 softexpire 0 4\n";
-
-const BOTH_CONTEXTS_RECORD: &[u8] = b"record 2\n\
-    clock 1 0 2 advance 2 2 2 2 0\n\
-    timer 0 1 0 0 start abs 2 5 0 0 0 monotonic 2 7 0\n\
-    timer 0 2 0 3 claim 0 1 1\n\
-    timer 0 3 0 3 finish stop 1 none\n\
-    timer 1 1 0 1 start rel 0 0 0 0 0 monotonic 0 0 0\n\
-    timer 1 2 0 4 claim 0 1 1\n\
-    timer 1 3 0 4 finish stop 1 none\n\
-    call 0 0 started 1 0 0\n\
-    call 0 1 started 1 0 0\n\
-    call 0 2 clock 1\n\
-    call 0 3 done 1 1 0\n\
-    call 0 4 done 1 1 1\n\
-    end\n";
-
-#[test]
-fn an_expiry_run_takes_the_timers_of_its_context(rt: HostRuntime) -> Result<(), Fail> {
-    let words = run_words(rt.alloc())?;
-    let (status, sink) = on_bytes(&rt, &words, BOTH_CONTEXTS, &OpenGate);
-    assert_eq!(rt; status, Status::Ok);
-    assert_eq!(rt; sink.kept.bytes(), Some(BOTH_CONTEXTS_RECORD));
-    Ok(())
-}
 
 // A gate that notes each point that is passed: its lane, its call and which it is.
 #[derive(Drop)]

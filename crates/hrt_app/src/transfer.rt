@@ -69,20 +69,6 @@ mod tests {
     use std::test::Fail;
 
     #[test]
-    fn all_bytes_are_moved_a_few_at_a_time(rt: HostRuntime) -> Result<(), Fail> {
-        let mut source = BytesSource::new(b"abcdefg", 3, &[]);
-        let bytes = match read_all(rt.alloc(), &mut source) {
-            Ok(bytes) => bytes,
-            Err(_) => Vec::new(rt.alloc()),
-        };
-        assert_eq!(rt; bytes.as_slice(), b"abcdefg".as_slice());
-        let mut sink = BytesSink::new(rt.alloc(), 3, &[]);
-        assert_eq!(rt; write_all(&mut sink, &bytes), Ok(()));
-        assert_eq!(rt; sink.kept.bytes(), Some(b"abcdefg".as_slice()));
-        Ok(())
-    }
-
-    #[test]
     fn as_many_bytes_as_a_script_may_have_are_moved(rt: HostRuntime) -> Result<(), Fail> {
         let mut given = Vec::new(rt.alloc());
         for place in 0..MOST_BYTES {

@@ -34,29 +34,13 @@ fn ns(nsec: u64) -> TimeSpec
 fn a_signal_ends_a_sleep(rt: HostRuntime) -> Result<(), AllocError> {
     let mut core = Core::<ListQueue>::make_full(rt.alloc(), 1, &[MONOTONIC], 100)?;
     let mut sleeper = SleeperState::make(ClockId::Monotonic, 0, 100);
+    let now = Reading::at(30);
     let begun = begin_sleep(&mut core, &mut sleeper, 0, 0, ns(100), Reading::at(0));
     assert_equal(&rt, begun, SleepAnswer::Asleep);
-    let ended = end_sleep(&mut core, &mut sleeper, 0, Reading::at(30));
+    let ended = end_sleep(&mut core, &mut sleeper, 0, now);
     assert_equal(&rt, ended, Some(InterruptAnswer::Left { ns: 70 }));
-    let begun = begin_sleep(
-        &mut core,
-        &mut sleeper,
-        0,
-        TIMER_ABSTIME,
-        ns(100),
-        Reading::at(30),
-    );
-    assert_equal(&rt, begun, SleepAnswer::Asleep);
-    let ended = end_sleep(&mut core, &mut sleeper, 0, Reading::at(30));
-    assert_equal(&rt, ended, Some(InterruptAnswer::Interrupted));
-    let begun = begin_sleep(
-        &mut core,
-        &mut sleeper,
-        0,
-        TIMER_ABSTIME,
-        ns(30),
-        Reading::at(30),
-    );
+    let until = TIMER_ABSTIME;
+    let begun = begin_sleep(&mut core, &mut sleeper, 0, until, ns(30), now);
     assert_equal(&rt, begun, SleepAnswer::Slept);
     let none = core.claim_next(0, Reading::at(200));
     assert_equal(&rt, none, ClaimAnswer::NoneDue);
@@ -73,9 +57,6 @@ fn a_sleep_lasts_until_its_time(rt: HostRuntime) -> Result<(), AllocError> {
     let woken = expire_sleep(&mut core, &mut sleeper, 0, 0, Reading::at(10));
     assert!(rt; woken);
     assert_equal(&rt, sleeper.slept(), SleptAnswer::Slept);
-    assert_equal(&rt, sleeper.timer().stamp, 2);
-    let ended = end_sleep(&mut core, &mut sleeper, 0, Reading::at(10));
-    assert_equal(&rt, ended, Some(InterruptAnswer::Slept));
     Ok(())
 }
 
@@ -83,12 +64,12 @@ fn a_sleep_lasts_until_its_time(rt: HostRuntime) -> Result<(), AllocError> {
 fn a_sleep_is_not_ended_while_its_function_runs(rt: HostRuntime) -> Result<(), AllocError> {
     let mut core = Core::<ListQueue>::make_full(rt.alloc(), 1, &[MONOTONIC], 100)?;
     let mut sleeper = SleeperState::make(ClockId::Monotonic, 0, 100);
+    let now = Reading::at(10);
     begin_sleep(&mut core, &mut sleeper, 0, 0, ns(10), Reading::at(0));
-    core.claim_next(0, Reading::at(10));
-    let running = end_sleep(&mut core, &mut sleeper, 0, Reading::at(10));
-    assert_equal(&rt, running, None);
-    assert!(rt; wake(&mut sleeper, 1, Reading::at(10)));
-    let ended = end_sleep(&mut core, &mut sleeper, 0, Reading::at(10));
+    core.claim_next(0, now);
+    assert_equal(&rt, end_sleep(&mut core, &mut sleeper, 0, now), None);
+    assert!(rt; wake(&mut sleeper, 1, now));
+    let ended = end_sleep(&mut core, &mut sleeper, 0, now);
     assert_equal(&rt, ended, Some(InterruptAnswer::Slept));
     Ok(())
 }

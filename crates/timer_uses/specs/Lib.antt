@@ -1,0 +1,3 @@
+pub mod FdEntries
+pub mod Moments
+pub mod PosixEntries

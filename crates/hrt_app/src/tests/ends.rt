@@ -50,21 +50,10 @@ pub fn first_other<R: Threads + Wait + Sync + AllocGlobal>(
 }
 
 /// Runs over a script of 126 bytes whose record has 260, and over bytes that are refused.
-const STREAMS: [Case<'_>; 8] = [
+const STREAMS: [Case<'_>; 6] = [
     Case {
         bytes: ONE_SHOT,
         reads: (4096, &[2]),
-        writes: (4096, &[]),
-        end: End {
-            status: Status::ReadFault,
-            source: (2, 1),
-            sink: (0, 0),
-        },
-        taken: b"",
-    },
-    Case {
-        bytes: ONE_SHOT,
-        reads: (1, &[2]),
         writes: (4096, &[]),
         end: End {
             status: Status::ReadFault,
@@ -105,17 +94,6 @@ const STREAMS: [Case<'_>; 8] = [
             sink: (3, 1),
         },
         taken: b"record 1\nc",
-    },
-    Case {
-        bytes: ONE_SHOT,
-        reads: (4096, &[]),
-        writes: (4096, &[1]),
-        end: End {
-            status: Status::WriteFault,
-            source: (2, 0),
-            sink: (1, 1),
-        },
-        taken: b"",
     },
     Case {
         bytes: b"hrt 3\n",

@@ -56,13 +56,9 @@ const NO_CALLS: &[u8] = b"summary 1\n\
 
 #[test]
 fn a_script_that_is_made_is_summed_up(rt: HostRuntime) -> Result<(), Fail> {
-    let cases: [(&[&str], &[u8]); 4] = [
+    let cases: [(&[&str], &[u8]); 3] = [
         (
             &["hrt", "gen", "--seed", "1", "--lanes", "1", "--calls", "3"],
-            THREE_CALLS,
-        ),
-        (
-            &["hrt", "gen", "--calls", "3", "--lanes=1", "--seed", "1"],
             THREE_CALLS,
         ),
         (
@@ -79,23 +75,6 @@ fn a_script_that_is_made_is_summed_up(rt: HostRuntime) -> Result<(), Fail> {
         let status = outcome(&rt, words, &mut sink)?;
         assert_eq!(rt; status, Status::Ok);
         assert_eq!(rt; sink.kept.bytes(), Some(text));
-    }
-    Ok(())
-}
-
-#[test]
-fn words_without_a_number_touch_neither_stream(rt: HostRuntime) -> Result<(), Fail> {
-    let cases: [&[&str]; 4] = [
-        &["hrt"],
-        &["hrt", "gen", "--seed", "1"],
-        &["hrt", "gen", "--seed", "1", "--lanes", "9", "--calls", "1"],
-        &["hrt", "run", "--seed", "1", "--lanes", "1", "--calls", "1"],
-    ];
-    for words in cases {
-        let mut sink = BytesSink::new(rt.alloc(), 4096, &[]);
-        let status = outcome(&rt, words, &mut sink)?;
-        assert_eq!(rt; status, Status::Usage);
-        assert_eq!(rt; sink.plan.calls, 0);
     }
     Ok(())
 }

@@ -103,21 +103,6 @@ const CANCEL_AND_EXPIRE: &[u8] = b"hrt 1\n\
     0 cancel 0\n\
     1 expire 0 4\n";
 
-const CANCELLED: &[u8] = b"record 1\n\
-    timer 0 1 0 0 start rel 0 0 0 0 monotonic 0 0\n\
-    timer 0 2 0 1 cancel 1\n\
-    call 0 0 started 1 0 0\n\
-    call 0 1 cancelled 1\n\
-    call 1 0 done 0 0\n\
-    end\n";
-
-#[test]
-fn a_cancel_before_the_expiry_cancels_the_timer(rt: HostRuntime) -> Result<(), Fail> {
-    let order = [(0, 1, Point::After), (1, 0, Point::Call)];
-    assert!(rt; gives(&rt, CANCEL_AND_EXPIRE, &order, &[CANCELLED])?);
-    Ok(())
-}
-
 /// The record of an expiry whose function ran, around what the cancel was told.
 const EXPIRED: &[u8] = b"record 1\n\
     timer 0 1 0 0 start rel 0 0 0 0 monotonic 0 0\n\
@@ -137,14 +122,6 @@ fn lanes_run_beside(rt: HostRuntime) -> Result<(), Fail> {
         (1, 0, Point::Callback),
     ];
     let record = [EXPIRED, b"call 0 1 running 1 2\n", EXPIRED_END];
-    assert!(rt; gives(&rt, CANCEL_AND_EXPIRE, &order, &record)?);
-    Ok(())
-}
-
-#[test]
-fn a_cancel_after_the_expiry_finds_the_timer_idle(rt: HostRuntime) -> Result<(), Fail> {
-    let order = [(1, 0, Point::After), (0, 1, Point::Call)];
-    let record = [EXPIRED, b"call 0 1 idle 3\n", EXPIRED_END];
     assert!(rt; gives(&rt, CANCEL_AND_EXPIRE, &order, &record)?);
     Ok(())
 }
@@ -311,44 +288,5 @@ fn a_callback_is_held_before_its_work(rt: HostRuntime) -> Result<(), Fail> {
         (0, 2, Point::Call),
     ];
     assert!(rt; gives(&rt, LOOK_AND_EXPIRE, &order, &[LOOK_AND_EXPIRE_RECORD])?);
-    Ok(())
-}
-
-/// Lane 0 takes a base off line, while lane 1 starts a timer there.
-const OFF_LINE_AND_START: &[u8] = b"hrt 2\n\
-    bases 2\n\
-    lanes 2\n\
-    limit 100\n\
-    raw 0 monotonic once\n\
-    round\n\
-    0 offline 1 0 4\n\
-    1 start 0 abs 100 1\n";
-
-#[test]
-fn a_start_on_a_base_that_went_off_line_goes_to_the_heir(rt: HostRuntime) -> Result<(), Fail> {
-    let order = [(0, 0, Point::After), (1, 0, Point::Call)];
-    let record: &[u8] = b"record 2\n\
-        base 1 1 0 0 offline 0\n\
-        timer 0 1 1 0 start abs 100 0 0 0 0 monotonic 100 100 0\n\
-        call 0 0 off 0 1\n\
-        call 1 0 started 1 0 0\n\
-        end\n";
-    assert!(rt; gives(&rt, OFF_LINE_AND_START, &order, &[record])?);
-    Ok(())
-}
-
-#[test]
-fn a_timer_of_a_base_that_goes_off_line_is_moved_to_the_heir(rt: HostRuntime) -> Result<(), Fail> {
-    let order = [(1, 0, Point::After), (0, 0, Point::Call)];
-    let record: &[u8] = b"record 2\n\
-        base 1 1 0 0 offline 0\n\
-        timer 0 1 1 0 out 1 0\n\
-        timer 0 2 1 0 start abs 100 0 0 1 1 monotonic 100 100 0\n\
-        timer 0 3 0 0 out 0 1\n\
-        timer 0 4 0 0 start keep 100 0 0 0 0 monotonic 100 100 0\n\
-        call 0 0 off 1 1\n\
-        call 1 0 started 2 1 0\n\
-        end\n";
-    assert!(rt; gives(&rt, OFF_LINE_AND_START, &order, &[record])?);
     Ok(())
 }

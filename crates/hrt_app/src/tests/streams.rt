@@ -1,12 +1,11 @@
-//! Streams that give or take little: each call that may fail, one byte a call, a read of nothing before the end, and a last line without
-//! its newline.
+//! Streams that give or take little: each call that may fail, one byte a call, and a read of nothing before the end.
 ghost use Rattle.std.specs.Prelude.{None};
 
 use super::{ONE_SHOT, ONE_SHOT_RECORD, run_words};
 use crate::memory::{BytesSink, BytesSource};
 use crate::status::Status;
 use crate::stream::{Failed, Source};
-use crate::top::{on_bytes, top};
+use crate::top::top;
 use lane_run::OpenGate;
 use std::test::Fail;
 
@@ -42,16 +41,6 @@ fn whichever_read_fails_nothing_is_written(rt: HostRuntime) -> Result<(), Fail> 
         assert_eq!(rt; (source.plan.calls, source.plan.faults), (failing[0], 1));
         assert_eq!(rt; (sink.plan.calls, sink.plan.faults), (0, 0));
     }
-    Ok(())
-}
-
-#[test]
-fn a_last_line_needs_no_newline(rt: HostRuntime) -> Result<(), Fail> {
-    let words = run_words(rt.alloc())?;
-    let script = ONE_SHOT.strip_suffix(b"\n".as_slice()).unwrap_or(b"");
-    let (status, sink) = on_bytes(&rt, &words, script, &OpenGate);
-    assert_eq!(rt; status, Status::Ok);
-    assert_eq!(rt; sink.kept.bytes(), Some(ONE_SHOT_RECORD));
     Ok(())
 }
 

@@ -1,8 +1,4 @@
-//! Scripts that are read, refused and generated, and the summaries of records.
+//! Scripts that are read, refused and generated.
 
 mod generating;
-mod lines;
-mod off_line;
 mod reading;
-mod summing;
-mod versions;

@@ -1,6 +1,5 @@
-//! Scripts that are generated, and that they are read.
-use script_text::{Round, generate, parse};
-use std::process::Abort;
+//! Scripts that are generated.
+use script_text::generate;
 
 const ONE_LANE: &str = "hrt 1\nbases 1\nlanes 1\nlimit 1000000\n\
     raw 0 monotonic every 100\nraw 1 monotonic once\nround\n0 advance 50\nround\n\
@@ -16,28 +15,4 @@ fn writes_the_bytes_of_a_script(rt: HostRuntime) {
     assert_eq!(rt; one.as_slice(), ONE_LANE.as_bytes());
     let none = generate(rt.alloc(), 1, 2, 0).expect(&rt, "memory");
     assert_eq!(rt; none.as_slice(), NO_CALLS.as_bytes());
-}
-
-#[test]
-fn writes_the_largest_script(rt: HostRuntime) {
-    let bytes = generate(rt.alloc(), 7, 8, 4096).expect(&rt, "memory");
-    let Ok(script) = parse(rt.alloc(), &bytes) else {
-        panic!(rt; "refused");
-    };
-    assert_eq!(rt; (script.bases, script.lanes, script.limit), (8, 8, 1000000));
-    assert_eq!(rt; script.timers.as_slice().len(), 16);
-    has_turns(&rt, script.rounds.as_slice());
-}
-
-/// Compares how many calls each of the rounds has.
-fn has_turns(rt: &impl Abort, rounds: &[Round]) {
-    assert_eq!(rt; rounds.len(), 2050);
-    for (i, round) in rounds.iter().enumerate() {
-        let calls = match i {
-            2049 => 8,
-            _ if i % 2 == 0 => 1,
-            _ => 32,
-        };
-        assert_eq!(rt; round.calls.as_slice().len(), calls, "{i}");
-    }
 }

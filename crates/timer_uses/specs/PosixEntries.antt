@@ -1,0 +1,46 @@
+-- A worked history of a POSIX timer (POSIX.1-2017, timer_settime).
+use Rattle.std.specs.Prelude.{ℕ, List, [], ◌∷◌}
+use Rattle.timer_setting.specs.declared.arming.Arm.{Arm}
+use Rattle.timer_setting.specs.declared.arming.Arm.TheVariants as arms
+use Rattle.timer_setting.specs.declared.trigger_answer.TriggerAnswer.{TriggerAnswer}
+use Rattle.timer_setting.specs.declared.trigger_answer.TriggerAnswer.TheVariants as triggers
+use Rattle.timer_setting.specs.StepTables.{AnsweredCall}
+use Rattle.posix_timer.specs.declared.answers.AcceptAnswer.{AcceptAnswer}
+use Rattle.posix_timer.specs.declared.answers.AcceptAnswer.TheVariants as acceptances
+use Rattle.posix_timer.specs.declared.answers.SettimeAnswer.TheVariants as settings
+use Rattle.posix_timer.specs.declared.calls.Call.{Call}
+use Rattle.posix_timer.specs.declared.calls.Call.TheVariants as calls
+use Rattle.posix_timer.specs.declared.calls.Reply.{Reply}
+use Rattle.posix_timer.specs.declared.calls.Reply.TheVariants as replies
+use Rattle.timer_uses.specs.Moments.{at}
+
+-- a settime for a time of the clock, with an interval of 10, that answers so much time left and this interval
+abbrev pub set : ℕ → ℕ → Arm → ℕ → ℕ → AnsweredCall Call Reply
+set value now arm left interval = record {
+  call = calls.Settime (record { flags = 1; value = value; interval = 10; reading = at now; arm = arm });
+  reply = replies.Settime (settings.Old left interval);
+}
+
+-- the timer's function ran for this generation
+abbrev pub trigger : ℕ → ℕ → TriggerAnswer → AnsweredCall Call Reply
+trigger generation now answer = record { call = calls.Trigger generation (at now); reply = replies.Trigger answer }
+
+-- an acceptance of the signal
+abbrev pub accept : ℕ → Arm → AcceptAnswer → AnsweredCall Call Reply
+accept now arm answer = record { call = calls.Accept (at now) arm; reply = replies.Accept answer }
+
+-- an expiry is stale of an earlier generation and before its time, and counts of a later generation; the value 0 disarms and clears the signal; a timer
+-- that can't be armed anew has no further periods
+abbrev pub stale_and_cleared : List (AnsweredCall Call Reply)
+stale_and_cleared =
+    set 100 0 (arms.Armed 2) 0 0
+    ∷ trigger 1 100 triggers.Stale
+    ∷ trigger 2 99 triggers.Stale
+    ∷ trigger 3 130 triggers.Counted
+    ∷ set 0 150 arms.NotAsked 10 10
+    ∷ accept 150 arms.NotAsked acceptances.NoSignal
+    ∷ set 200 150 (arms.Armed 6) 0 0
+    ∷ trigger 6 200 triggers.Counted
+    ∷ accept 215 (arms.Unarmed 9) (acceptances.Accepted 1)
+    ∷ trigger 6 230 triggers.Stale
+    ∷ []
