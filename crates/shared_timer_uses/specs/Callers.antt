@@ -16,7 +16,11 @@ use Rattle.seq_timer.specs.declared.context.Context.TheVariants as contexts
 use Rattle.base_row.specs.declared.view.Opening.{Opening}
 use Rattle.base_row.specs.Calls as rows
 use Rattle.hr_timers.specs.Known.{IsPassOf, KnownOfTimers, PassOf, timer_then}
-use Rattle.hr_timers.specs.Calls.{HasNoneDue}
+use Rattle.hr_timers.specs.Calls.{HasNoneDue, StartsTimer}
+use Rattle.hr_timers.specs.declared.answer.StartAnswer.{StartAnswer}
+use Rattle.ktime.specs.declared.mode.Mode.TheVariants as modes
+use Rattle.ordered_clock.specs.Moments.{ReadsAt}
+use Rattle.seq_timer.specs.Calls.{asked_for}
 use Rattle.base_row.specs.declared.log.Noted.TheVariants as noteds
 use Rattle.base_row.specs.declared.log.Receipt.{Receipt}
 use Rattle.expire_pass.specs.Handlers.{KeepsPass}
@@ -33,6 +37,13 @@ known_timer o k t = timer_then o k.seen t
 abbrev pub HasNothingToRun : Opening → KnownOfTimers → ℕ → ClockReading → Type 0
 HasNothingToRun o k base reading = HasNoneDue o k.seen contexts.Hard base reading
     ⊎ ((t : ℕ) × (g : ℕ) × (running_on base (in_context contexts.Hard (known_timer o k) t) ≡ Some g))
+
+-- the clock was read at a moment among the entries of timers, and behind that the timer was started by this reading, for so many nanoseconds later
+pub record StartsAfter (o : Opening) (v w : KnownOfTimers) (t ns base : ℕ) (a : StartAnswer) : Type 0 where
+  pub read : KnownOfTimers
+  pub reading : ClockReading
+  pub reads : ReadsAt v.seen read.seen reading.stamp
+  pub starts : StartsTimer o read w t (asked_for modes.Rel ns 0 base reading) a
 
 -- a thread may run the function of one timer on a base by its pass, and its log has room for the receipts
 pub record MayRunOne (timers : rows.BaseRowOf) (pass : PassOf) (log : LogOf Receipt) (base : ℕ) : Type 0 where

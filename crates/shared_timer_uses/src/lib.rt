@@ -3,12 +3,14 @@
 
 pub use cancelling::{Stopped, stop_and_wait, stop_now};
 pub use once::{OneShot, expire_once, start_once};
+pub use ordered::start_after;
 pub use periodic::{Periodic, Tick, expire_periodic};
 pub use sink::Counted;
 pub use threads::{Counts, expire_and_stop, start_anew, start_by_two, start_counted, start_often};
 
 mod cancelling;
 mod once;
+mod ordered;
 mod periodic;
 mod sink;
 #[cfg(test)]

@@ -1,0 +1,171 @@
+//! Callers of `ordered_clock`, and of the counters under it, proved and run: one thread, and two.
+ghost use Rattle.std.specs.Prelude.{◌≡◌, ◌+◌, ◌<◌, ◌≤◌, IfOk, length, []};
+ghost use Rattle.clock_cell.specs.Views.{IsPassOfClock};
+ghost use Rattle.hr_timers.specs.Known.{IsPassOf};
+ghost use Rattle.ordered_clock.specs.Moments.{clock_counter};
+ghost use Rattle.pass_names.specs.Names.{IsLast, first_pass_id};
+
+use super::{HARD, assert_equal};
+use crate::start_after;
+use clock_cell::{ClockPass, SharedClock};
+use clock_model::{ClockFault, Write};
+use hr_timers::{Pass, StartAnswer, Timers};
+use ordered_clock::{read, settle, write};
+use seq_timer::Terms;
+use std::alloc::{AllocError, Global};
+use std::sync::Wait;
+use std::test::Fail;
+use std::thread::{Threads, join_mut};
+
+/// One timer on one base, with two counters.
+fn counting_timers(alloc: Global) -> Result<(Timers, Pass), AllocError>
+    ensures pass { IfOk result (λ r. IsPassOf r.0 r.1 × IsLast r.1.known.id × (r.1.known.claims ≡ [])) }
+    ensures size { IfOk result (λ r. (length r.0.about.timers ≡ 1) × (r.0.about.bases ≡ 1) × (r.0.about.counters ≡ 2)) }
+{
+    let timers = vec![in alloc; HARD; 1]?;
+    Timers::make_counting(alloc, 1, &timers, Terms::limited(100), 2)
+}
+
+/// The same with a clock.
+fn timers_and_clock(alloc: Global) -> Result<(Timers, Pass, SharedClock, ClockPass), AllocError>
+    ensures pass { IfOk result (λ r. IsPassOf r.0 r.1 × IsLast r.1.known.id × (r.1.known.claims ≡ [])) }
+    ensures size { IfOk result (λ r. (length r.0.about.timers ≡ 1) × (r.0.about.bases ≡ 1) × (r.0.about.counters ≡ 2)) }
+    ensures clock { IfOk result (λ r. IsPassOfClock r.2 r.3 × (r.3.knows.pass.id ≡ first_pass_id)) }
+{
+    let (clock, clock_pass) = SharedClock::make(alloc)?;
+    match counting_timers(alloc) {
+        Ok((timers, pass)) => Ok((timers, pass, clock, clock_pass)),
+        Err(fault) => {
+            clock.close(clock_pass);
+            Err(fault)
+        }
+    }
+}
+
+/// Writes the clock so often, with a reading after each write, and answers how often a reading was older than the one before.
+fn write_often<R: Wait>(
+    rt: &R,
+    timers: &Timers,
+    pass: &mut Pass,
+    clock: &SharedClock,
+    clock_pass: &mut ClockPass,
+    times: u32,
+) -> u32
+    requires pass { IsPassOf timers.now pass.old }
+    requires counter { clock_counter < timers.now.about.counters }
+    requires clock { IsPassOfClock clock.now clock_pass.old }
+    ensures pass { IsPassOf timers.now pass.new }
+    ensures keeps { (pass.new.known.id ≡ pass.old.known.id) × (pass.new.known.claims ≡ pass.old.known.claims) }
+    ensures clock { IsPassOfClock clock.now clock_pass.new }
+    ensures id { clock_pass.new.knows.pass.id ≡ clock_pass.old.knows.pass.id }
+{
+    let mut older = 0u32;
+    let mut last = 0;
+    for _ in 0..times {
+        let _ = write(
+            rt,
+            timers,
+            pass,
+            clock,
+            clock_pass,
+            Write::Advance { by: 1 },
+        );
+        let now = read(rt, timers, pass, clock, clock_pass);
+        if now.stamp < last {
+            older = older.saturating_add(1);
+        }
+        last = now.stamp;
+    }
+    older
+}
+
+/// Two threads, each with passes of its own, write and read the clock.
+fn write_by_two<R: Threads + Wait + Sync>(
+    rt: &R,
+    timers: &Timers,
+    first: (&mut Pass, &mut ClockPass),
+    second: (&mut Pass, &mut ClockPass),
+    clock: &SharedClock,
+    times: u32,
+) -> (u32, u32)
+    requires counter { clock_counter < timers.now.about.counters }
+    requires first { IsPassOf timers.now first.0.old × IsPassOfClock clock.now first.1.old }
+    requires second { IsPassOf timers.now second.0.old × IsPassOfClock clock.now second.1.old }
+    ensures first { IsPassOf timers.now first.0.new × IsPassOfClock clock.now first.1.new }
+    ensures second { IsPassOf timers.now second.0.new × IsPassOfClock clock.now second.1.new }
+    ensures names { (first.0.new.known.id ≡ first.0.old.known.id) × (second.0.new.known.id ≡ second.0.old.known.id) }
+    ensures claims { (first.0.new.known.claims ≡ first.0.old.known.claims) × (second.0.new.known.claims ≡ second.0.old.known.claims) }
+    ensures ids { (first.1.new.knows.pass.id ≡ first.1.old.knows.pass.id) × (second.1.new.knows.pass.id ≡ second.1.old.knows.pass.id) }
+{
+    let (pass, clock_pass) = first;
+    let (other, other_clock) = second;
+    join_mut(
+        rt,
+        &mut || write_often(rt, timers, pass, clock, clock_pass, times),
+        &mut || write_often(rt, timers, other, clock, other_clock, times),
+    )
+}
+
+#[test]
+fn two_threads_write_and_read_the_clock_in_one_order(rt: HostRuntime) -> Result<(), Fail> {
+    let (timers, mut pass, clock, mut clock_pass) = timers_and_clock(rt.alloc())?;
+    let mut other = timers.split(&mut pass);
+    let mut other_clock = clock.split(&mut clock_pass);
+    let first = (&mut pass, &mut clock_pass);
+    let second = (&mut other, &mut other_clock);
+    let older = write_by_two(&rt, &timers, first, second, &clock, 200);
+    timers.retire(&mut pass, other);
+    clock.join(&mut clock_pass, other_clock);
+    let end = settle(&rt, &timers, &mut pass, &clock, &mut clock_pass);
+    let told = timers.counter(&mut pass, 0);
+    timers.close(pass);
+    clock.close(clock_pass);
+    assert_equal(&rt, older, (0, 0));
+    assert_equal(&rt, (end.stamp, end.mono, told), (400, 400, 400));
+    Ok(())
+}
+
+#[test]
+fn a_start_is_by_a_reading_with_its_place(rt: HostRuntime) -> Result<(), Fail> {
+    let (timers, mut pass, clock, mut clock_pass) = timers_and_clock(rt.alloc())?;
+    let by = Write::Advance { by: 30 };
+    let written = write(&rt, &timers, &mut pass, &clock, &mut clock_pass, by);
+    let started = start_after(&rt, &timers, &mut pass, &clock, &mut clock_pass, 0, 12, 0);
+    timers.close(pass);
+    clock.close(clock_pass);
+    assert_equal(&rt, written.map(|r| r.stamp), Ok(1));
+    let expires = match started {
+        StartAnswer::Started { placement, .. } => placement.expires,
+        StartAnswer::Spent { .. } => 0,
+    };
+    assert_equal(&rt, expires, 42);
+    Ok(())
+}
+
+#[test]
+fn a_write_that_the_clock_refuses_raises_nothing(rt: HostRuntime) -> Result<(), Fail> {
+    let (timers, mut pass, clock, mut clock_pass) = timers_and_clock(rt.alloc())?;
+    let by = Write::Advance { by: 1 << 63 };
+    let refused = write(&rt, &timers, &mut pass, &clock, &mut clock_pass, by);
+    let told = timers.counter(&mut pass, 0);
+    timers.close(pass);
+    clock.close(clock_pass);
+    let fault = ClockFault::ClockRange { would_be: 1 << 63 };
+    assert_equal(&rt, refused, Err(fault));
+    assert_equal(&rt, told, 0);
+    Ok(())
+}
+
+#[test]
+fn counters_rise_apart(rt: HostRuntime) -> Result<(), Fail> {
+    let (timers, mut pass) = counting_timers(rt.alloc())?;
+    timers.raise_counter(&mut pass, 0, 0, 5);
+    timers.raise_counter(&mut pass, 0, 0, 3);
+    let hit = timers.step_counter(&mut pass, 1, 0);
+    let missed = timers.step_counter(&mut pass, 1, 0);
+    let counts = (timers.counter(&mut pass, 0), timers.counter(&mut pass, 1));
+    timers.close(pass);
+    assert_equal(&rt, (hit, missed), (true, false));
+    assert_equal(&rt, counts, (5, 1));
+    Ok(())
+}
