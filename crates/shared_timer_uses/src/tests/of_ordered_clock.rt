@@ -17,6 +17,9 @@ use std::sync::Wait;
 use std::test::Fail;
 use std::thread::{Threads, join_mut};
 
+/// How often each thread writes.
+const TIMES: u32 = 200;
+
 /// One timer on one base, with two counters.
 fn counting_timers(alloc: Global) -> Result<(Timers, Pass), AllocError>
     ensures pass { IfOk result (λ r. IsPassOf r.0 r.1 × IsLast r.1.known.id × (r.1.known.claims ≡ [])) }
@@ -83,26 +86,25 @@ fn write_often<R: Wait>(
 fn write_by_two<R: Threads + Wait + Sync>(
     rt: &R,
     timers: &Timers,
-    first: (&mut Pass, &mut ClockPass),
-    second: (&mut Pass, &mut ClockPass),
+    pass: &mut Pass,
+    other: &mut Pass,
     clock: &SharedClock,
-    times: u32,
+    clock_pass: &mut ClockPass,
+    other_clock: &mut ClockPass,
 ) -> (u32, u32)
     requires counter { clock_counter < timers.now.about.counters }
-    requires first { IsPassOf timers.now first.0.old × IsPassOfClock clock.now first.1.old }
-    requires second { IsPassOf timers.now second.0.old × IsPassOfClock clock.now second.1.old }
-    ensures first { IsPassOf timers.now first.0.new × IsPassOfClock clock.now first.1.new }
-    ensures second { IsPassOf timers.now second.0.new × IsPassOfClock clock.now second.1.new }
-    ensures names { (first.0.new.known.id ≡ first.0.old.known.id) × (second.0.new.known.id ≡ second.0.old.known.id) }
-    ensures claims { (first.0.new.known.claims ≡ first.0.old.known.claims) × (second.0.new.known.claims ≡ second.0.old.known.claims) }
-    ensures ids { (first.1.new.knows.pass.id ≡ first.1.old.knows.pass.id) × (second.1.new.knows.pass.id ≡ second.1.old.knows.pass.id) }
+    requires pass { IsPassOf timers.now pass.old × IsPassOf timers.now other.old }
+    requires clock { IsPassOfClock clock.now clock_pass.old × IsPassOfClock clock.now other_clock.old }
+    ensures pass { IsPassOf timers.now pass.new × IsPassOf timers.now other.new }
+    ensures clock { IsPassOfClock clock.now clock_pass.new × IsPassOfClock clock.now other_clock.new }
+    ensures names { (pass.new.known.id ≡ pass.old.known.id) × (other.new.known.id ≡ other.old.known.id) }
+    ensures claims { (pass.new.known.claims ≡ pass.old.known.claims) × (other.new.known.claims ≡ other.old.known.claims) }
+    ensures ids { (clock_pass.new.knows.pass.id ≡ clock_pass.old.knows.pass.id) × (other_clock.new.knows.pass.id ≡ other_clock.old.knows.pass.id) }
 {
-    let (pass, clock_pass) = first;
-    let (other, other_clock) = second;
     join_mut(
         rt,
-        &mut || write_often(rt, timers, pass, clock, clock_pass, times),
-        &mut || write_often(rt, timers, other, clock, other_clock, times),
+        &mut || write_often(rt, timers, pass, clock, clock_pass, TIMES),
+        &mut || write_often(rt, timers, other, clock, other_clock, TIMES),
     )
 }
 
@@ -111,9 +113,15 @@ fn two_threads_write_and_read_the_clock_in_one_order(rt: HostRuntime) -> Result<
     let (timers, mut pass, clock, mut clock_pass) = timers_and_clock(rt.alloc())?;
     let mut other = timers.split(&mut pass);
     let mut other_clock = clock.split(&mut clock_pass);
-    let first = (&mut pass, &mut clock_pass);
-    let second = (&mut other, &mut other_clock);
-    let older = write_by_two(&rt, &timers, first, second, &clock, 200);
+    let older = write_by_two(
+        &rt,
+        &timers,
+        &mut pass,
+        &mut other,
+        &clock,
+        &mut clock_pass,
+        &mut other_clock,
+    );
     timers.retire(&mut pass, other);
     clock.join(&mut clock_pass, other_clock);
     let end = settle(&rt, &timers, &mut pass, &clock, &mut clock_pass);
