@@ -35,7 +35,7 @@ use Rattle.lane_world.specs.Called.{CalledThen, lane_caller, CallsOverrun, getti
 use Rattle.lane_world.proofs.Kept.{Follows, IsNextCall, KeepsCall}
 use Rattle.lane_world.proofs.SeenMore.{begins_same}
 use Rattle.lane_world.specs.Worlds.{WorldOf}
-use Rattle.call_laws.proofs.CallKept.{clock_left, clock_read, LooksAtClock}
+use Rattle.call_laws.proofs.CallKept.{clock_left, LooksAtClock}
 use Rattle.lane_world.proofs.PartLists.{no_notes-joins}
 use Rattle.lane_world.proofs.ObjectSeen.{object_after, object_seen}
 use Rattle.call_laws.proofs.Sights.{DoesNothing, IsToldSo, keeps_sight, LooksOnly, point_seen, notes_alone}

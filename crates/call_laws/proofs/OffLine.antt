@@ -58,7 +58,7 @@ use Rattle.run_history.proofs.OffLineMade.{evacuating, offline_made, online_made
 use Rattle.run_history.proofs.OthersMade.{plain}
 use Rattle.lane_world.specs.Called.{CallsOffline, CallsOnline, LaneOf, ReadsClock, offline_told, online_told, with_done, with_offline_told, with_online_told}
 use Rattle.lane_world.specs.Worlds.{WorldOf}
-use Rattle.call_laws.proofs.CallKept.{LooksAtClock, clock_left, clock_read, opened_timers, reading_goes_on}
+use Rattle.call_laws.proofs.CallKept.{LooksAtClock, clock_left, opened_timers, reading_goes_on}
 use Rattle.call_laws.proofs.Evacuated.{all_moved, armed_there, front_seen, front_wider}
 use Rattle.lane_world.proofs.Kept.{Follows, IsNextCall, KeepsCall}
 use Rattle.call_laws.proofs.PartKept.{keeps_part}

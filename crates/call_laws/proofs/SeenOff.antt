@@ -8,7 +8,6 @@ use Rattle.base_row.specs.declared.view.Opening.{Opening}
 use Rattle.hr_timers.specs.Ways as ways
 use Rattle.hr_timers.specs.Ways.{WasOff}
 use Rattle.pass_names.proofs.Passes.{begins_length}
-use Rattle.script_text.specs.Declarations.{declareds_of, terms_of}
 use Rattle.script_text.specs.declared.script.Script.{Script}
 use Rattle.run_history.specs.Promises.{GoesOn}
 use Rattle.run_history.specs.Runs.{witness_of, Ending, IsJoined}

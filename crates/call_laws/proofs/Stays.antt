@@ -10,7 +10,6 @@ use Rattle.seq_timer.specs.Steps.{Timer}
 use Rattle.seq_timer.specs.Systems.{System, system_after}
 use Rattle.seq_timer.specs.declared.observation.Observation.{Observation}
 use Rattle.seq_timer.specs.declared.system.SystemEntry.{SystemEntry}
-use Rattle.script_text.specs.Declarations.{declareds_of, terms_of}
 use Rattle.script_text.specs.declared.script.Script.{Script}
 use Rattle.run_history.specs.Promises.{GoesOn}
 use Rattle.run_history.specs.Runs.{Ending, IsJoined, witness_of}

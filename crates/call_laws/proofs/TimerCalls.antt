@@ -28,7 +28,7 @@ use Rattle.run_history.proofs.OthersMade.{cancelled_made, plain, started_made}
 use Rattle.lane_world.specs.Called.{asked_in, CallsCancel, CallsStart, cancel_told, LaneOf, start_told, with_done}
 use Rattle.lane_world.proofs.Kept.{IsNextCall, KeepsCall}
 use Rattle.lane_world.specs.Worlds.{WorldOf}
-use Rattle.call_laws.proofs.CallKept.{clock_left, clock_read, reading_goes_on}
+use Rattle.call_laws.proofs.CallKept.{clock_left, reading_goes_on}
 use Rattle.call_laws.proofs.Sights.{keeps_entered, keeps_sight, looks_at, notes_alone}
 use Rattle.call_laws.proofs.Stays.{saw_quiet, timer_quiet}
 use Rattle.seq_timer.specs.Steps.{Timer}

@@ -1,10 +1,8 @@
 -- A call with its reading: what a lane keeps of the call by itself, behind the reading, it keeps in its turn.
-use Rattle.std.proofs.Common.{◌≡◌, ◌≤◌, ℕ, true, false, Some, List, [], ◌∷◌, ◌++◌, length, map, take, arith, refl, sym, ap, ◌∙◌, subst}
+use Rattle.std.proofs.Common.{◌≡◌, ◌≤◌, ℕ, true, false, Some, List, [], ◌∷◌, length, map, take, arith, refl, sym, ap, ◌∙◌, subst}
 use Rattle.std.specs.Prelude.{MatchBool}
 use Rattle.std.proofs.Math.Seq.{take-append_seam}
-use Rattle.std.proofs.lemmas.List.{append_assoc}
 use Rattle.clock_cell.specs.Views.{writes}
-use Rattle.pass_names.specs.Passes.{Begins}
 use Rattle.pass_names.proofs.Passes.{begins_length, begins_refl}
 use Rattle.seq_timer.specs.Systems.{rises_of}
 use Rattle.seq_timer.specs.declared.system.SystemEntry.{SystemEntry}
@@ -16,15 +14,14 @@ use Rattle.run_history.specs.Fits.{FitsCall, HasRead, reads_clock, ReadsInTurn}
 use Rattle.run_history.specs.Order.{calls_of, NeverFall}
 use Rattle.run_history.specs.Promises.{GoesOn, HasLog}
 use Rattle.run_history.specs.Runs.{Ending, IsJoined, witness_of}
-use Rattle.run_history.specs.Witnesses.{entries_in, writes_along}
+use Rattle.run_history.specs.Witnesses.{writes_along}
 use Rattle.run_history.proofs.Promise.{seen_first}
 use Rattle.script_text.specs.declared.script.Call.{Call}
 use Rattle.script_text.specs.declared.script.Script.{Script}
-use Rattle.lane_world.proofs.Kept.{Follows, IsNextCall, KeepsCall, KeepsTurn, log_of, seen_by, SeesOn}
+use Rattle.lane_world.proofs.Kept.{Follows, IsNextCall, KeepsCall, KeepsTurn, log_of, seen_by}
 use Rattle.lane_world.proofs.SeenMore.{goes_before}
 use Rattle.lane_world.specs.Called.{LaneOf, ReadsFirst}
 use Rattle.lane_world.specs.Worlds.{WorldOf}
-use Rattle.lane_world.specs.declared.WorldPass.{WorldPass}
 use Rattle.call_laws.proofs.CallKept.{same_objects}
 
 -- ---- the order's writes

@@ -1,7 +1,6 @@
 //! A lane in a round: its calls in their order, each with its answer and with notes of what it did.
-ghost use Rattle.std.specs.Prelude.{◌≡◌, ◌≤◌, ◌<◌, ◌∷◌, [], false, IfOk, OnOk, length};
+ghost use Rattle.std.specs.Prelude.{◌≡◌, ◌≤◌, ◌<◌, ◌∷◌, [], false, IfOk, OnOk};
 ghost use Rattle.std.specs.List.{AllByRecursion};
-ghost use Rattle.script_text.specs.Scripts.{IsCallInRange};
 ghost use Rattle.lane_world.specs.Called.{Called, CalledThen, CallsReading, LeavesLane, ReadsClock, TakesReading, lane_of};
 ghost use Rattle.lane_world.specs.Rounds.{AnswersCall, MakesCalls, lane_calls};
 ghost use Rattle.lane_world.specs.Worlds.{ArePassesOf, CanCall, KeepPasses, LeadsByName};

@@ -1,6 +1,5 @@
 //! What the calls' clauses say together.
-ghost use Rattle.std.specs.Prelude.{ℕ, ◌≡◌, ◌≤◌, ◌<◌, List};
-ghost use Rattle.pass_names.specs.Passes.{Begins};
+ghost use Rattle.std.specs.Prelude.{ℕ, ◌≤◌, List};
 ghost use Rattle.seq_timer.specs.Systems.{rises_of};
 ghost use Rattle.seq_timer.specs.declared.system.SystemEntry as entry;
 ghost use Rattle.ordered_clock.specs.Moments.{IsReadBeforeItIsWritten, ReadsAt, clock_counter};

@@ -1,6 +1,5 @@
 -- What lanes have left, by passes that have settled the clock since.
-use Rattle.std.proofs.Common.{◌≡◌, ◌≤◌, ℕ, List, length, arith, sym, ap, ◌∙◌}
-use Rattle.clock_cell.specs.Views.{writes}
+use Rattle.std.proofs.Common.{List, arith, ap, ◌∙◌}
 use Rattle.lane_notes.specs.Notes.{NotesOf}
 use Rattle.pass_names.specs.Counts.{count}
 use Rattle.pass_names.specs.Passes.{is_place}
