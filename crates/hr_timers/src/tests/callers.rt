@@ -148,7 +148,8 @@ pub fn run_soft<R: Wait>(
 
 /// The first pass takes in the one that was split off it first.
 pub fn retire(timers: &Timers, main: &mut Pass, other: Pass)
-    requires pass { IsPassOf timers.now main.old × IsPassOf timers.now other }
+    requires pass { IsPassOf timers.now main.old }
+    requires other { IsPassOf timers.now other }
     requires first { main.old.known.id ≡ after_split first_pass_id }
     requires child { other.known.id ≡ child_of first_pass_id }
     requires unclaimed { (main.old.known.claims ≡ []) × (other.known.claims ≡ []) }

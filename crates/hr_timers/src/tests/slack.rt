@@ -104,17 +104,21 @@ fn a_soft_function_runs_beside_a_hard_one(rt: HostRuntime) -> Result<(), Fail> {
     let now = Reading::at(0);
     timers.start(&rt, &mut pass, 0, Mode::Rel, 0, 0, now);
     timers.start(&rt, &mut pass, 1, Mode::Rel, 0, 0, now);
-    if let Some(hard) = claim(&rt, &timers, &mut pass, 0, now) {
-        assert_eq!(rt; hard.timer(), 0);
-        let (of_soft, of_hard) = run_contexts(&rt, &timers, &mut other, now);
-        assert_eq!(rt; of_soft, Found::Ran { timer: 1 });
-        let busy = Found::Busy {
-            timer: 0,
-            generation: 1,
-        };
-        assert_eq!(rt; of_hard, busy);
-        finish(&rt, &timers, &mut pass, hard, false);
-    }
+    let Some(hard) = claim(&rt, &timers, &mut pass, 0, now) else {
+        assert!(rt; false);
+        retire(&timers, &mut pass, other);
+        timers.close(pass);
+        return Ok(());
+    };
+    assert_eq!(rt; hard.timer(), 0);
+    let (of_soft, of_hard) = run_contexts(&rt, &timers, &mut other, now);
+    assert_eq!(rt; of_soft, Found::Ran { timer: 1 });
+    let busy = Found::Busy {
+        timer: 0,
+        generation: 1,
+    };
+    assert_eq!(rt; of_hard, busy);
+    finish(&rt, &timers, &mut pass, hard, false);
     assert_eq!(rt; timers.peek(&mut pass, 0).stamp, 3);
     assert_eq!(rt; timers.peek(&mut pass, 1).stamp, 3);
     retire(&timers, &mut pass, other);
