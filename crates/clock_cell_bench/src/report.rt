@@ -1,4 +1,5 @@
 //! Which cases there are, and the line that is printed for each.
+use crate::alone;
 use crate::turns::{self, Done, Load};
 use bench_cases::Task;
 use std::alloc::{AllocError, Global};
@@ -16,9 +17,13 @@ const ROUNDS: u64 = 5;
 enum Readers {
     One,
     Two,
+    /// One, and no other thread is there.
+    Alone,
+    /// The same, by `ordered_clock`.
+    Ordered,
 }
 
-/// How many threads read, and whether another writes.
+/// Who reads, and whether another writes; nobody does beside a thread that reads alone.
 #[derive(Clone, Copy, Debug, PartialEq, Eq)]
 struct Case {
     readers: Readers,
@@ -32,13 +37,15 @@ impl Case {
             (Readers::One, true) => "one thread reads, another writes",
             (Readers::Two, false) => "two threads read",
             (Readers::Two, true) => "two threads read, a third writes",
+            (Readers::Alone, _) => "one thread, alone, reads",
+            (Readers::Ordered, _) => "one thread, alone, reads among timers' entries",
         }
     }
 
     /// Readings of all threads in all rounds.
     fn reads(self) -> u64 {
         match self.readers {
-            Readers::One => ROUNDS * READS,
+            Readers::One | Readers::Alone | Readers::Ordered => ROUNDS * READS,
             Readers::Two => 2 * ROUNDS * READS,
         }
     }
@@ -56,6 +63,8 @@ impl Case {
         match self.readers {
             Readers::One => turns::one(rt, alloc, load),
             Readers::Two => turns::two(rt, alloc, load),
+            Readers::Alone => alone::plain(rt, alloc, load.reads),
+            Readers::Ordered => alone::ordered(rt, alloc, load.reads),
         }
     }
 }
@@ -130,6 +139,8 @@ pub fn report<R: Threads + Wait + Sync + Clock + Print>(
         (Readers::One, true),
         (Readers::Two, false),
         (Readers::Two, true),
+        (Readers::Alone, false),
+        (Readers::Ordered, false),
     ] {
         line(rt, alloc, task, Case { readers, writes })?;
     }

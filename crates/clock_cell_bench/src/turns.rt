@@ -27,7 +27,7 @@ pub struct Done {
     pub stamp: u64,
 }
 
-fn read_often<R: Wait>(rt: &R, clock: &SharedClock, pass: &mut ClockPass, times: u64)
+pub fn read_often<R: Wait>(rt: &R, clock: &SharedClock, pass: &mut ClockPass, times: u64)
     requires pass { IsPassOfClock clock.now pass.old }
     ensures pass { IsPassOfClock clock.now pass.new }
     ensures read { Read pass.old.knows pass.new.knows }
@@ -146,7 +146,7 @@ fn two_beside<R: Threads + Wait + Sync>(
 }
 
 /// Ends the clock with its last pass, which has made all writes.
-fn ended<R: Wait>(rt: &R, clock: SharedClock, mut pass: ClockPass, made: u64) -> Done
+pub fn ended<R: Wait>(rt: &R, clock: SharedClock, mut pass: ClockPass, made: u64) -> Done
     requires pass { IsPassOfClock clock pass }
     requires last { IsLast pass.knows.pass.id }
     requires made { length pass.knows.pass.mine ≡ made }
