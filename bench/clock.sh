@@ -25,7 +25,7 @@ awk -F'\t' '
         for (i = 1; i <= keys; i++) {
             key = order[i]
             split(key, part, FS)
-            printf "%-14s %-34s %6.1f to %6.1f", part[1], part[2], least[key], most[key]
+            printf "%-14s %-46s %6.1f to %6.1f", part[1], part[2], least[key], most[key]
             if (many[key] > 0) printf "  %5.1f to %5.1f", few[key], many[key]
             print ""
         }
