@@ -9,7 +9,7 @@ use std::test::Fail;
 use std::thread::Threads;
 
 /// How often a lane looks whether it may go on.
-const TURNS: u32 = 50_000_000;
+const TURNS: u32 = 4_000_000_000;
 
 /// How often a lane that may go on looks once more. Meanwhile the calls that the lanes before it were let into go on.
 const WAITS: u32 = 100_000;

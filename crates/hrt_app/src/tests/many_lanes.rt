@@ -10,7 +10,7 @@ use std::test::Fail;
 use std::thread::Threads;
 
 /// How often a lane looks whether it may go on.
-const TURNS: u32 = 50_000_000;
+const TURNS: u32 = 4_000_000_000;
 
 /// How many lanes meet.
 const LANES: u32 = 16;
