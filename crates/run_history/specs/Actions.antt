@@ -77,16 +77,6 @@ skipped t (Made i number entry ∷ ds) = skipped t ds
 skipped t (Skipped i number generation ∷ ds) = also (nat_eq i t) (number, generation) (skipped t ds)
 skipped t (Shifted base number event ∷ ds) = skipped t ds
 
--- the numbers of an object's entries and refused expiries among these, in their order
-abbrev pub numbers_of_object : ℕ → List Action → List ℕ
-numbers_of_object t [] = []
-numbers_of_object t (Wrote number write ∷ ds) = numbers_of_object t ds
-numbers_of_object t (Entered timer number entry ∷ ds) = numbers_of_object t ds
-numbers_of_object t (Looked timer number reply ∷ ds) = numbers_of_object t ds
-numbers_of_object t (Made i number entry ∷ ds) = also (nat_eq i t) number (numbers_of_object t ds)
-numbers_of_object t (Skipped i number generation ∷ ds) = also (nat_eq i t) number (numbers_of_object t ds)
-numbers_of_object t (Shifted base number event ∷ ds) = numbers_of_object t ds
-
 -- the lines of a list that bear a label, each with its number, where the first is numbered so
 abbrev pub own : {X A : Type 0} → (X → Label) → (X → A) → Label → ℕ → List X → List (ℕ × A)
 own label thing c number [] = []

@@ -1,5 +1,5 @@
--- What it means that a record fits a script: each call is there once, in the order of its lane, all timers' and bases' entries are one
--- history, in which the clock's writes and readings have their places, and each object's are one history.
+-- What it means that a record fits a script: each call is there once, in the order of its lane; all timers' and bases' entries are one history, in which
+-- the clock's writes and readings and the objects' entries have their places; and each object's are one history.
 use Rattle.std.specs.Prelude.{ℕ, ◌≡◌, ◌≤◌, ◌+◌, Bool, true, false, MatchBool, List, [], ◌∷◌, length, map}
 use Rattle.std.specs.List.{AllByRecursion}
 use Rattle.clock_model.specs.Clocks.{at_stamp}
@@ -12,24 +12,22 @@ use Rattle.record_text.specs.declared.record.ObjectLine.{ObjectLine}
 use Rattle.record_text.specs.declared.record.RunRecord.{RunRecord}
 use Rattle.run_history.specs.Order.{AreUnder, CallInRound, calls_of, is_lower, IsInOrder, IsLabel, IsPoint, NeverFall}
 use Rattle.run_history.specs.Histories.{answers_of, AreWrites, clock_labels, lines_of_timer}
-use Rattle.run_history.specs.Objects.{IsLegalObject, object_labels, lines_of_object}
+use Rattle.run_history.specs.Objects.{IsLegalObject, lines_of_object}
 use Rattle.script_text.specs.Declarations.{kind_of}
 use Rattle.run_history.specs.Actions.{wrote}
-use Rattle.run_history.specs.Told.{object_steps_on}
 use Rattle.run_history.specs.Witnesses.{Witness, IsOneHistory, labels, writes_along}
 use Rattle.run_history.specs.Traces.{HasTraced}
 use Rattle.run_history.specs.Calls.{AllKeepExpiries, AllMoved, Does}
 use Rattle.run_history.specs.Truths.{AreTrue, IsClaimSpan, IsMoment, AnswerHolds, WasFront, WasOffLine}
 
--- how many of the clock's writes, of all timers' and bases' entries and the writes among them, and of each object's entries, a lane has seen
+-- how many of the clock's writes, and of all entries and the writes among them, a lane has seen
 pub record Seen : Type 0 where
   pub clock : ℕ
   pub moves : ℕ
-  pub objects : ℕ → ℕ
 
 -- nothing is seen yet
 abbrev pub unseen : Seen
-unseen = record { clock = 0; moves = 0; objects = λ i. 0 }
+unseen = record { clock = 0; moves = 0 }
 
 -- One call with its answer: what it did is what the record shows, and makes the answer right; it saw no less than its lane had seen before, and
 -- no more than its lane has seen after it.
@@ -46,11 +44,9 @@ pub record FitsCall (w : Witness) (c : Label) (call : Call) (answer : Answer) (b
   pub begins : IsMoment w c [] (w.traces c).first
   pub ends : IsMoment w c (w.traces c).actions (w.traces c).last
   pub truth : AreTrue w c (w.traces c).first (w.traces c).first [] (w.traces c).actions (w.traces c).last
-  pub expiries : AllByRecursion (λ f. IsClaimSpan w f f.body) (w.traces c).fired
   pub seen : AnswerHolds w (w.traces c).first (w.traces c).last c (w.traces c).at (w.traces c).actions call answer
   pub clock_steps : NeverFall before.clock ((w.traces c).at ∷ map (λ x. x.0) (wrote (w.traces c).actions)) after.clock
   pub move_steps : (before.moves ≤ (w.traces c).first) × ((w.traces c).last ≤ after.moves)
-  pub object_steps : (i : ℕ) → NeverFall (before.objects i) (object_steps_on i call answer (w.traces c).actions) (after.objects i)
 
 -- whether a call reads the clock
 abbrev pub reads_clock : Call → Bool
@@ -84,12 +80,6 @@ FitsLane w lane index before (p ∷ ps) (a ∷ more) =
 FitsLane w lane index before [] (a ∷ more) = ⊥
 FitsLane w lane index before (p ∷ ps) [] = ⊥
 
--- the spans of an object's entries, from a number of entry on, follow one another
-abbrev pub AreBehind : (ℕ → ℕ × ℕ) → ℕ → ℕ → List ObjectLine → Type 0
-AreBehind spans number from [] = Unit
-AreBehind spans number from (line ∷ lines) =
-    (from ≤ (spans number).0) × ((spans number).0 ≤ (spans number).1) × AreBehind spans (number + 1) (spans number).1 lines
-
 -- no label is lower than one that stands ahead of it
 abbrev pub LabelsNeverFall : List Label → Type 0
 LabelsNeverFall [] = Unit
@@ -100,7 +90,7 @@ pub record AreSkipsUnder (s : Script) (labels : List Label) : Type 0 where
   pub calls : AllByRecursion (IsLabel s) labels
   pub in_order : LabelsNeverFall labels
 
--- the record fits the script, in this order of all timers' and bases' entries
+-- the record fits the script, in this order of all entries and writes
 pub record FitsIn (w : Witness) : Type 0 where
   -- the record is of the script's version
   pub version : w.run.version ≡ w.script.version
@@ -109,11 +99,10 @@ pub record FitsIn (w : Witness) : Type 0 where
   pub timers : length w.run.timers ≡ length w.script.timers
   pub objects : length w.run.objects ≡ length w.script.timers
   pub lanes : length w.run.answers ≡ w.script.lanes
-  -- no line bears another label than that of a call
+  -- no line bears another label than that of a call; those of objects are among the moves
   pub clock_calls : AllByRecursion (IsLabel w.script) (clock_labels w.run)
   pub move_calls : AllByRecursion (IsLabel w.script) (labels w)
   pub looks : (t : ℕ) → AllByRecursion (λ line. AreUnder w.script (map (λ look. look.label) line.looks)) (lines_of_timer w.run t)
-  pub object_calls : (i : ℕ) → AllByRecursion (IsLabel w.script) (object_labels w.run i)
   pub skips : (i : ℕ) → AllByRecursion (λ line. AreSkipsUnder w.script (map (λ skip. skip.label) line.skips)) (lines_of_object w.run i)
   -- the clock's lines are writes that it took, all timers' and bases' entries are one history, and each object's one that such an object gives
   pub writes : AreWrites (at_stamp 0) w.run.clock
@@ -122,11 +111,9 @@ pub record FitsIn (w : Witness) : Type 0 where
   -- along each list, rounds follow one another, and a lane's calls keep their order
   pub clock_order : IsInOrder w.script (clock_labels w.run)
   pub order : IsInOrder w.script (labels w)
-  pub object_order : (i : ℕ) → IsInOrder w.script (object_labels w.run i)
-  pub object_spans : (i : ℕ) → AreBehind (w.spans i) 1 0 (lines_of_object w.run i)
   -- each call of each lane has its answer, and the answer is right
   pub calls : (lane : ℕ) → FitsLane w lane 0 unseen (calls_of w.script lane) (answers_of w.run lane)
 
--- the record fits the script: there is an order of all timers' and bases' entries, with what each call did and the spans of objects' entries, in which it does
+-- the record fits the script: there is an order of all entries and writes, with what each call did, in which it does
 abbrev pub Fits : Script → RunRecord → Type 0
 Fits s r = (w : Witness) × (w.script ≡ s) × (w.run ≡ r) × FitsIn w

@@ -7,7 +7,6 @@ use Rattle.seq_timer.specs.declared.system.SystemEntry.{SystemEntry}
 use Rattle.record_text.specs.declared.record.Answer.{Answer}
 use Rattle.record_text.specs.declared.record.Label.{Label}
 use Rattle.run_history.specs.Actions.{looked, made, own, own_looks, own_skips, skipped, wrote}
-use Rattle.run_history.specs.Told.{object_steps_on}
 use Rattle.run_history.specs.Histories.{lines_of_timer}
 use Rattle.run_history.specs.Objects.{lines_of_object}
 use Rattle.run_history.specs.Order.{CallInRound, calls_of, NeverFall}
@@ -31,7 +30,6 @@ pub record IsRightLog (log : CallLog) (call : Call) (answer : Answer) (before af
   pub writes : AllByRecursion (λ x. log.trace.at < x.0) (wrote log.trace.actions)
   pub clock_steps : NeverFall before.clock (log.trace.at ∷ map (λ x. x.0) (wrote log.trace.actions)) after.clock
   pub move_steps : (before.moves ≤ log.moves.0) × (log.moves.1 ≤ after.moves)
-  pub object_steps : (i : ℕ) → NeverFall (before.objects i) (object_steps_on i call answer log.trace.actions) (after.objects i)
 
 -- the run has of a call what its lane kept of it; the record has under its label what the call did, but for timers' and bases' entries; the refused
 -- expiries under one entry have no order among themselves

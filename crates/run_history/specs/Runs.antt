@@ -8,7 +8,7 @@ use Rattle.record_text.specs.declared.record.Label.{Label}
 use Rattle.record_text.specs.declared.record.RunRecord.{RunRecord}
 use Rattle.run_history.specs.Histories.{answers_of, AreWrites, clock_labels, lines_of_timer}
 use Rattle.script_text.specs.Declarations.{terms_of, declareds_of, kind_of}
-use Rattle.run_history.specs.Objects.{IsLegalObject, lines_of_object, object_labels}
+use Rattle.run_history.specs.Objects.{IsLegalObject, lines_of_object}
 use Rattle.run_history.specs.Order.{AreUnder, calls_of, IsLabel}
 use Rattle.script_text.specs.declared.script.Script.{Script}
 use Rattle.run_history.specs.Witnesses.{Witness, entries_in, IsOneHistory, labels, Trace}
@@ -16,47 +16,40 @@ use Rattle.run_history.specs.Fits.{AreBehind, AreSkipsUnder, FitsLane, unseen}
 use Rattle.run_history.specs.Receipts.{AreAll, AreFiled, Filed, PlacedEntry, ShowsEntry, weave}
 use Rattle.run_history.specs.Rounds.{IsLaid, IsLedger, Spans}
 
--- What a lane keeps of one call: its receipts with their places; what it did; and how many entries of all timers and bases, writes of the clock and entries of
--- each object its passes had seen when it began and when it ended.
+-- What a lane keeps of one call: its receipts with their places; what it did; and how many entries of all timers, bases and objects, and writes of the clock,
+-- its passes had seen when it began and when it ended.
 pub record CallLog : Type 0 where
   pub notes : List PlacedEntry
   pub trace : Trace
   pub moves : ℕ × ℕ
   pub clock : ℕ × ℕ
-  pub objects : ℕ → ℕ × ℕ
 
--- of each list how long it was when each round began: of all timers' and bases' entries, of the clock's writes, of each object's entries
+-- of each list how long it was when each round began: of all entries, and of the clock's writes
 pub record RoundStarts : Type 0 where
   pub moves : ℕ → ℕ
   pub clock : ℕ → ℕ
-  pub objects : ℕ → ℕ → ℕ
 
--- The record; the order of all timers' and bases' entries, which is what the last pass of the timers' table has seen; what the lanes kept of each call;
--- the span of each entry of an object; and where rounds began.
+-- The record; the order of all entries, which is what the last pass of the timers' table has seen; what the lanes kept of each call; and where rounds began.
 pub record Ending : Type 0 where
   pub run : RunRecord
   pub order : List SystemEntry
   pub logs : Label → CallLog
-  pub spans : ℕ → ℕ → ℕ × ℕ
   pub starts : RoundStarts
 
 -- the receipts of a call
 abbrev pub notes_in : Ending → Label → List PlacedEntry
 notes_in e c = (e.logs c).notes
 
--- the spans of the calls on the list of all timers' and bases' entries, on that of the clock's writes, and on an object's
+-- the spans of the calls on the list of all entries, and on that of the clock's writes
 abbrev pub moves_spans : Ending → Spans
 moves_spans e = record { first = λ c. (e.logs c).moves.0; last = λ c. (e.logs c).moves.1; starts = e.starts.moves }
 
 abbrev pub clock_spans : Ending → Spans
 clock_spans e = record { first = λ c. (e.logs c).clock.0; last = λ c. (e.logs c).clock.1; starts = e.starts.clock }
 
-abbrev pub object_spans : Ending → ℕ → Spans
-object_spans e i = record { first = λ c. ((e.logs c).objects i).0; last = λ c. ((e.logs c).objects i).1; starts = e.starts.objects i }
-
 -- the record's lines along the order
 abbrev pub witness_of : Script → Ending → Witness
-witness_of s e = record { script = s; run = e.run; moves = weave e.run [] e.order; traces = λ c. (e.logs c).trace; spans = e.spans }
+witness_of s e = record { script = s; run = e.run; moves = weave e.run [] e.order; traces = λ c. (e.logs c).trace }
 
 -- what holds of the whole run, for each lane to use
 pub record IsJoined (s : Script) (e : Ending) : Type 0 where
@@ -69,7 +62,6 @@ pub record IsJoined (s : Script) (e : Ending) : Type 0 where
   -- calls stand along each list by rounds
   pub moves_laid : IsLaid s (labels (witness_of s e)) (moves_spans e)
   pub clock_laid : IsLaid s (clock_labels e.run) (clock_spans e)
-  pub objects_laid : (i : ℕ) → IsLaid s (object_labels e.run i) (object_spans e i)
 
 -- the parts that make a run, each of which is what one table or one lane gives
 pub record IsEnding (s : Script) (e : Ending) : Type 0 where
@@ -88,9 +80,7 @@ pub record IsEnding (s : Script) (e : Ending) : Type 0 where
   pub clock_laid : IsLaid s (clock_labels e.run) (clock_spans e)
   pub writes : AreWrites (at_stamp 0) e.run.clock
   -- the objects' lists
-  pub objects_laid : (i : ℕ) → IsLaid s (object_labels e.run i) (object_spans e i)
   pub object_histories : (i : ℕ) → IsLegalObject s e.run i (kind_of s i)
-  pub spans : (i : ℕ) → AreBehind (e.spans i) 1 0 (lines_of_object e.run i)
   -- looks and skips under their lines, and one list for each base, timer and lane
   pub looks : (t : ℕ) → AllByRecursion (λ line. AreUnder s (map (λ look. look.label) line.looks)) (lines_of_timer e.run t)
   pub skips : (i : ℕ) → AllByRecursion (λ line. AreSkipsUnder s (map (λ skip. skip.label) line.skips)) (lines_of_object e.run i)

@@ -1,5 +1,5 @@
 -- What one call did is what the record has under its label.
-use Rattle.std.specs.Prelude.{ℕ, ◌≡◌, ◌+◌, List, [], ◌∷◌}
+use Rattle.std.specs.Prelude.{ℕ, suc, ◌≡◌, ◌+◌, List, [], ◌∷◌}
 use Rattle.std.specs.List.Sorted.{IsPermutation}
 use Rattle.record_text.specs.declared.record.Label.{Label}
 use Rattle.run_history.specs.Witnesses.{Witness, Move, OfBase, OfRise, OfTimer, Shown}
@@ -8,13 +8,13 @@ use Rattle.run_history.specs.Histories.{lines_of_timer}
 use Rattle.run_history.specs.Objects.{lines_of_object}
 use Rattle.run_history.specs.Order.{is_label}
 
--- the entries of timers and bases among these, and the writes of the clock, each with its number in its list
+-- the entries of timers, bases and objects among these, and the writes of the clock, each with its number in its list
 abbrev pub all_entered : List Action → List (ℕ × Shown)
 all_entered [] = []
 all_entered (Wrote number write ∷ ds) = (number, OfRise 0) ∷ all_entered ds
 all_entered (Entered timer number entry ∷ ds) = (number, OfTimer timer entry) ∷ all_entered ds
 all_entered (Looked timer number reply ∷ ds) = all_entered ds
-all_entered (Made i number entry ∷ ds) = all_entered ds
+all_entered (Made i number entry ∷ ds) = (number, OfRise (suc i)) ∷ all_entered ds
 all_entered (Skipped i number generation ∷ ds) = all_entered ds
 all_entered (Shifted base number event ∷ ds) = (number, OfBase base event) ∷ all_entered ds
 
@@ -23,7 +23,7 @@ abbrev pub own_moves : Label → List Move → List (ℕ × Shown)
 own_moves c [] = []
 own_moves c (m ∷ ms) = also (is_label c m.label) (m.before + 1, m.shown) (own_moves c ms)
 
--- the record has these things under the label, and no others; the entries of timers and bases, and the writes, in this very order; the refused expiries
+-- the record has these things under the label, and no others; the entries of timers, bases and objects, and the writes, in this very order; the refused expiries
 -- of one call under one entry have no order among themselves
 pub record HasTraced (w : Witness) (c : Label) (actions : List Action) : Type 0 where
   pub clock : own (λ line. line.label) (λ line. line.write) c 1 w.run.clock ≡ wrote actions

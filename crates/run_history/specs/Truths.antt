@@ -1,4 +1,4 @@
--- What a call told held at one moment of the order of all timers' and bases' entries, a moment at which it had done just so much.
+-- What a call told held at one moment of the order of all timers', bases' and objects' entries, a moment at which it had done just so much.
 use Rattle.std.specs.Prelude.{ℕ, ◌≡◌, ◌≤◌, ◌+◌, ◌⊎◌, None, Bool, true, false, Some, IsSome, List, [], ◌∷◌, ◌++◌, length}
 use Rattle.clock_model.specs.Clocks.{after_write, greatest}
 use Rattle.seq_timer.specs.declared.observation.Observation.{Observation}
@@ -20,8 +20,8 @@ use Rattle.timer_fd.specs.States.{is_readable}
 use Rattle.script_text.specs.Declarations.{base_of, kind_of, terms_of}
 use Rattle.run_history.specs.Order.{IsPoint}
 use Rattle.run_history.specs.Histories.{reading_at}
-use Rattle.run_history.specs.Objects.{object_armed_after, fd_after, object_labels, posix_after}
-use Rattle.run_history.specs.Actions.{Action, Entered, Looked, Made, Skipped, made}
+use Rattle.run_history.specs.Objects.{object_armed_after, fd_after, posix_after}
+use Rattle.run_history.specs.Actions.{Action, Entered, Looked, Made, Skipped}
 use Rattle.run_history.specs.Told.{IsBelowLimit, IsOutOfRange, IsArmedLike, observed}
 use Rattle.ktime.specs.declared.clock_id.ClockId.{ClockId}
 use Rattle.seq_timer.specs.Contents.{front_of}
@@ -32,10 +32,10 @@ use Rattle.seq_timer.specs.Systems.{next_on}
 use Rattle.seq_timer.specs.Standings.{last_standing}
 use Rattle.seq_timer.specs.Tables.{IsStopped, IsUnused, in_context, is_armed_on, runs_on}
 use Rattle.run_history.specs.Traces.{all_entered}
-use Rattle.run_history.specs.Witnesses.{Witness, labels, standing_along, system_along, timer_along}
+use Rattle.run_history.specs.Witnesses.{Witness, labels, object_along, standing_along, system_along, timer_along}
 use Rattle.run_history.specs.Witnesses.{Evacuation, Fired}
 
--- a number of entries of all timers and bases is one at which the call has done so much, and that it may have seen
+-- a number of moves of the order is one at which the call has done so much, and that it may have seen
 abbrev pub IsMoment : Witness → Label → List Action → ℕ → Type 0
 IsMoment w c before n = IsPoint w.script c (length (all_entered before)) n (labels w)
 
@@ -75,13 +75,17 @@ pub record WasFront (w : Witness) (first last base : ℕ) (e : Evacuation) : Typ
 abbrev pub SawRefusal : Witness → ℕ → ℕ → ℕ → Type 0
 SawRefusal w timer stamp n = Saw w timer stamp observations.Spent n × ((timer_along w n timer).moving ≡ false)
 
--- a number of entries of an object is one that the call, having done so much, may have seen
-abbrev pub IsObjectPoint : Witness → Label → List Action → ℕ → ℕ → Type 0
-IsObjectPoint w c before i n = IsPoint w.script c (length (made i before)) n (object_labels w.run i)
+-- at this moment the object had so many entries
+abbrev pub HadEntries : Witness → ℕ → ℕ → ℕ → Type 0
+HadEntries w i stamp n = object_along w n i ≡ stamp
 
--- an object's history is full, after so many of its entries, which the call, having done so much, may have seen
-abbrev pub SawFull : Witness → Label → List Action → ℕ → ℕ → Type 0
-SawFull w c before i stamp = IsObjectPoint w c before i stamp × (w.script.limit ≤ stamp)
+-- at this moment the object's history was full, with so many entries
+abbrev pub SawFull : Witness → ℕ → ℕ → ℕ → Type 0
+SawFull w i stamp n = HadEntries w i stamp n × (w.script.limit ≤ stamp)
+
+-- at this moment the object had just the entries before the one of this number
+abbrev pub StoodBefore : Witness → ℕ → ℕ → ℕ → Type 0
+StoodBefore w i number n = object_along w n i + 1 ≡ number
 
 -- what is asked where an event is a claim
 abbrev pub OfClaim : EventBy ℕ → Type 0 → Type 0
@@ -114,41 +118,27 @@ IsTrueEntry w i number (object_entries.Accept reading arm reply) n = IsTrueStart
 IsTrueEntry w i number (object_entries.Read reading arm reply) n = IsTrueStart w i number false arm n
 IsTrueEntry w i number (object_entries.Gettime reading arm left interval) n = IsTrueStart w i number false arm n
 
--- An entry of an object has a span: how many entries the object's timer had where the call found it, and at a moment after the call's own entries
--- of it. That of an expiry is said at IsClaimSpan.
-abbrev pub IsSpan : Witness → ℕ → ℕ → ℕ → ℕ → Type 0
-IsSpan w first i number n = w.spans i number ≡ ((timer_along w first i).stamp, (timer_along w n i).stamp)
+-- A call that makes an entry of an object has the object from its first moment on: then it had just the entries before it. An expiry run has it, for a
+-- trigger, at the moment before the entry alone.
+abbrev pub HadFromFirst : Witness → ℕ → ℕ → ℕ → ObjectEntry → Type 0
+HadFromFirst w first i number (object_entries.Trigger generation reading counted) = Unit
+HadFromFirst w first i number (object_entries.Settime flags value interval reading arm reply) = StoodBefore w i number first
+HadFromFirst w first i number (object_entries.Accept reading arm reply) = StoodBefore w i number first
+HadFromFirst w first i number (object_entries.Read reading arm reply) = StoodBefore w i number first
+HadFromFirst w first i number (object_entries.Gettime reading arm left interval) = StoodBefore w i number first
 
--- The span of a call that started nothing is empty. The call had seen no entry of the timer behind it, unless the timer's function ran then.
-pub record IsEmptySpan (w : Witness) (i number n : ℕ) : Type 0 where
-  pub empty : (w.spans i number).0 ≡ (w.spans i number).1
-  pub seen : (timer_along w n i).running ≡ None → (timer_along w n i).stamp ≤ (w.spans i number).0
-
--- the span of a call that starts the timer only where it has expired
-abbrev pub IsSpanBy : Witness → ℕ → ℕ → ℕ → Armed → ℕ → Type 0
-IsSpanBy w first i number armings.None n = IsEmptySpan w i number n
-IsSpanBy w first i number (armings.Generation generation) n = IsSpan w first i number n
-IsSpanBy w first i number armings.Unarmed n = IsSpan w first i number n
-
--- the same, of each entry of an object
-abbrev pub HasSpan : Witness → ℕ → ℕ → ℕ → ObjectEntry → ℕ → Type 0
-HasSpan w first i number (object_entries.Settime flags value interval reading arm reply) n = IsSpan w first i number n
-HasSpan w first i number (object_entries.Trigger generation reading counted) n = Unit
-HasSpan w first i number (object_entries.Accept reading arm reply) n = IsSpanBy w first i number arm n
-HasSpan w first i number (object_entries.Read reading arm reply) n = IsSpanBy w first i number arm n
-HasSpan w first i number (object_entries.Gettime reading arm left interval) n = IsSpanBy w first i number arm n
-
--- the span of an expiry that an object's entry tells: just the claim of its timer
-abbrev pub IsClaimSpan : Witness → Fired → List Action → Type 0
-IsClaimSpan w f (Made i number entry ∷ []) = (before : ℕ) × (before + 1 ≡ f.claim) × (w.spans i number ≡ (before, f.claim))
-IsClaimSpan w f body = Unit
+-- an entry of an object was made while a call had the object, and what it tells of its timer's start is true
+pub record MadeInTurn (w : Witness) (first i number : ℕ) (entry : ObjectEntry) (n : ℕ) : Type 0 where
+  pub true_start : IsTrueEntry w i number entry n
+  pub first : HadFromFirst w first i number entry
+  pub last : StoodBefore w i number n
 
 -- what a thing that a call did tells of a timer or an object is true, at a moment after what the call did before it
 abbrev pub IsTrue : Witness → Label → ℕ → List Action → Action → ℕ → Type 0
 IsTrue w c first before (Entered timer number entry) n = OfClaim entry.event (IsMoment w c before n)
 IsTrue w c first before (Looked timer number look) n = IsMoment w c before n × Saw w timer number (observed look) n × IsBelowLimit w.script.limit number look
-IsTrue w c first before (Made i number entry) n = IsMoment w c before n × IsTrueEntry w i number entry n × HasSpan w first i number entry n
-IsTrue w c first before (Skipped i number generation) n = SawFull w c before i number
+IsTrue w c first before (Made i number entry) n = IsMoment w c before n × MadeInTurn w first i number entry n
+IsTrue w c first before (Skipped i number generation) n = IsMoment w c before n × SawFull w i number n
 IsTrue w c first before did n = Unit
 
 -- each thing that a call did tells the truth, at moments that never go back, from one moment to another
@@ -173,9 +163,9 @@ pub record SawFullOn (w : Witness) (base timer number n : ℕ) : Type 0 where
 abbrev pub StandsAt : Witness → ℕ → ℕ → ℕ → Type 0
 StandsAt w base stamp n = (standing_along w n base).stamp ≡ stamp
 
--- An answer that tells of a state tells of one that the call may have seen: of timers and bases at its last moment, and, for a settime that cancelled
--- nothing, of an idle timer at its first; of an object after so many of its entries. A write is refused only while the clock may take more of them,
--- and where one of its times would be past the latest, and the answer is the greatest of these.
+-- An answer that tells of a state tells of that of its last moment: of timers, bases and objects; and, for a settime that cancelled nothing, of an idle
+-- timer at its first. A write is refused only while the clock may take more of them, and where one of its times would be past the latest, and the answer
+-- is the greatest of these.
 abbrev pub AnswerHolds : Witness → ℕ → ℕ → Label → ℕ → List Action → Call → Answer → Type 0
 AnswerHolds w first last c reading actions (calls.Start timer request) (answers.Spent stamp) = SawRefusal w timer stamp last
 AnswerHolds w first last c reading actions (calls.Cancel timer) (answers.Running generation stamp) = Saw w timer stamp (observations.Running generation) last
@@ -187,22 +177,22 @@ AnswerHolds w first last c reading actions (calls.Expire context base budget) (a
     running_on base (in_context context (timer_along w last) timer) ≡ Some generation
 AnswerHolds w first last c reading actions (calls.Clock write) (answers.Range would_be) =
     IsOutOfRange reading would_be (greatest (after_write (reading_at w.run.clock reading) write))
-AnswerHolds w first last c reading actions (calls.Settime timer flags value interval) (answers.Spent stamp) = SawFull w c actions timer stamp
+AnswerHolds w first last c reading actions (calls.Settime timer flags value interval) (answers.Spent stamp) = SawFull w timer stamp last
 AnswerHolds w first last c reading actions (calls.Settime timer flags value interval) (answers.Old left old) = DisarmedFirst w timer actions first
 AnswerHolds w first last c reading actions (calls.Settime timer flags value interval) answers.Canceled = DisarmedFirst w timer actions first
 AnswerHolds w first last c reading actions (calls.Settime timer flags value interval) (answers.Unarmed stamp) =
     DisarmedFirst w timer actions first × SawRefusal w timer stamp last
-AnswerHolds w first last c reading actions (calls.Gettime timer) (answers.Spent stamp) = SawFull w c actions timer stamp
+AnswerHolds w first last c reading actions (calls.Gettime timer) (answers.Spent stamp) = SawFull w timer stamp last
 AnswerHolds w first last c reading actions (calls.Gettime timer) (answers.LeftAt left interval shown stamp) =
-    IsObjectPoint w c actions timer stamp
+    HadEntries w timer stamp last
     × (setting_of (posix_after w.script w.run timer (base_of (kind_of w.script timer)) stamp) (reading_at w.run.clock reading)
     ≡ record { left = left; interval = interval })
-AnswerHolds w first last c reading actions (calls.Accept timer) (answers.Spent stamp) = SawFull w c actions timer stamp
+AnswerHolds w first last c reading actions (calls.Accept timer) (answers.Spent stamp) = SawFull w timer stamp last
 AnswerHolds w first last c reading actions (calls.Overrun timer) (answers.Overrun overrun stamp) =
-    IsObjectPoint w c actions timer stamp × ((posix_after w.script w.run timer (base_of (kind_of w.script timer)) stamp).overrun ≡ overrun)
-AnswerHolds w first last c reading actions (calls.Read timer len) (answers.Spent stamp) = SawFull w c actions timer stamp
+    HadEntries w timer stamp last × ((posix_after w.script w.run timer (base_of (kind_of w.script timer)) stamp).overrun ≡ overrun)
+AnswerHolds w first last c reading actions (calls.Read timer len) (answers.Spent stamp) = SawFull w timer stamp last
 AnswerHolds w first last c reading actions (calls.Readable timer) (answers.Readable ready shown stamp) =
-    IsObjectPoint w c actions timer stamp
+    HadEntries w timer stamp last
     × (is_readable (fd_after w.script w.run timer (base_of (kind_of w.script timer)) stamp) (reading_at w.run.clock reading) ≡ ready)
 AnswerHolds w first last c reading actions (calls.Offline base heir budget) (answers.Offline moved stamp) = IsUnused (timer_along w last) base
 AnswerHolds w first last c reading actions (calls.Offline base heir budget) (answers.OfflineBusy moved timer generation) =

@@ -1,13 +1,15 @@
--- One order of all entries of a record's timers and bases and of the clock's writes, and all timers and bases after each number of them.
+-- One order of all entries of a record's timers, bases and objects and of the clock's writes, and all timers and bases after each number of them.
 use Rattle.std.specs.Prelude.{ℕ, zero, suc, ◌≡◌, ◌+◌, nat_eq, Bool, false, List, [], ◌∷◌, map, take}
 use Rattle.record_text.specs.declared.record.BaseLine.{BaseLine}
 use Rattle.record_text.specs.declared.record.ClockLine.{ClockLine}
 use Rattle.record_text.specs.declared.record.Entry.{Entry}
 use Rattle.record_text.specs.declared.record.Label.{Label}
+use Rattle.record_text.specs.declared.record.ObjectLine.{ObjectLine}
 use Rattle.record_text.specs.declared.record.RunRecord.{RunRecord}
 use Rattle.record_text.specs.declared.record.TimerLine.{TimerLine}
 use Rattle.run_history.specs.Actions.{Action, also}
 use Rattle.run_history.specs.Histories.{entry_shown, lines_of_base, lines_of_timer}
+use Rattle.run_history.specs.Objects.{lines_of_object}
 use Rattle.script_text.specs.Declarations.{declareds_of, terms_of}
 use Rattle.script_text.specs.declared.script.Script.{Script}
 use Rattle.seq_timer.specs.Steps.{Timer}
@@ -48,13 +50,14 @@ pub record Trace : Type 0 where
   pub first : ℕ
   pub last : ℕ
 
--- what a line shows: an entry of a timer, or of a base; or a rise of a counter, of which counter 0 counts the clock's writes, and no other is shown
+-- what a line shows: an entry of a timer, or of a base; or a rise of a counter, of which counter 0 counts the clock's writes, and counter i + 1 the entries
+-- of object i
 pub data Shown : Type 0 where
   OfTimer : ℕ → Entry → Shown
   OfBase : ℕ → BaseEvent → Shown
   OfRise : ℕ → Shown
 
--- whose list of a record a line stands in: a timer's, or a base's; or a counter's, of which that of counter 0 is the clock's
+-- whose list of a record a line stands in: a timer's, or a base's; or a counter's, which is the clock's or an object's
 pub data Owner : Type 0 where
   TimersList : ℕ → Owner
   BasesList : ℕ → Owner
@@ -79,12 +82,12 @@ owner_of_entry (entries.Timer e) = TimersList e.timer
 owner_of_entry (entries.Base c) = BasesList c.base
 owner_of_entry (entries.Rise k) = CountersList k
 
--- a line of a timer, of a base or of the clock, but for the looks at a timer and for what a write was
+-- a line of a timer, of a base, of the clock or of an object, but for what was only looked at, and for what a write or an object's entry was
 pub record ShownLine : Type 0 where
   pub label : Label
   pub shown : Shown
 
--- the same of a timer's line, of a base's, and of the clock's
+-- the same of a timer's line, of a base's, of the clock's, and of an object's
 abbrev pub line_of_timer : ℕ → TimerLine → ShownLine
 line_of_timer t line = record { label = line.label; shown = OfTimer t line.entry }
 
@@ -94,12 +97,15 @@ line_of_base b line = record { label = line.label; shown = OfBase b line.event }
 abbrev pub line_of_write : ClockLine → ShownLine
 line_of_write line = record { label = line.label; shown = OfRise 0 }
 
+abbrev pub line_of_object : ℕ → ObjectLine → ShownLine
+line_of_object i line = record { label = line.label; shown = OfRise (suc i) }
+
 -- the lines of a list; none for one that isn't there
 abbrev pub lines_at : RunRecord → Owner → List ShownLine
 lines_at r (TimersList t) = map (line_of_timer t) (lines_of_timer r t)
 lines_at r (BasesList b) = map (line_of_base b) (lines_of_base r b)
 lines_at r (CountersList zero) = map line_of_write r.clock
-lines_at r (CountersList (suc k)) = []
+lines_at r (CountersList (suc i)) = map (line_of_object i) (lines_of_object r i)
 
 -- a line along the order, and how many lines of its list stand before it
 pub record Move : Type 0 where
@@ -107,14 +113,13 @@ pub record Move : Type 0 where
   pub label : Label
   pub shown : Shown
 
--- a script, a record of it, and what the record doesn't print: an order of all timers' and bases' entries and the clock's writes; what each call did; and
--- for each entry of an object, by the object and the entry's number, how many entries the object's timer had at the start and at the end of its span
+-- a script, a record of it, and what the record doesn't print: an order of all timers', bases' and objects' entries and the clock's writes; and what each
+-- call did
 pub record Witness : Type 0 where
   pub script : Script
   pub run : RunRecord
   pub moves : List Move
   pub traces : Label → Trace
-  pub spans : ℕ → ℕ → ℕ × ℕ
 
 -- the moves of one list
 abbrev pub moves_on : Owner → List Move → List Move
@@ -161,7 +166,11 @@ standing_along w n b = ((system_along w n).bases b).standing
 abbrev pub writes_along : Witness → ℕ → ℕ
 writes_along w n = rises_of 0 (take n (entries_in w))
 
--- The order is one of all entries and writes, and all entries together are one history that a library on one thread gives: each is a step of its timer and
+-- how many of the first of them are entries of an object
+abbrev pub object_along : Witness → ℕ → ℕ → ℕ
+object_along w n i = rises_of (suc i) (take n (entries_in w))
+
+-- The order is one of all entries and writes, and those of timers and bases together are one history that a library on one thread gives: each is a step of its timer and
 -- of the base that it is on, is sent only to a base that is there, and is started only on one that is on line; each claim takes the first timer of its
 -- context in the base's queues; and a base is taken off line only while it has no timer.
 pub record IsOneHistory (w : Witness) : Type 0 where
