@@ -95,11 +95,6 @@ pub record TimerPart (s : Script) (x : WorldOf) (l : LaneOf) (t : ℕ) (begin w 
   pub part : TimersPart s l reading begin w (cancels t cancel ++ start) log
   pub armed : IsArmedSo arm (timer_then x.timers.about w.seen t)
 
--- the span of a call that starts the timer only where it has expired, by the timer where the call found it and where it left it
-abbrev pub IsRearmSpan : Timer → Timer → Arm → ℕ → ℕ → Type 0
-IsRearmSpan before now arms.NotAsked from to = (from ≡ to) × (now.running ≡ None → now.stamp ≤ from)
-IsRearmSpan before now arm from to = (from ≡ before.stamp) × (to ≡ now.stamp)
-
 module _ {s : Script} {x : WorldOf} {l : LaneOf} {call : Call} (next : IsNextCall s x l call) (t : ℕ) (reading : ClockReading) {v w : KnownOfTimers} where
   -- the entries that the call made of its timer at a moment, with a receipt of each
   part_of : {at : List SystemEntry} {es : List histories.Entry} {actions : List Action} → MadeAt v w t at es

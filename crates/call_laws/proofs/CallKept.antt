@@ -32,7 +32,7 @@ use Rattle.run_history.proofs.Kept.{IsKept}
 use Rattle.run_history.proofs.Known.{AreMade}
 use Rattle.run_history.proofs.Promise.{kept_from, reading_seen}
 use Rattle.lane_world.specs.Called.{LaneOf, LeavesClock, ReadsClock}
-use Rattle.lane_world.proofs.Kept.{base_note_place, entries_told, note_place, places_noted, told_in, of_base, of_entry, of_write, Follows, IsNextCall, log_of, seen_by, SeesOn, StandAt}
+use Rattle.lane_world.proofs.Kept.{base_note_place, entries_told, note_place, places_noted, told_in, of_base, of_entry, of_object, of_write, ToldNote, Follows, IsNextCall, log_of, seen_by, SeesOn, StandAt}
 use Rattle.lane_world.proofs.SeenMore.{begins_same}
 use Rattle.lane_world.specs.Worlds.{WorldOf}
 use Rattle.lane_world.specs.declared.WorldPass.{WorldPass}
@@ -40,14 +40,12 @@ use Rattle.lane_world.proofs.Kept.{told_notes}
 use Rattle.std.proofs.lemmas.Simd.{map-map}
 use Rattle.std.proofs.lemmas.List.{append-nil, take_all, map-append}
 use Rattle.lane_notes.specs.declared.notes.WriteNote.{WriteNote}
-use Rattle.std.proofs.lemmas.Bool.{eqb-true}
-use Rattle.lane_world.proofs.PartLists.{falls_on}
 use Rattle.timer_objects.specs.Known.{ObjectsPass}
-use Rattle.call_laws.proofs.Entering.{place_of, EntersNotes, place_told}
+use Rattle.call_laws.proofs.Entering.{EntersNotes, own_places, place_told}
+use Rattle.run_history.specs.Objects.{present}
+use Rattle.lane_notes.proofs.Receipts.{present-append}
 use Rattle.pass_names.proofs.Passes.{begins_length}
-use Rattle.std.proofs.Common.{true, false, nat_eq, if◌then◌else◌}
-use Rattle.run_history.specs.Actions.{numbers_of_object}
-use Rattle.run_history.specs.Told.{object_called, object_stamp_in, stamps_on}
+use Rattle.std.proofs.Common.{false}
 use Rattle.clock_model.specs.declared.write.Write.{Write}
 use Rattle.clock_cell.specs.Views.{reading_after}
 use Rattle.seq_timer.specs.Systems.{openings}
@@ -63,27 +61,62 @@ count_permuted : {A : Type 0} (p : A → Bool) (xs ys : List A) → IsPermutatio
 count_permuted p xs ys is =
     omega (arith, fold_total (λ x. one_if (p x)) 0 xs, fold_total (λ x. one_if (p x)) 0 ys, sum_by-IsPermutation (λ x. one_if (p x)) xs ys is)
 
--- law: the places of a call's receipts are those of its notes, which tell the same in another order and have no write among them
-pub places_told : (s : Script) (mine new : List (ℕ × ℕ)) (notes : List PlacedEntry) (added : NotesOf) → new ≡ mine ++ map (place_of s) notes
-    → IsPermutation (map receipt notes) (entries_told added) → added.writes ≡ [] → (i n : ℕ)
+-- whether a place is this one, where there is one
+abbrev is_told_place : ℕ → ℕ → Option (ℕ × ℕ) → Bool
+is_told_place i n None = false
+is_told_place i n (Some p) = is_place i n p
+
+count_present : (i n : ℕ) (ps : List (Option (ℕ × ℕ))) → count (is_place i n) (present ps) ≡ count (is_told_place i n) ps
+count_present i n [] = refl
+count_present i n (None ∷ ps) = omega (arith, count_present i n ps)
+count_present i n (Some p ∷ ps) = ap (λ k. one_if (is_place i n p) + k) (count_present i n ps)
+
+-- what is there of each, and of none
+each_there : {X Y : Type 0} (g : X → Option Y) (h : X → Y) → ((x : X) → g x ≡ Some (h x)) → (xs : List X) → present (map g xs) ≡ map h xs
+each_there g h is [] = refl
+each_there g h is (x ∷ xs) = ap (λ o. present (o ∷ map g xs)) (is x) ∙ ap (λ ys. h x ∷ ys) (each_there g h is xs)
+
+none_there : {X Y : Type 0} (g : X → Option Y) → ((x : X) → g x ≡ None) → (xs : List X) → present (map g xs) ≡ []
+none_there g is [] = refl
+none_there g is (x ∷ xs) = ap (λ o. present (o ∷ map g xs)) (is x) ∙ none_there g is xs
+
+-- the places that notes tell, of those of each kind
+places_in : (s : Script) (notes : NotesOf)
+    → present (map (place_told s) (entries_told notes)) ≡ map note_place notes.entries ++ map (base_note_place (length s.timers)) notes.bases
+places_in s notes =
+    let place = λ (n : ToldNote). place_told s (told_in n) in
+    let parts : {X : Type 0} (xs ys : List ToldNote) → present (map place (xs ++ ys)) ≡ present (map place xs) ++ present (map place ys) =
+    λ xs ys. ap present (map-append place xs ys) ∙ present-append (map place xs) (map place ys) in
+    let of : {X : Type 0} (make : X → ToldNote) (xs : List X) → present (map place (map make xs)) ≡ present (map (λ x. place (make x)) xs) =
+    λ make xs. ap present (map-map place make xs) in
+    let rises = map of_write notes.writes ++ map of_object notes.objects in
+    let none : present (map place rises) ≡ [] = parts {X = ToldNote} (map of_write notes.writes) (map of_object notes.objects)
+    ∙ ap (λ ps. ps ++ present (map place (map of_object notes.objects))) (of of_write notes.writes ∙ none_there (λ n. place (of_write n)) (λ n. refl) notes.writes)
+    ∙ of of_object notes.objects ∙ none_there (λ n. place (of_object n)) (λ n. refl) notes.objects in
+    ap present (map-map (place_told s) told_in (told_notes notes))
+    ∙ parts {X = ToldNote} (map of_entry notes.entries) (map of_base notes.bases ++ rises)
+    ∙ ap (λ ps. ps ++ present (map place (map of_base notes.bases ++ rises)))
+    (of of_entry notes.entries ∙ each_there (λ n. place (of_entry n)) note_place (λ n. refl) notes.entries)
+    ∙ ap (λ ps. map note_place notes.entries ++ ps) (parts {X = ToldNote} (map of_base notes.bases) rises
+    ∙ ap (λ ps. present (map place (map of_base notes.bases)) ++ ps) none ∙ append-nil (present (map place (map of_base notes.bases)))
+    ∙ of of_base notes.bases ∙ each_there (λ n. place (of_base n)) (base_note_place (length s.timers)) (λ n. refl) notes.bases)
+
+-- law: the places of a call's receipts are those of its notes, which tell the same in another order
+pub places_told : (s : Script) (mine new : List (ℕ × ℕ)) (notes : List PlacedEntry) (added : NotesOf) → new ≡ mine ++ own_places s notes
+    → IsPermutation (map receipt notes) (entries_told added) → (i n : ℕ)
     → count (is_place i n) new ≡ count (is_place i n) mine + places_noted (length s.timers) i n added
-places_told s mine new notes added is same none i n =
+places_told s mine new notes added is same i n =
     let test = is_place i n in
     let place = place_told s in
-    let of_notes : map place (entries_told added) ≡ map note_place added.entries ++ map (base_note_place (length s.timers)) added.bases =
-    map-map place told_in (told_notes added)
-    ∙ ap (λ (ws : List WriteNote). map (λ r. place (told_in r)) (map of_entry added.entries ++ (map of_base added.bases ++ map of_write ws))) none
-    ∙ ap (λ rs. map (λ r. place (told_in r)) (map of_entry added.entries ++ rs)) (append-nil (map of_base added.bases))
-    ∙ map-append (λ r. place (told_in r)) (map of_entry added.entries) (map of_base added.bases)
-    ∙ ap (λ ps. ps ++ map (λ r. place (told_in r)) (map of_base added.bases)) (map-map (λ r. place (told_in r)) of_entry added.entries)
-    ∙ ap (λ ps. map note_place added.entries ++ ps) (map-map (λ r. place (told_in r)) of_base added.bases) in
     omega (
       arith,
       ap (count test) is,
-      total-append (λ q. one_if (test q)) mine (map (place_of s) notes),
-      ap (count test) (map-map place receipt notes),
-      count_permuted test (map place (map receipt notes)) (map place (entries_told added)) (IsPermutation-map place _ _ same),
-      ap (count test) of_notes,
+      total-append (λ q. one_if (test q)) mine (own_places s notes),
+      ap (λ ps. count test (present ps)) (map-map place receipt notes),
+      count_present i n (map place (map receipt notes)),
+      count_present i n (map place (entries_told added)),
+      count_permuted (is_told_place i n) (map place (map receipt notes)) (map place (entries_told added)) (IsPermutation-map place _ _ same),
+      ap (count test) (places_in s added),
       total-append (λ q. one_if (test q)) (map note_place added.entries) (map (base_note_place (length s.timers)) added.bases),
     )
 
@@ -130,39 +163,14 @@ stand_from IsSo p q notes enters t so = record {
   shows = λ e follows. enters.shows e.run e.order follows.timers.0 follows.timers.1 (so e follows);
 }
 
--- ---- the stamp of an answer
-
--- an answer's stamp of an object is how many entries of it were seen
-abbrev pub IsStamp : ObjectsPass → Option ℕ → List ℕ → Type 0
-IsStamp q (Some i) (n ∷ ns) = (n ≡ length (seen_of q i)) × (ns ≡ [])
-IsStamp q on stamps = Unit
-
--- law: so it stands behind what the call did
-stamp_falls : (q : ObjectsPass) (low i : ℕ) (ns : List ℕ) (on : Option ℕ) (stamps : List ℕ) → NeverFall low ns (length (seen_of q i)) → IsStamp q on stamps
-    → NeverFall low (ns ++ stamps_on i on stamps) (length (seen_of q i))
-stamp_falls q low i ns on stamps fall is = falls_on low ns _ _ _ fall (by_object on stamps is)
-  where
-    stands : (m : ℕ) (stamps : List ℕ) → IsStamp q (Some i) stamps → m ≡ length (seen_of q i) → NeverFall m stamps m
-    stands m [] is same = omega arith
-    stands m (n ∷ ns) is same = subst (λ ns. NeverFall m (n ∷ ns) m) (sym is.1) (omega (arith, is.0, same), omega (arith, is.0, same))
-
-    by_object : (on : Option ℕ) (stamps : List ℕ) → IsStamp q on stamps → NeverFall (length (seen_of q i)) (stamps_on i on stamps) (length (seen_of q i))
-    by_object None stamps is = omega arith
-    by_object (Some j) stamps is = elim (nat_eq j i) as (λ b. nat_eq j i ≡ b → NeverFall (length (seen_of q i)) (if b then stamps else [])
-        (length (seen_of q i))) [
-          | true ↦ λ same. stands _ stamps (subst (λ k. IsStamp q (Some k) stamps) (eqb-true j i same) is) refl
-          | false ↦ λ other. omega arith
-        ] refl
-
 -- ---- the log
 
 -- law: what a lane keeps of a call that wrote nothing is right in itself
 pub logged_from : (p q : WorldPass) (notes : List PlacedEntry) (t : Trace) (call : Call) (a : Answer) → SeesOn p q → t.last ≡ length q.timers.known.seen
     → AreMade q.timers.known.seen (length p.timers.known.seen) (length q.timers.known.seen) notes → map receipt notes ≡ all_entered t.actions
     → t.at ≡ length (writes q.clock.knows) → wrote t.actions ≡ []
-    → ((i : ℕ) → NeverFall (length (seen_of p.objects i)) (numbers_of_object i t.actions) (length (seen_of q.objects i)))
-    → IsStamp q.objects (object_called call) (object_stamp_in a) → IsRightLog (log_of p q notes t) call a (seen_by p) (seen_by q)
-logged_from p q notes t call a sees last made are at none objects stamp =
+    → IsRightLog (log_of p q notes t) call a (seen_by p) (seen_by q)
+logged_from p q notes t call a sees last made are at none =
     let forward = begins_length sees.timers in
     let clock = begins_length sees.clock in
     record {
@@ -176,7 +184,6 @@ logged_from p q notes t call a sees last made are at none objects stamp =
       clock_steps = subst (λ ws. NeverFall (length (writes p.clock.knows)) (t.at ∷ map (λ x. x.0) ws) (length (writes q.clock.knows))) (sym none)
           (omega (arith, at, clock), omega (arith, at));
       move_steps = (omega arith, omega arith);
-      object_steps = λ i. stamp_falls q.objects _ i _ _ _ (objects i) stamp;
     }
 
 -- a call fits, by what its lane kept of it, in every run that goes on from there

@@ -1,16 +1,22 @@
 -- Entries that a call makes of a timer, as receipts: where they stand in what its pass has seen, and the record's entries that show them.
 use Rattle.hr_timers.proofs.Moments.{stamp_then}
-use Rattle.run_history.proofs.Lists.{all_at, each}
+use Rattle.run_history.proofs.Lists.{all_at, at_left, at_seam, each}
+use Rattle.run_history.specs.Objects.{present}
+use Rattle.lane_notes.proofs.Receipts.{present-append}
+use Rattle.base_row.specs.Plays.{RisesFrom}
+use Rattle.pass_names.specs.SharedHistory.{LooksOn}
+use Rattle.seq_timer.specs.declared.system.SystemEntry.TheVariants as entries
+use Rattle.std.proofs.lemmas.Option.{slice_get_within}
 use Rattle.run_history.proofs.Known.{behind_all}
 use Rattle.std.proofs.Common.{◌<◌, ◌≤◌}
-use Rattle.std.proofs.Common.{◌≡◌, ℕ, ◌+◌, List, [], ◌∷◌, ◌++◌, length, map, arith, refl, sym, ap, ◌∙◌, subst}
-use Rattle.std.specs.List.{AllByRecursion}
+use Rattle.std.proofs.Common.{◌≡◌, ℕ, ◌+◌, Option, None, Some, List, [], ◌∷◌, ◌++◌, length, map, take, arith, refl, sym, ap, ◌∙◌, subst}
+use Rattle.std.specs.List.{AllByRecursion, slice_get}
 use Rattle.std.proofs.lemmas.List.{append_assoc, append-nil, length-map, map-append}
 use Rattle.hr_timers.specs.Moves.{ShiftsBase}
 use Rattle.run_history.proofs.Known.{shift_made, shows_made_on}
 use Rattle.script_text.specs.Declarations.{declareds_of, terms_of}
 use Rattle.script_text.specs.declared.script.Script.{Script}
-use Rattle.seq_timer.specs.Systems.{shifts_of}
+use Rattle.seq_timer.specs.Systems.{rises_of, shifts_of}
 use Rattle.seq_timer.specs.declared.standing.BaseEvent.{BaseEvent}
 use Rattle.std.proofs.lemmas.Simd.{map-map}
 use Rattle.seq_timer.specs.declared.context.Terms.{Terms}
@@ -35,20 +41,20 @@ use Rattle.pass_names.proofs.Passes.{begins_trans, begins_length}
 
 -- ---- receipts between two moments of a pass
 
--- the place of an entry among a pass's own, by its receipt; a base's stand behind those of the timers, and a counter's are given numbers behind both
-abbrev pub place_told : Script → ℕ × Shown → ℕ × ℕ
-place_told s (number, OfTimer t entry) = (t, number)
-place_told s (number, OfBase b event) = (length s.timers + b, number)
-place_told s (number, OfRise k) = (length s.timers + s.bases + k, number)
+-- the place of an entry among a pass's own, by its receipt: a base's stand behind those of the timers, and a rise of a counter is no pass's own
+abbrev pub place_told : Script → ℕ × Shown → Option (ℕ × ℕ)
+place_told s (number, OfTimer t entry) = Some (t, number)
+place_told s (number, OfBase b event) = Some (length s.timers + b, number)
+place_told s (number, OfRise k) = None
 
-abbrev pub place_of : Script → PlacedEntry → ℕ × ℕ
-place_of s x = place_told s (receipt x)
+abbrev pub own_places : Script → List PlacedEntry → List (ℕ × ℕ)
+own_places s notes = present (map (λ x. place_told s (receipt x)) notes)
 
 -- Between two moments a pass made the entries of these receipts, and no others, and seen has gone on. A record shows them whose clock is so.
 pub record EntersNotes (s : Script) (IsSo : List ClockLine → Type 0) (v w : KnownOfTimers) (notes : List PlacedEntry) : Type 0 where
   pub seen : Begins v.seen w.seen
   pub made : AreMade w.seen (length v.seen) (length w.seen) notes
-  pub mine : w.mine ≡ v.mine ++ map (place_of s) notes
+  pub mine : w.mine ≡ v.mine ++ own_places s notes
   pub shows : (r : RunRecord) (order later : List SystemEntry) → order ≡ w.seen ++ later → IsSo r.clock → AllByRecursion (ShowsEntry r order) notes
 
 -- law: receipts of two parts of a call are those of both
@@ -59,7 +65,7 @@ enters-append {s = s} {u = u} {v = v} {w = w} {xs = xs} {ys = ys} one two = reco
   made = made-append w.seen (length u.seen) (length v.seen) (length w.seen) xs ys
       (made_goes_on w.seen v.seen two.seen.rest (length u.seen) (length v.seen) xs two.seen.whole one.made) two.made
       (begins_length one.seen) (begins_length two.seen);
-  mine = two.mine ∙ rw (one.mine, map-append (place_of s), append_assoc) refl;
+  mine = two.mine ∙ rw (one.mine, map-append (λ x. place_told s (receipt x)), present-append, append_assoc) refl;
   shows = λ r order later is so. All-append (ShowsEntry r order) xs ys
       (one.shows r order (two.seen.rest ++ later) (is ∙ rw (two.seen.whole, append_assoc) refl) so) (two.shows r order later is so);
 }
@@ -73,7 +79,7 @@ enters_none {v = v} {w = w} seen mine = record {
   shows = λ r order later is so. tt;
 }
 
-made_places : (s : Script) (t k : ℕ) (es : List seq.Entry) → places t k es ≡ map (place_told s) (numbered t k (map entry_stamped es))
+made_places : (s : Script) (t k : ℕ) (es : List seq.Entry) → places t k es ≡ present (map (place_told s) (numbered t k (map entry_stamped es)))
 made_places s t k [] = refl
 made_places s t k (e ∷ es) = ap (λ ps. (t, k + 1) ∷ ps) (made_places s t (k + 1) es)
 
@@ -97,8 +103,8 @@ enters_at s IsSo o {v = v} {w = w} {t = t} {x = x} {es = es} is made reads =
       record {
         seen = begins_trans made.from made.seen;
         made = made_wider w.seen (length v.seen) (length x) (length w.seen) (length w.seen) adds.0 (begins_length made.from) (omega arith) there;
-        mine = made.mine ∙ ap (λ ps. v.mine ++ ps) (made_places s t (count (TimersList t) x) es ∙ ap (map (place_told s)) (sym adds.2)
-            ∙ map-map (place_told s) receipt adds.0);
+        mine = made.mine ∙ ap (λ ps. v.mine ++ ps) (made_places s t (count (TimersList t) x) es
+            ∙ ap present (ap (map (place_told s)) (sym adds.2) ∙ map-map (place_told s) receipt adds.0));
         shows = λ r order later whole so. shows_made r order w.seen later t (timer_then o x t).stamp adds.0 es shown whole
             (subst (λ xs. AreEntries xs adds.0 (map (timers_entry t) es)) (sym made.seen.whole) adds.3) are (all_stamped_shown r.clock es (reads r.clock so));
       },
@@ -142,12 +148,51 @@ enters_shift {s = s} {v = v} {w = w} {base = base} {number = number} {event = ev
         made = subst (λ ns. AreMade w.seen (length v.seen) (length w.seen) ns) one.1
             (subst (λ xs. AreMade xs (length v.seen) (length xs) its.0) (sym shift.seen.whole) its.1);
         mine = shift.mine ∙ ap (λ n. v.mine ++ (n + base, length (shifts_of base v.seen) + 1) ∷ []) many
-            ∙ ap (λ n. v.mine ++ (length s.timers + base, n) ∷ []) (sym counted) ∙ ap (λ r. v.mine ++ place_told s r ∷ []) (sym one.2);
+            ∙ ap (λ n. v.mine ++ (length s.timers + base, n) ∷ []) (sym counted) ∙ ap (λ r. v.mine ++ present (place_told s r ∷ [])) (sym one.2);
         shows = λ r order later whole so. subst (AllByRecursion (ShowsEntry r order)) one.1
             (shows_made_on r order (v.seen ++ shift.seen.rest) later (length (shifts_of base v.seen)) its.0 _ (OfBase base event ∷ [])
             (whole ∙ ap (λ xs. xs ++ later) shift.seen.whole) its.3 its.2 refl);
       },
       one.2,
+    )
+
+-- law: so is a rise of a counter, by the exchange that raised it
+pub enters_rise : {s : Script} {IsSo : List ClockLine → Type 0} {v w : KnownOfTimers} (k n : ℕ) → LooksOn v w → RisesFrom k n v.seen w.seen
+    → EntersOne s IsSo v w (n + 1, OfRise k)
+enters_rise {v = v} {w = w} k n looks rises =
+    let place = length rises.before in
+    let note : PlacedEntry = record { place = place; number = n + 1; shown = OfRise k } in
+    let low = begins_length rises.seen in
+    let at : slice_get w.seen place ≡ Some (entries.Rise k) = ap (λ xs. slice_get xs place) rises.last ∙ at_seam rises.before [] (entries.Rise k) in
+    let high = slice_get_within w.seen place (entries.Rise k) at in (
+      note,
+      record {
+        seen = looks.seen;
+        made = record {
+          rise = (low, tt);
+          below = (high, tt);
+          made = (
+            record {
+              step = entries.Rise k;
+              there = at;
+              owner = refl;
+              number = ap (λ xs. rises_of k (take place xs) + 1) rises.last
+                  ∙ ap (λ xs. rises_of k xs + 1) (take-append_seam rises.before (entries.Rise k ∷ [])) ∙ ap (λ m. m + 1) rises.count;
+            },
+            tt,
+          );
+        };
+        mine = looks.mine ∙ sym (append-nil v.mine);
+        shows = λ r order later whole so. (
+          record {
+            step = entries.Rise k;
+            there = ap (λ xs. slice_get xs place) whole ∙ at_left w.seen later place (entries.Rise k) at;
+            entry = refl;
+          },
+          tt,
+        );
+      },
+      refl,
     )
 
 -- law: a call that made no entry of its timer saw more, and made none

@@ -104,7 +104,7 @@ module _ {s : Script} {x : WorldOf} {l m : LaneOf} {a : Answer} {context : Conte
       let is : IsLabel s l.label = slice_get_within (calls_of s l.label.lane) l.label.call next.at next.there in
       rw run.claimed (keeps_part next m (told (map (λ f. f.timer) run.fired))
       (expiring base c.reading.stamp (length l.pass.timers.known.seen) (length m.pass.timers.known.seen) run.fired) run.part (reading_goes_on l.pass m.pass c.reading c.reads)
-      (clock_left c.reads.same) (c.notes ∙ with_done-joins l.notes l.label (c.log ++ c.callback_log) c.object_log) refl c.reads.count tt
+      (clock_left c.reads.same) (c.notes ∙ with_done-joins l.notes l.label (c.log ++ c.callback_log) c.object_log) refl c.reads.count
       (λ e follows joined has kept low. fits e follows joined kept low
       (run.have e joined follows.timers follows.objects [] (λ i. tt)
       (λ i k before rest parts low high below behind. object_point_from joined is has i k before rest

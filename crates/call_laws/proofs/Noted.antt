@@ -1,15 +1,15 @@
 -- What a call noted, as its actions say it.
-use Rattle.std.proofs.Common.{◌≡◌, ℕ, ◌+◌, nat_eq, List, [], ◌∷◌, ◌++◌, map, refl, sym, ap, ◌∙◌, subst}
+use Rattle.std.proofs.Common.{◌≡◌, ℕ, suc, ◌+◌, nat_eq, List, [], ◌∷◌, ◌++◌, map, refl, sym, ap, ◌∙◌, subst}
 use Rattle.std.specs.List.{AllByRecursion}
 use Rattle.std.specs.List.Sorted.{IsPermutation}
-use Rattle.std.proofs.lemmas.List.{append-nil, map-append}
+use Rattle.std.proofs.lemmas.List.{append_assoc, append-nil, map-append}
 use Rattle.std.proofs.lemmas.List.Sorted.{IsPermutation-append, IsPermutation-cons, IsPermutation-map, IsPermutation-middle, IsPermutation-refl, IsPermutation-sym, IsPermutation-trans}
 use Rattle.seq_timer.specs.Histories as seq
 use Rattle.base_row.specs.Logs.{receipts_of}
 use Rattle.base_row.specs.declared.log.Receipt.{Receipt}
 use Rattle.timer_objects.specs.declared.log.ObjectReceipt.{ObjectReceipt}
 use Rattle.record_text.specs.declared.record.Label.{Label}
-use Rattle.run_history.specs.Actions.{Action, Entered, Looked, Made, Shifted, Skipped, Wrote, also, looked, made, numbers_of_object, skipped, wrote}
+use Rattle.run_history.specs.Actions.{Action, Entered, Looked, Made, Shifted, Skipped, Wrote, also, looked, made, skipped, wrote}
 use Rattle.run_history.specs.Traces.{all_entered}
 use Rattle.run_history.proofs.Known.{numbered}
 use Rattle.run_history.proofs.Stamped.{entry_stamped}
@@ -19,8 +19,8 @@ use Rattle.lane_notes.specs.Objects.{object_note, object_notes, skip_note, skip_
 use Rattle.lane_notes.proofs.Standing.{All-permuted}
 use Rattle.lane_world.specs.Called.{with_done, with_shift}
 use Rattle.seq_timer.specs.declared.standing.BaseEvent.{BaseEvent}
-use Rattle.run_history.specs.Witnesses.{OfBase, OfTimer, Shown}
-use Rattle.lane_world.proofs.Kept.{BaseNotes, EntryNotes, LookNotes, NoteKind, NoteOf, ObjectNotes, SkipNotes, WriteNotes, each_both, each_none, entries_told, label_of, list_of, looks_on, made_on, of_base, of_entry, of_write, skips_on, told_in}
+use Rattle.run_history.specs.Witnesses.{OfBase, OfRise, OfTimer}
+use Rattle.lane_world.proofs.Kept.{BaseNotes, EntryNotes, LookNotes, NoteKind, NoteOf, ObjectNotes, SkipNotes, WriteNotes, each_both, each_none, entries_told, label_of, list_of, looks_on, made_on, of_base, of_entry, of_object, of_write, skips_on, told_in, ToldNote}
 use Rattle.lane_world.proofs.PartLists.{both_noted-assoc, notes-append, notes_same, same_order}
 
 -- ---- of actions
@@ -77,25 +77,36 @@ noted_skips i label [] = refl
 noted_skips i label (Skipped j number generation ∷ ds) = ap (also (nat_eq j i) (number, generation)) (noted_skips i label ds)
 noted_skips i label (d ∷ ds) = noted_skips i label ds
 
--- law: the entries of timers and bases, in another order, where nothing was written
+-- what comes in front of two parts stands between them in another order
+in_middle : {X : Type 0} (this : X) (all xs ys whole : List X) → IsPermutation all (xs ++ ys) → whole ≡ xs ++ this ∷ ys → IsPermutation (this ∷ all) whole
+in_middle this all xs ys whole same is =
+    IsPermutation-trans (this ∷ all) (this ∷ (xs ++ ys)) whole (IsPermutation-cons this all (xs ++ ys) same)
+    (subst (IsPermutation (this ∷ (xs ++ ys))) (sym is) (IsPermutation-sym (xs ++ this ∷ ys) (this ∷ (xs ++ ys)) (IsPermutation-middle xs this ys)))
+
+-- law: the entries of timers, bases and objects, in another order, where nothing was written
 pub noted_entries : (label : Label) (ds : List Action) → wrote ds ≡ [] → IsPermutation (all_entered ds) (entries_told (noted_by label ds))
 noted_entries label [] none = IsPermutation-refl []
 noted_entries label (Entered timer number entry ∷ ds) none = IsPermutation-cons _ _ _ (noted_entries label ds none)
 noted_entries label (Wrote number write ∷ ds) none = absurd (cc)
 noted_entries label (Shifted base number event ∷ ds) none =
     let rest = noted_by label ds in
-    let this : ℕ × Shown = (number, OfBase base event) in
-    let xs = map told_in (map of_entry rest.entries) in
-    let others = map of_base rest.bases ++ map of_write rest.writes in
-    let ys = map told_in others in
+    let this = record { label = label; number = number; shown = OfBase base event } in
+    let others = map of_base rest.bases ++ (map of_write rest.writes ++ map of_object rest.objects) in
     let split = map-append told_in (map of_entry rest.entries) in
-    IsPermutation-trans (this ∷ all_entered ds) (this ∷ (xs ++ ys)) _
-    (IsPermutation-cons this (all_entered ds) (xs ++ ys) (subst (IsPermutation (all_entered ds)) (split others) (noted_entries label ds none)))
-    (subst (IsPermutation (this ∷ (xs ++ ys)))
-    (sym (split (map of_base (noted_by label (Shifted base number event ∷ ds)).bases ++ map of_write rest.writes)))
-    (IsPermutation-sym (xs ++ this ∷ ys) (this ∷ (xs ++ ys)) (IsPermutation-middle xs this ys)))
+    in_middle (told_in this) (all_entered ds) (map told_in (map of_entry rest.entries)) (map told_in others) _
+    (subst (IsPermutation (all_entered ds)) (split others) (noted_entries label ds none)) (split (this ∷ others))
 noted_entries label (Looked timer number reply ∷ ds) none = noted_entries label ds none
-noted_entries label (Made i number entry ∷ ds) none = noted_entries label ds none
+noted_entries label (Made i number entry ∷ ds) none =
+    let rest = noted_by label ds in
+    let this = record { label = label; number = number; shown = OfRise (suc i) } in
+    let es = map of_entry rest.entries in
+    let bs = map of_base rest.bases in
+    let ws = map of_write rest.writes in
+    let front = es ++ (bs ++ ws) in
+    let split : (os : List ToldNote) → map told_in (es ++ (bs ++ (ws ++ os))) ≡ map told_in front ++ map told_in os =
+    λ os. ap (map told_in) (ap (λ zs. es ++ zs) (sym (append_assoc bs ws os)) ∙ sym (append_assoc es (bs ++ ws) os)) ∙ map-append told_in front os in
+    in_middle (told_in this) (all_entered ds) (map told_in front) (map told_in (map of_object rest.objects)) _
+    (subst (IsPermutation (all_entered ds)) (split (map of_object rest.objects)) (noted_entries label ds none)) (split (this ∷ map of_object rest.objects))
 noted_entries label (Skipped i number generation ∷ ds) none = noted_entries label ds none
 
 -- law: no write's
@@ -135,7 +146,7 @@ module _ {a b : NotesOf} (same : SameNotes a b) where
   -- law: they tell the same entries
   pub told_same : IsPermutation (entries_told b) (entries_told a)
   told_same = IsPermutation-map told_in _ _ (IsPermutation-append _ _ _ _ (IsPermutation-map of_entry _ _ (IsPermutation-sym _ _ same.entries))
-      (same_order (ap (λ (n : NotesOf). map of_base n.bases ++ map of_write n.writes) (sym same.others))))
+      (same_order (ap (λ (n : NotesOf). map of_base n.bases ++ (map of_write n.writes ++ map of_object n.objects)) (sym same.others))))
 
 -- ---- of receipts
 
@@ -188,6 +199,6 @@ entered_all t k [] = refl
 entered_all t k (e ∷ es) = ap (λ xs. (k + 1, OfTimer t (entry_stamped e)) ∷ xs) (entered_all t (k + 1) es)
 
 -- law: they are no looks and of no object
-pub entered_only : (t k i : ℕ) (es : List seq.Entry) → let ds = entered_on t k es in (looked i ds ≡ []) × (made i ds ≡ []) × (numbers_of_object i ds ≡ [])
-entered_only t k i [] = (refl, refl, refl)
+pub entered_only : (t k i : ℕ) (es : List seq.Entry) → let ds = entered_on t k es in (looked i ds ≡ []) × (made i ds ≡ [])
+entered_only t k i [] = (refl, refl)
 entered_only t k i (e ∷ es) = entered_only t (k + 1) i es

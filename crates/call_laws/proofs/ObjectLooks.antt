@@ -1,9 +1,7 @@
 -- Looks at an object, as their lanes keep them: the overrun of a POSIX timer, and whether a descriptor is ready.
-use Rattle.call_laws.proofs.CallKept.{IsStamp}
 use Rattle.call_laws.proofs.Noted.{with_done-joins}
 use Rattle.call_laws.proofs.Parts.{part_seen}
 use Rattle.timer_objects.specs.Known.{seen_of}
-use Rattle.run_history.specs.Told.{object_called, object_stamp_in}
 use Rattle.std.proofs.Common.{◌≡◌, ℕ, List, [], length, refl, sym, ap, ◌∙◌, subst}
 use Rattle.clock_cell.specs.Views.{writes}
 use Rattle.counted_row.specs.Views.{StateAfter}
@@ -30,7 +28,7 @@ use Rattle.script_text.specs.declared.script.Kind.TheVariants as kinds
 use Rattle.script_text.specs.declared.script.Script.{Script}
 use Rattle.run_history.specs.Truths.{WasOffLine}
 use Rattle.run_history.specs.Runs.{witness_of, Ending}
-use Rattle.run_history.specs.Truths.{IsObjectPoint}
+use Rattle.run_history.specs.Truths.{HadEntries}
 use Rattle.lane_world.specs.Called.{CalledThen, lane_caller, CallsOverrun, gettime_told, LaneOf, with_done}
 use Rattle.lane_world.proofs.Kept.{Follows, IsNextCall, KeepsCall}
 use Rattle.lane_world.proofs.SeenMore.{begins_same}
@@ -38,7 +36,7 @@ use Rattle.lane_world.specs.Worlds.{WorldOf}
 use Rattle.call_laws.proofs.CallKept.{clock_left, LooksAtClock}
 use Rattle.lane_world.proofs.PartLists.{no_notes-joins}
 use Rattle.lane_world.proofs.ObjectSeen.{object_after, object_seen}
-use Rattle.call_laws.proofs.Sights.{DoesNothing, IsToldSo, keeps_sight, LooksOnly, point_seen, notes_alone}
+use Rattle.call_laws.proofs.Sights.{DoesNothing, entries_had, IsToldSo, keeps_sight, LooksOnly, notes_alone}
 use Rattle.call_laws.proofs.CallKept.{reading_of_seen}
 use Rattle.script_text.specs.declared.script.Kind.{Kind}
 use Rattle.record_text.specs.declared.record.RunRecord.{RunRecord}
@@ -50,20 +48,18 @@ module _ {s : Script} {x : WorldOf} {l : LaneOf} (m : LaneOf) {call : Call} (nex
     (looks : LooksAtObject (lane_caller l.pass [] []) (lane_caller m.pass log object_log) i object stamp)
     (clock : LooksAtClock l.pass m.pass) (notes : m.notes ≡ with_done l.notes l.label log object_log) where
   -- law: a lane keeps a call that looked at an object, where its answer holds of the object as the record has it after so many entries
-  pub keeps_look : (stamp ≡ length (seen_of m.pass.objects i) → IsStamp m.pass.objects (object_called call) (object_stamp_in a)) → DoesNothing s m call a
-      → ((e : Ending) → Follows m.pass e → IsObjectPoint (witness_of s e) l.label [] i stamp → object ≡ object_after s e.run i stamp (kind_of s i)
+  pub keeps_look : DoesNothing s m call a → ((e : Ending) → Follows m.pass e
+      → HadEntries (witness_of s e) i stamp (length m.pass.timers.known.seen) → object ≡ object_after s e.run i stamp (kind_of s i)
       → IsToldSo s l m call a e)
       → KeepsCall s l call a m
-  keeps_look stamps does seen =
+  keeps_look does seen =
       let only : LooksOnly s l m = record {
-        part = part_seen (begins_same (ap (λ k. k.seen) looks.timers)) (ap (λ k. k.mine) looks.timers) looks.reads.pass.seen looks.reads.pass.mine
-            looks.reads.opening;
+        part = part_seen looks.timers.seen looks.timers.mine looks.reads.pass.seen looks.reads.pass.mine looks.reads.opening;
         clock = clock;
         notes = notes_alone l m looks.log looks.object_log notes;
       } in
       let at = subst (λ made. StateAfter cell_meaning made i (seen_of m.pass.objects i) looks.reads.state) next.objects looks.reads.at in
-      keeps_sight next a only (stamps looks.stamp) does
-      (λ e follows joined has. seen e follows (point_seen next only _ refl i stamp looks.stamp e joined has)
+      keeps_sight next a only does (λ e follows joined has. seen e follows (entries_had i stamp m.pass.timers.known joined follows.timers looks.told)
       (looks.state ∙ object_seen s x next.world i (seen_of m.pass.objects i) looks.reads.state at e (follows.objects i)
       ∙ ap (λ n. object_after s e.run i n (kind_of s i)) (sym looks.stamp)))
 
@@ -83,7 +79,7 @@ pub keeps_overrun : {s : Script} {x : WorldOf} {l m : LaneOf} {a : Answer} {time
 keeps_overrun {s = s} {l = l} {m = m} {timer = timer} next c =
     subst (λ a. KeepsCall s l (calls.Overrun timer) a m) (sym c.told)
     (keeps_look m next (answers.Overrun c.found.overrun c.found.stamp) c.looks.1 (clock_left c.clock)
-    (c.notes ∙ no_notes-joins l.notes ∙ sym (with_done-joins l.notes l.label [] [])) (λ stamp. (stamp, refl)) (λ e. refl) (λ e follows point is. (
+    (c.notes ∙ no_notes-joins l.notes ∙ sym (with_done-joins l.notes l.label [] [])) (λ e. refl) (λ e follows point is. (
       point,
       ap (λ (u : PosixTimer). u.overrun) (sym (posix_looked s e.run timer c.found.stamp (kind_of s timer) is)) ∙ sym c.looks.2,
     )))
@@ -97,7 +93,7 @@ keeps_readable {s = s} {l = l} {m = m} {timer = timer} next called =
     let ws = writes m.pass.clock.knows in
     subst (λ a. KeepsCall s l (calls.Readable timer) a m) (sym c.does.1)
     (keeps_look m next (answers.Readable found.ready c.reading.stamp found.stamp) c.does.0.1 (clock_left c.reads.same)
-    c.notes (λ stamp. (stamp, refl)) (λ e. (refl, c.reads.count)) (λ e follows point is. (
+    c.notes (λ e. (refl, c.reads.count)) (λ e follows point is. (
       point,
       ap (λ u. is_readable u (reading_at e.run.clock (length ws))) (sym (fd_looked s e.run timer found.stamp (kind_of s timer) is))
           ∙ ap (is_readable c.does.0.0) (reading_of_seen e ws follows.clock ∙ sym c.reads.shows) ∙ sym c.does.0.2,
@@ -113,7 +109,7 @@ keeps_gettime-posix next kind (gettimes.Spent stamp) c = absurd c.does.0
 keeps_gettime-posix {s = s} {l = l} {m = m} {timer = timer} next kind (gettimes.Left left interval stamp) c =
     let ws = writes m.pass.clock.knows in
     subst (λ b. KeepsCall s l (calls.Gettime timer) b m) (sym c.does.1)
-    (keeps_look m next (answers.LeftAt left interval c.reading.stamp stamp) c.does.0.1 (clock_left c.reads.same) c.notes (λ stamp. (stamp, refl))
+    (keeps_look m next (answers.LeftAt left interval c.reading.stamp stamp) c.does.0.1 (clock_left c.reads.same) c.notes
     (λ e. let last = length m.pass.timers.known.seen in
     subst (λ k. DoesGettime (WasOffLine (witness_of s e) last last) s.limit k timer (length ws) (answers.LeftAt left interval c.reading.stamp stamp) [])
     (sym kind) (refl, c.reads.count))

@@ -1,9 +1,6 @@
 -- Calls that take a base off line or bring it on line again, as their lanes keep them.
 use Rattle.run_history.specs.Actions.{Action}
-use Rattle.run_history.specs.Told.{object_called}
-use Rattle.call_laws.proofs.CallKept.{IsStamp}
 use Rattle.call_laws.proofs.Sights.{DoesNothing, IsToldSo}
-use Rattle.run_history.specs.Told.{object_stamp_in}
 use Rattle.call_laws.proofs.Evacuated.{MovedAll}
 use Rattle.base_row.specs.declared.view.Opening.{Opening}
 use Rattle.lane_notes.specs.Notes.{NotesOf}
@@ -90,11 +87,11 @@ module _ {s : Script} {x : WorldOf} {l : LaneOf} {call : Call} (next : IsNextCal
   -- law: a lane keeps a call that only looked, and saw nothing more of bases, by how these stood before
   keeps_standing : (a : Answer) (looks : LooksOn l.pass.timers.known m.pass.timers.known)
       → ((b : ℕ) → shifts_of b seen ≡ shifts_of b l.pass.timers.known.seen) → m.pass.objects ≡ l.pass.objects → LooksAtClock l.pass m.pass
-      → m.notes ≡ l.notes → IsStamp m.pass.objects (object_called call) (object_stamp_in a) → DoesNothing s m call a → ((e : Ending)
+      → m.notes ≡ l.notes → DoesNothing s m call a → ((e : Ending)
       → ((b : ℕ) → standing_along (witness_of s e) (length seen) b ≡ standing_then x.timers.about l.pass.timers.known.seen b) → IsToldSo s l m call a e)
       → KeepsCall s l call a m
-  keeps_standing a looks same objects clock notes stamp does told =
-      keeps_sight next a (looks_alone looks.seen looks.mine objects clock notes) stamp does (λ e follows joined has.
+  keeps_standing a looks same objects clock notes does told =
+      keeps_sight next a (looks_alone looks.seen looks.mine objects clock notes) does (λ e follows joined has.
       told e (λ b. standing_stays next.world.timers joined seen follows.timers b
       ∙ after_entries-shifts_of (first_system x.timers.about.timers) b seen ∙ ap (standing_after_all first_standing) (same b)
       ∙ sym (after_entries-shifts_of (first_system x.timers.about.timers) b l.pass.timers.known.seen)))
@@ -143,7 +140,7 @@ module _ {s : Script} {x : WorldOf} {l : LaneOf} (m : LaneOf) {base heir budget 
   ended a last are joins does holds =
       keeps_part next m a (trace_of a) (part_as (ap (λ es. moves ++ es) (sym are))
       (part_alone objects (part_then (part_none {w = g.begins} g.looks.seen g.looks.mine) (part_then off.part last))))
-      (reading_goes_on l.pass m.pass reading reads) (clock_left reads.same) joins refl reads.count tt (λ e follows joined has kept low.
+      (reading_goes_on l.pass m.pass reading reads) (clock_left reads.same) joins refl reads.count (λ e follows joined has kept low.
       let goes = goes_before last.enters.seen follows.timers in
       offline_made base heir budget off.moved a kept low (does off.many e) (
         off.keeps e joined goes,
@@ -190,7 +187,7 @@ keeps_offline {s = s} {x = x} {l = l} {m = m} {base = base} {heir = heir} {budge
         → IsToldSo s l m (calls.Offline base heir budget) a e) → KeepsCall s l (calls.Offline base heir budget) a m
     quiet a only notes =
         keeps_standing next m a only.looks (only.keeps c.first) c.objects (clock_left c.reads.same)
-        (notes_alone l m (ap (λ (k : LogOf Receipt). k.receipts) only.sink ∙ c.empty) refl notes) tt
+        (notes_alone l m (ap (λ (k : LogOf Receipt). k.receipts) only.sink ∙ c.empty) refl notes)
 
     by_answer : (answer : OfflineAnswer) → OfflineFits kept o base heir c.reading l.pass.timers.known m.pass.timers.known budget answer c.fresh c.log
         → m.notes ≡ with_offline_told (with_done l.notes l.label c.log.receipts []) l.label base heir answer
@@ -198,9 +195,11 @@ keeps_offline {s = s} {x = x} {l = l} {m = m} {base = base} {heir = heir} {budge
     by_answer (offs.AlreadyOffline n) fits notes = quiet (answers.Already n) fits.0 notes (λ e. refl)
         (λ e now. (ap (λ (y : Standing). y.stamp) (now base) ∙ sym fits.2, subst (λ (y : Standing). IsSome y.heir) (sym (now base)) fits.1))
     by_answer (offs.HeirOffline n) fits notes = quiet (answers.HeirOffline n) fits.0 notes (λ e. refl)
-        (λ e now. (ap (λ (y : Standing). y.stamp) (now heir) ∙ sym fits.3, subst (λ (y : Standing). IsSome y.heir) (sym (now heir)) fits.2))
+        (λ e now. (ap (λ (y : Standing). y.stamp) (now heir) ∙ sym fits.3, subst (λ (y : Standing). IsSome y.heir) (sym (now heir)) fits.2,
+        ap (λ (y : Standing). y.heir) (now base) ∙ fits.1))
     by_answer (offs.BaseSpent n) fits notes = quiet (answers.BaseSpent n) fits.0 notes (λ e. refl)
-        (λ e now. (ap (λ (y : Standing). y.stamp) (now base) ∙ sym fits.4, ap (λ (y : Standing). y.heir) (now base) ∙ fits.1, fits.3))
+        (λ e now. (ap (λ (y : Standing). y.stamp) (now base) ∙ sym fits.4, ap (λ (y : Standing). y.heir) (now base) ∙ fits.1, fits.3,
+        ap (λ (y : Standing). y.heir) (now heir) ∙ fits.2))
     by_answer (offs.Busy n t g) fits notes =
         let end = fits.evacuates.last in
         ended_by_look m next c.reading c.reads c.objects c.empty fits (answers.OfflineBusy n t g) refl end.1.0.looks end.1.0.sink notes
@@ -262,11 +261,11 @@ keeps_online {s = s} {x = x} {l = l} {m = m} {base = base} next c =
     by_answer : (answer : OnlineAnswer) → OnlineFits x.timers.about l.pass.timers.known m.pass.timers.known base answer
         → m.notes ≡ with_online_told l.notes l.label base answer → KeepsCall s l (calls.Online base) (online_told answer) m
     by_answer (ons.AlreadyOnline n) fits notes =
-        keeps_standing next m (answers.Already n) fits.0 (fits.1 c.first) c.objects (clock_left c.clock) notes tt (λ e. refl)
+        keeps_standing next m (answers.Already n) fits.0 (fits.1 c.first) c.objects (clock_left c.clock) notes (λ e. refl)
         (λ e now. (ap (λ (y : Standing). y.stamp) (now base) ∙ sym fits.3, ap (λ (y : Standing). y.heir) (now base) ∙ fits.2))
     by_answer (ons.Online n) fits notes =
         keeps_part next m (answers.Online n)
         (plain (length (writes m.pass.clock.knows)) (length l.pass.timers.known.seen) (length m.pass.timers.known.seen) (Shifted base n shifts.Online ∷ []))
         (part_alone {IsSo = λ c. Unit} c.objects (part_shift _ _ _ (enters_shift (many_there next) fits.0 fits.1))) (λ e goes. tt) (clock_left c.clock)
-        (notes ∙ with_shift-joins l.notes l.label base n shifts.Online) refl refl tt
+        (notes ∙ with_shift-joins l.notes l.label base n shifts.Online) refl refl
         (λ e follows joined has kept low. online_made base n kept low)

@@ -19,13 +19,12 @@ use Rattle.std.specs.List.{AllByRecursion}
 use Rattle.std.proofs.lemmas.Option.{slice_get_within}
 use Rattle.lane_world.proofs.Kept.{IsNextCall, IsNoteSeen, list_of, EntryNotes, LookNotes, ObjectNotes, SkipNotes, BaseNotes, KeepsCall, log_of, SeesOn}
 use Rattle.lane_world.specs.Worlds.{WorldOf}
-use Rattle.call_laws.proofs.CallKept.{FitsOn, IsStamp, logged_from, LooksAtClock, places_told, promised_from, stand_from}
+use Rattle.call_laws.proofs.CallKept.{FitsOn, logged_from, LooksAtClock, places_told, promised_from, stand_from}
 use Rattle.call_laws.proofs.Noted.{each_same, noted_by, noted_bears, noted_entries, noted_looks, noted_made, noted_skips, noted_writes, one_noted, told_same}
 use Rattle.lane_notes.specs.Notes.{both_noted, NotesOf}
 use Rattle.lane_notes.specs.declared.notes.WriteNote.{WriteNote}
 use Rattle.std.specs.List.Sorted.{IsPermutation}
 use Rattle.std.proofs.lemmas.List.Sorted.{IsPermutation-trans}
-use Rattle.run_history.specs.Told.{object_called, object_stamp_in}
 use Rattle.run_history.specs.Actions.{Action, Entered, Looked, Made, Shifted, Skipped, Wrote, wrote}
 use Rattle.hr_timers.specs.Known.{KnownOfTimers}
 use Rattle.timer_objects.specs.Known.{ObjectsPass}
@@ -63,7 +62,6 @@ noted_seen IsSo p q notes t label so k (d ∷ ds) each =
       record {
         before = is.before;
         number = is.is;
-        inside = (is.behind, slice_get_within (seen_of q.objects i) is.before is.step is.there);
         step = is.step;
         there = is.there;
         shows = λ e goes. is.shows e.run.clock (so e goes);
@@ -83,8 +81,8 @@ pub keeps_part : {s : Script} {x : WorldOf} {l : LaneOf} {call : Call} {IsSo : L
     → IsPart s IsSo l.label l.pass.timers.known l.pass.objects m.pass.timers.known m.pass.objects t.actions notes added
     → ((e : Ending) → promises.GoesOnClock (writes m.pass.clock.knows) e → IsSo e.run.clock) → LooksAtClock l.pass m.pass
     → m.notes ≡ both_noted l.notes added → t.last ≡ length m.pass.timers.known.seen → t.at ≡ length (writes m.pass.clock.knows)
-    → IsStamp m.pass.objects (object_called call) (object_stamp_in a) → FitsOn s l m call a notes t → KeepsCall s l call a m
-keeps_part {s = s} {l = l} {call = call} {IsSo = IsSo} {notes = notes} {added = added} next m a t part so clock joins last at stamp fits =
+    → FitsOn s l m call a notes t → KeepsCall s l call a m
+keeps_part {s = s} {l = l} {call = call} {IsSo = IsSo} {notes = notes} {added = added} next m a t part so clock joins last at fits =
     let p = l.pass in
     let q = m.pass in
     let label = l.label in
@@ -115,7 +113,7 @@ keeps_part {s = s} {l = l} {call = call} {IsSo = IsSo} {notes = notes} {added = 
       };
       few = omega (arith, ap length no_writes);
       places = record {
-        timers = places_told s p.timers.known.mine q.timers.known.mine notes added part.enters.mine told no_writes;
+        timers = places_told s p.timers.known.mine q.timers.known.mine notes added part.enters.mine told;
         objects = λ i k. ap (count (is_place i k)) (part.mine ∙ ap (λ (n : NotesOf). p.objects.knows.pass.mine ++ map object_place n.objects) (sym others))
             ∙ total-append (λ u. one_if (is_place i k u)) p.objects.knows.pass.mine (map object_place added.objects);
         clock = λ k.
@@ -125,5 +123,5 @@ keeps_part {s = s} {l = l} {call = call} {IsSo = IsSo} {notes = notes} {added = 
       seen = λ k. each_same part.told k _ (noted_seen IsSo p q notes t label so k t.actions part.each);
       stand = stand_from IsSo p q notes part.enters t (λ e follows. so e follows.clock);
       promised = promised_from next m notes t a
-          (logged_from p q notes t call a sees last part.enters.made part.are at none part.steps stamp) fits;
+          (logged_from p q notes t call a sees last part.enters.made part.are at none) fits;
     }

@@ -1,6 +1,6 @@
 -- Parts of a call, one behind the other: their actions, with their receipts and notes.
 use Rattle.call_laws.proofs.Noted.{same-trans}
-use Rattle.std.proofs.Common.{Bool, ◌≡◌, ◌≤◌, ◌<◌, ℕ, ◌+◌, Some, List, [], ◌∷◌, ◌++◌, length, map, arith, refl, sym, ap, ◌∙◌, subst, None, length-append}
+use Rattle.std.proofs.Common.{Bool, ◌≡◌, ◌≤◌, ◌<◌, ℕ, suc, ◌+◌, Some, List, [], ◌∷◌, ◌++◌, length, map, arith, refl, sym, ap, ◌∙◌, subst, None, length-append}
 use Rattle.std.specs.List.{AllByRecursion, slice_get}
 use Rattle.std.proofs.lemmas.List.{append_assoc, append-nil, map-append}
 use Rattle.pass_names.specs.Passes.{Begins, GoesOn, Adds}
@@ -16,10 +16,9 @@ use Rattle.timer_objects.specs.Known.{ObjectsPass, seen_of}
 use Rattle.timer_objects.specs.declared.log.ObjectReceipt.{ObjectReceipt}
 use Rattle.record_text.specs.declared.record.ClockLine.{ClockLine}
 use Rattle.record_text.specs.declared.record.Label.{Label}
-use Rattle.run_history.specs.Actions.{Action, Entered, looked, Looked, Made, made, numbers_of_object}
+use Rattle.run_history.specs.Actions.{Action, Entered, looked, Looked, Made, made}
 use Rattle.run_history.specs.Histories.{reading_at}
 use Rattle.ktime.specs.Readings.{ClockReading}
-use Rattle.run_history.specs.Order.{NeverFall}
 use Rattle.lane_notes.specs.Objects.{object_entry_noted, skip_generation}
 use Rattle.lane_notes.specs.declared.notes.ObjectNote.{ObjectNote}
 use Rattle.run_history.specs.Receipts.{count, PlacedEntry, receipt}
@@ -34,7 +33,7 @@ use Rattle.call_laws.proofs.Noted.{entered_all, entered_noted, entered_on, enter
 use Rattle.lane_notes.specs.Notes.{both_noted, no_notes, NotesOf}
 use Rattle.script_text.specs.Declarations.{declareds_of, terms_of}
 use Rattle.run_history.specs.Actions.{Shifted, Skipped, Wrote}
-use Rattle.run_history.specs.Witnesses.{OfBase}
+use Rattle.run_history.specs.Witnesses.{OfBase, OfRise}
 use Rattle.lane_world.proofs.PartLists.{no_notes-joins}
 use Rattle.lane_world.proofs.SeenMore.{stands_on}
 use Rattle.run_history.proofs.Stamped.{HaveReadings}
@@ -42,7 +41,7 @@ use Rattle.pass_names.proofs.Passes.{begins_length, begins_trans}
 use Rattle.record_text.specs.declared.record.ObjectEntry.{ObjectEntry}
 use Rattle.timer_objects.specs.declared.object.ObjectCall.{ObjectCall}
 use Rattle.timer_objects.specs.declared.object.ObjectReply.{ObjectReply}
-use Rattle.lane_world.proofs.PartLists.{each_joined, falls_on, looked-append, numbers-append, one_falls, one_rises, rises_on, RisesTo}
+use Rattle.lane_world.proofs.PartLists.{each_joined, looked-append, one_rises, rises_on, RisesTo}
 use Rattle.seq_timer.specs.Events.{Event}
 use Rattle.seq_timer.specs.declared.observation.Observation.{Observation}
 use Rattle.hr_timers.specs.declared.numbers.ClaimNumbers.{ClaimNumbers}
@@ -118,7 +117,6 @@ pub record IsPart (s : Script) (IsSo : List ClockLine → Type 0) (label : Label
   pub each : AllByRecursion (IsActionSeen IsSo p w q) actions
   pub looks_rise : (t : ℕ) → RisesTo (count (TimersList t) v.seen + 1) (looked t actions) (count (TimersList t) w.seen + 1)
   pub rise : (i : ℕ) → RisesTo (length (seen_of p i) + 1) (made i actions) (length (seen_of q i) + 1)
-  pub steps : (i : ℕ) → NeverFall (length (seen_of p i)) (numbers_of_object i actions) (length (seen_of q i))
 
 -- what passes of objects have seen goes on
 pub objects_grow : (p q : ObjectsPass) → GoesOn p.knows.pass.seen q.knows.pass.seen → (i : ℕ) → length (seen_of p i) ≤ length (seen_of q i)
@@ -161,7 +159,6 @@ module _ {s : Script} {IsSo : List ClockLine → Type 0} {label : Label} where
     each = tt;
     looks_rise = λ t. none_between (count_begins (TimersList t) seen);
     rise = λ i. none_between (objects_grow p q goes_on i);
-    steps = λ i. objects_grow p q goes_on i;
   }
 
   -- law: the same where objects were left alone
@@ -172,7 +169,7 @@ module _ {s : Script} {IsSo : List ClockLine → Type 0} {label : Label} where
   -- a part that made entries of timers and bases, and nothing else
   timers_only : {v : KnownOfTimers} {p : ObjectsPass} {w : KnownOfTimers} {ds : List Action} {notes : List PlacedEntry} {added : NotesOf}
       → EntersNotes s IsSo v w notes → map receipt notes ≡ all_entered ds → added ≡ noted_by label ds → (noted_by label ds).objects ≡ []
-      → AllByRecursion (IsActionSeen IsSo p w p) ds → ((i : ℕ) → (looked i ds ≡ []) × (made i ds ≡ []) × (numbers_of_object i ds ≡ []))
+      → AllByRecursion (IsActionSeen IsSo p w p) ds → ((i : ℕ) → (looked i ds ≡ []) × (made i ds ≡ []))
       → IsPart s IsSo label v p w p ds notes added
   timers_only {p = p} enters are told none each only = record {
     enters = enters;
@@ -184,7 +181,6 @@ module _ {s : Script} {IsSo : List ClockLine → Type 0} {label : Label} where
     each = each;
     looks_rise = λ i. rw (only i).0 (none_between (count_begins (TimersList i) enters.seen));
     rise = λ i. rw (only i).1 (none_between (omega arith));
-    steps = λ i. rw (only i).2 (omega arith);
   }
 
   -- law: the entries that a call made of a timer at a moment, with a receipt of each
@@ -209,27 +205,28 @@ module _ {s : Script} {IsSo : List ClockLine → Type 0} {label : Label} where
   pub part_entry : {v : KnownOfTimers} {p : ObjectsPass} {w : KnownOfTimers} (t number : ℕ) (entry : Entry)
       (one : EntersOne s IsSo v w (number, OfTimer t entry))
       → IsPart s IsSo label v p w p (Entered t number entry ∷ []) (one.0 ∷ []) (one_noted label (Entered t number entry))
-  part_entry t number entry one = timers_only one.1 (ap (λ (x : ℕ × Shown). x ∷ []) one.2) refl refl (tt, tt) (λ i. (refl, refl, refl))
+  part_entry t number entry one = timers_only one.1 (ap (λ (x : ℕ × Shown). x ∷ []) one.2) refl refl (tt, tt) (λ i. (refl, refl))
 
   -- law: one of a base
   pub part_shift : {v : KnownOfTimers} {p : ObjectsPass} {w : KnownOfTimers} (b number : ℕ) (event : BaseEvent)
       (one : EntersOne s IsSo v w (number, OfBase b event))
       → IsPart s IsSo label v p w p (Shifted b number event ∷ []) (one.0 ∷ []) (one_noted label (Shifted b number event))
-  part_shift b number event one = timers_only one.1 (ap (λ (x : ℕ × Shown). x ∷ []) one.2) refl refl (tt, tt) (λ i. (refl, refl, refl))
+  part_shift b number event one = timers_only one.1 (ap (λ (x : ℕ × Shown). x ∷ []) one.2) refl refl (tt, tt) (λ i. (refl, refl))
 
-  -- law: an entry of an object
-  pub part_made : {v : KnownOfTimers} {p q : ObjectsPass} {id : ℕ} {step : ObjectMove} {entry : ObjectEntry}
+  -- law: an entry of an object, with the rise of its counter
+  pub part_made : {v w : KnownOfTimers} {p q : ObjectsPass} {id : ℕ} {step : ObjectMove} {entry : ObjectEntry}
       (adds : Adds p.knows.pass q.knows.pass id (step ∷ [])) → q.knows.opening ≡ p.knows.opening → IsNotedAs IsSo step.call.call step.reply entry
-      → let number = length adds.before + 1 in IsPart s IsSo label v p v q (Made id number entry ∷ []) []
+      → let number = length adds.before + 1 in (one : EntersOne s IsSo v w (number, OfRise (suc id)))
+      → IsPart s IsSo label v p w q (Made id number entry ∷ []) (one.0 ∷ [])
       (notes_of label [] (record { object = id; number = number; call = step.call; reply = step.reply } ∷ []))
-  part_made {p = p} {q = q} {id = id} {step = step} {entry = entry} adds opening as_noted =
+  part_made {p = p} {q = q} {id = id} {step = step} {entry = entry} adds opening as_noted one =
       let many = length adds.before in
       let now : length (seen_of q id) ≡ many + 1 = omega (arith, ap length adds.last, length-append adds.before (step ∷ [])) in
       let behind = begins_length adds.begins in
       let grows = objects_grow p q adds.seen in
       record {
-        enters = enters_none (begins_same refl) refl;
-        are = refl;
+        enters = one.1;
+        are = ap (λ (r : ℕ × Shown). r ∷ []) one.2;
         told = same_notes (rw (as_noted.noted, as_noted.no_skip) refl);
         goes_on = adds.seen;
         opening = opening;
@@ -238,10 +235,9 @@ module _ {s : Script} {IsSo : List ClockLine → Type 0} {label : Label} where
           record { before = many; is = refl; behind = behind; step = step; there = rw adds.last (at_seam adds.before [] step); shows = as_noted.shows },
           tt,
         );
-        looks_rise = λ t. none_between (omega arith);
+        looks_rise = λ t. none_between (count_begins (TimersList t) one.1.seen);
         rise = one_rises id (many + 1) entry (λ i. length (seen_of p i) + 1) (λ i. length (seen_of q i) + 1) (omega (arith, behind)) (omega (arith, now))
             (λ i. let le = grows i in omega (arith, le));
-        steps = one_falls id (many + 1) (λ i. length (seen_of p i)) (λ i. length (seen_of q i)) (omega (arith, behind)) (omega (arith, now)) grows;
       }
 
   -- law: a part behind another makes one part
@@ -259,7 +255,6 @@ module _ {s : Script} {IsSo : List ClockLine → Type 0} {label : Label} where
         (done_in IsSo o p q q w w one.goes_on (record { each = λ i. begins_same refl }) (begins_same refl)) one.each two.each;
     looks_rise = λ t. rw (looked-append t ds es) (rises_on (one.looks_rise t) (two.looks_rise t));
     rise = λ i. rw (made-append i ds es) (rises_on (one.rise i) (two.rise i));
-    steps = λ i. rw (numbers-append i ds es) (falls_on _ _ _ _ _ (one.steps i) (two.steps i));
   }
 
   -- law: a part of actions, of objects and of notes that are the same, these but for the order of entries of timers
@@ -283,7 +278,6 @@ module _ {s : Script} {IsSo : List ClockLine → Type 0} {label : Label} where
     each = part.each;
     looks_rise = part.looks_rise;
     rise = part.rise;
-    steps = part.steps;
   }
 
   -- law: so do their receipts
@@ -371,5 +365,4 @@ module _ {s : Script} {label : Label} {base : ℕ} {c : ClaimNumbers} {reading :
         looks_rise = one_rises c.timer number reply (λ t. count (TimersList t) k.seen + 1) (λ t. count (TimersList t) w.seen + 1)
             (omega (arith, claim.more, low)) (omega (arith, high)) (λ t. let le = count_begins (TimersList t) claimed.enters.seen in omega (arith, le));
         rise = claimed.rise;
-        steps = claimed.steps;
       }

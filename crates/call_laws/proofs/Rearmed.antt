@@ -54,42 +54,36 @@ wanted_timely rearmings.Reading (objects.Fd t) reading wanted is =
 wanted_timely rearmings.Getting (objects.Fd t) reading wanted is = next_timely t.phase t.interval reading wanted is
 wanted_timely r object reading wanted is = absurd (cc)
 
--- what such a call did to its timer, from where it had found it on, and its span
-pub record RearmPart (s : Script) (x : WorldOf) (l : LaneOf) (t : ℕ) (w : KnownOfTimers) (base : ℕ) (reading : ClockReading) (arm : Arm) (span : Span)
+-- what such a call did to its timer, from where it had found it on, behind the moment at which it took the object
+pub record RearmPart (s : Script) (x : WorldOf) (l : LaneOf) (t : ℕ) (v w : KnownOfTimers) (base : ℕ) (reading : ClockReading) (arm : Arm)
     (log : List Receipt) : Type 0 where
   pub begin : KnownOfTimers
+  pub behind : Begins v.seen begin.seen
   pub ns : ℕ
   pub timely : ns ≤ last_time
   pub does : TimerPart s x l t begin w modes.Keep ns base reading arm None log
-  pub spans : IsRearmSpan (timer_then x.timers.about begin.seen t) (timer_then x.timers.about w.seen t) arm span.from span.to
 
 -- law: a start that is wanted where the timer has expired, or none, is a part of the call
-pub rearm_part : {s : Script} {x : WorldOf} {l : LaneOf} {call : Call} (next : IsNextCall s x l call) (t : ℕ) (reading : ClockReading) {w : KnownOfTimers}
+pub rearm_part : {s : Script} {x : WorldOf} {l : LaneOf} {call : Call} (next : IsNextCall s x l call) (t : ℕ) (reading : ClockReading) {v w : KnownOfTimers}
     {base : ℕ} {span : Span} {log : List Receipt} (last : ℕ) (wanted : Option Wanted) (arm : Arm) → ((its : Wanted) → wanted ≡ Some its → IsTimely its)
-    → RearmsFor x.timers.about l.pass.timers.known w t last wanted base reading arm span [] log → RearmPart s x l t w base reading arm span log
-rearm_part {s = s} {x = x} {l = l} next t reading {w = w} {base = base} {span = span} {log = log} last None arm timely r =
-    let now = timer_then x.timers.about w.seen t in
-    let seen : now.running ≡ None → now.stamp ≤ span.from =
-    λ none. let from = r.1.from ∙ ap (λ k. quiet_at last k now.stamp) none in omega (arith, from) in
-    let does = start_none next t reading {cancel = None} [] r.1.looks.seen r.1.looks.mine ([], part_none (begins_same refl) refl) modes.Keep 0 refl r.2 in
-    subst (λ a. RearmPart s x l t w base reading a span log) (sym r.0)
-    (record { begin = w; ns = 0; timely = omega arith; does = does; spans = (sym r.1.to, seen) })
-rearm_part {s = s} {x = x} {l = l} next t reading {w = w} {base = base} {span = span} {log = log} last (Some wanted) arm timely r =
+    → LooksOn l.pass.timers.known v → RearmsFor x.timers.about v w t last wanted base reading arm span [] log → RearmPart s x l t v w base reading arm log
+rearm_part {s = s} {x = x} {l = l} next t reading {v = v} {w = w} {base = base} {log = log} last None arm timely found r =
+    let looks = r.1.looks in
+    let does = start_none next t reading {cancel = None} [] (begins_trans found.seen looks.seen) (looks.mine ∙ found.mine) ([], part_none (begins_same refl) refl)
+    modes.Keep 0 refl r.2 in
+    subst (λ a. RearmPart s x l t v w base reading a log) (sym r.0)
+    (record { begin = w; behind = looks.seen; ns = 0; timely = omega arith; does = does })
+rearm_part {s = s} {x = x} {l = l} next t reading {v = v} {w = w} {base = base} {log = log} last (Some wanted) arm timely found r =
     let its = timely wanted refl in
     record {
       begin = r.begin;
+      behind = r.looks.seen;
       ns = wanted.ns;
       timely = its.1;
       does = subst (λ k. TimerPart s x l t r.begin w k wanted.ns base reading arm None log) its.0
-          (start_part next t reading {cancel = None} [] r.looks.seen r.looks.mine ([], part_none (begins_same refl) refl) r.starts);
-      spans = subst (λ a. IsRearmSpan (timer_then x.timers.about r.begin.seen t) (timer_then x.timers.about w.seen t) a span.from span.to)
-          (sym r.starts.outcome) (spans r.starts.answer);
+          (start_part next t reading {cancel = None} [] (begins_trans found.seen r.looks.seen) (r.looks.mine ∙ found.mine)
+          ([], part_none (begins_same refl) refl) r.starts);
     }
-  where
-    spans : (a : StartAnswer)
-        → IsRearmSpan (timer_then x.timers.about r.begin.seen t) (timer_then x.timers.about w.seen t) (arm_of a) span.from span.to
-    spans (starts.Spent n) = (r.from, r.to)
-    spans a = (r.from, r.to)
 
 -- law: the object's phase after the call has its timer's start
 pub like_restart : (o : Opening) (k : KnownOfTimers) (t : ℕ) (arm : Arm) (phase : Phase) → BearsRestart o k t arm phase

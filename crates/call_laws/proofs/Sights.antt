@@ -1,6 +1,6 @@
 -- Calls on objects that make no entry: a lane keeps a call that looked at timers and objects only, and one that found its object's history full.
 use Rattle.call_laws.proofs.Parts.{part_alone, part_as}
-use Rattle.std.proofs.Common.{◌≡◌, ◌≤◌, ℕ, List, [], length, arith, refl, sym, ap, ◌∙◌, subst}
+use Rattle.std.proofs.Common.{◌≡◌, ◌≤◌, ℕ, suc, List, [], length, arith, refl, sym, ap, ◌∙◌, subst}
 use Rattle.std.proofs.lemmas.Option.{slice_get_within}
 use Rattle.clock_cell.specs.Views.{writes}
 use Rattle.pass_names.specs.Passes.{Begins}
@@ -11,7 +11,6 @@ use Rattle.timer_objects.specs.Calls.{Caller, FindsFull}
 use Rattle.timer_objects.specs.Known.{seen_of}
 use Rattle.timer_objects.specs.declared.log.ObjectReceipt.{ObjectReceipt}
 use Rattle.record_text.specs.declared.record.Answer.{Answer}
-use Rattle.run_history.specs.Told.{object_called, object_stamp_in}
 use Rattle.run_history.specs.Order.{calls_of, IsLabel}
 use Rattle.script_text.specs.declared.script.Call.{Call}
 use Rattle.script_text.specs.declared.script.Script.{Script}
@@ -19,9 +18,10 @@ use Rattle.run_history.specs.Calls.{Does}
 use Rattle.run_history.specs.Witnesses.{Trace}
 use Rattle.run_history.specs.Promises.{HasLog}
 use Rattle.run_history.specs.Runs.{witness_of, Ending, IsJoined}
-use Rattle.run_history.specs.Truths.{IsObjectPoint, AnswerHolds, SawFull, WasOffLine}
+use Rattle.run_history.specs.Truths.{AnswerHolds, HadEntries, SawFull, WasOffLine}
+use Rattle.timer_objects.specs.Turns as timer_turns
+use Rattle.hr_timers.specs.Known.{KnownOfTimers}
 use Rattle.run_history.proofs.OthersMade.{plain, quiet_made}
-use Rattle.run_history.proofs.Promise.{object_point_from}
 use Rattle.lane_world.specs.Called.{lane_caller, LaneOf, with_done}
 use Rattle.lane_world.proofs.Kept.{Follows, IsNextCall, KeepsCall, log_of}
 use Rattle.lane_world.proofs.SeenMore.{begins_same}
@@ -37,14 +37,13 @@ use Rattle.record_text.specs.declared.record.Answer.TheVariants as answers
 use Rattle.record_text.specs.declared.record.ClockLine.{ClockLine}
 use Rattle.run_history.specs.Actions.{made}
 use Rattle.script_text.specs.declared.script.Call.TheVariants as calls
-use Rattle.run_history.specs.Promises.{GoesOnClock}
+use Rattle.run_history.specs.Promises.{GoesOn, GoesOnClock}
 use Rattle.run_history.specs.Receipts.{PlacedEntry}
 use Rattle.lane_world.specs.Called.{CallsPeek}
 use Rattle.call_laws.proofs.Entering.{looks_made}
 use Rattle.run_history.proofs.Stamped.{HaveReadings}
 use Rattle.call_laws.proofs.CallKept.{opened_timers}
 use Rattle.call_laws.proofs.Parts.{part_at}
-use Rattle.call_laws.proofs.CallKept.{IsStamp}
 use Rattle.call_laws.proofs.Noted.{entered_on, with_done-joins}
 use Rattle.call_laws.proofs.Parts.{objects_grow}
 use Rattle.call_laws.proofs.Stays.{saw_quiet}
@@ -80,14 +79,10 @@ notes_alone l m {object_log = object_log} none no_objects notes =
     notes ∙ ap (λ rs. with_done l.notes l.label rs object_log) none ∙ ap (λ rs. with_done l.notes l.label [] rs) no_objects
     ∙ with_done-joins l.notes l.label [] [] ∙ sym (no_notes-joins l.notes)
 
--- law: what it saw of an object is a number of entries that the call may have seen
-pub point_seen : {s : Script} {x : WorldOf} {l m : LaneOf} {call : Call} (next : IsNextCall s x l call) → LooksOnly s l m → (t : Trace) → t.actions ≡ []
-    → (i n : ℕ) → n ≡ length (seen_of m.pass.objects i) → (e : Ending) → IsJoined s e → HasLog e l.label (log_of l.pass m.pass [] t)
-    → IsObjectPoint (witness_of s e) l.label [] i n
-point_seen {s = s} {l = l} {m = m} next only t none i n number e joined has =
-    let is : IsLabel s l.label = slice_get_within (calls_of s l.label.lane) l.label.call next.at next.there in
-    object_point_from joined is has i n [] [] none (omega (arith, (objects_grow l.pass.objects m.pass.objects only.part.goes_on i), number))
-    (omega (arith, number)) tt tt
+-- law: the timers' pass was told of so many entries of an object, which had as many then
+pub entries_had : {s : Script} {e : Ending} (i n : ℕ) (k : KnownOfTimers) → IsJoined s e → GoesOn k.seen e → timer_turns.entries_told i k ≡ n
+    → HadEntries (witness_of s e) i n (length k.seen)
+entries_had i n k joined goes told = rises_along (suc i) k.seen joined goes ∙ told
 
 -- ---- the call
 
@@ -97,7 +92,7 @@ looking m = plain (length (writes m.pass.clock.knows)) (length m.pass.timers.kno
 
 -- law: a lane keeps a call that only looked, where it fits in every run that goes on from what it saw
 pub keeps_looking : {s : Script} {x : WorldOf} {l m : LaneOf} {call : Call} (next : IsNextCall s x l call) (a : Answer) → LooksOnly s l m
-    → IsStamp m.pass.objects (object_called call) (object_stamp_in a) → FitsOn s l m call a [] (looking m) → KeepsCall s l call a m
+    → FitsOn s l m call a [] (looking m) → KeepsCall s l call a m
 keeps_looking {l = l} {m = m} next a only =
     keeps_part next m a (looking m) only.part (λ e goes. tt) only.clock (only.notes ∙ no_notes-joins l.notes) refl refl
 
@@ -114,36 +109,36 @@ DoesNothing s m call a =
 
 -- law: the same where it is so in every such run
 pub keeps_sight : {s : Script} {x : WorldOf} {l m : LaneOf} {call : Call} (next : IsNextCall s x l call) (a : Answer) → LooksOnly s l m
-    → IsStamp m.pass.objects (object_called call) (object_stamp_in a) → DoesNothing s m call a
+    → DoesNothing s m call a
     → ((e : Ending) → Follows m.pass e → IsJoined s e → HasLog e l.label (log_of l.pass m.pass [] (looking m)) → IsToldSo s l m call a e)
     → KeepsCall s l call a m
-keeps_sight next a only stamp does seen =
-    keeps_looking next a only stamp (λ e follows joined has kept low. quiet_made kept (does e) (seen e follows joined has))
+keeps_sight next a only does seen =
+    keeps_looking next a only (λ e follows joined has kept low. quiet_made kept (does e) (seen e follows joined has))
 
 -- law: a lane keeps a call on an object that found its history full
 pub keeps_full : {s : Script} {x : WorldOf} {l m : LaneOf} {call : Call} {log : List Receipt} {object_log : List ObjectReceipt}
     (next : IsNextCall s x l call) (a : Answer) (i n : ℕ) → FindsFull x.objects (lane_caller l.pass [] []) (lane_caller m.pass log object_log) i n
     → LooksAtClock l.pass m.pass → m.notes ≡ with_done l.notes l.label log object_log
-    → (n ≡ length (seen_of m.pass.objects i) → IsStamp m.pass.objects (object_called call) (object_stamp_in a)) → DoesNothing s m call a
-    → ((e : Ending) → SawFull (witness_of s e) l.label [] i n → IsToldSo s l m call a e) → KeepsCall s l call a m
-keeps_full {s = s} {l = l} {m = m} {call = call} next a i n full clock notes stamp does seen =
+    → DoesNothing s m call a → ((e : Ending) → SawFull (witness_of s e) i n (length m.pass.timers.known.seen) → IsToldSo s l m call a e)
+    → KeepsCall s l call a m
+keeps_full {s = s} {l = l} {m = m} {call = call} next a i n full clock notes does seen =
     let only : LooksOnly s l m = record {
       part = part_seen full.looks.seen full.looks.mine full.reads.pass.seen full.reads.pass.mine full.reads.opening;
       clock = clock;
       notes = notes_alone l m full.log full.object_log notes;
     } in
-    keeps_sight next a only (stamp full.stamp) does
-    (λ e follows joined has. seen e (point_seen next only _ refl i n full.stamp e joined has, subst (λ k. k ≤ n) next.world.limit full.full))
+    keeps_sight next a only does (λ e follows joined has.
+    seen e (entries_had i n m.pass.timers.known joined follows.timers full.told, subst (λ k. k ≤ n) next.world.limit full.full))
 
 -- law: a lane keeps a call on an object after which nothing of timers, objects and logs is other than before
 pub keeps_same : {s : Script} {x : WorldOf} {l m : LaneOf} {call : Call} {log : List Receipt} {object_log : List ObjectReceipt}
     (next : IsNextCall s x l call) (a : Answer) → lane_caller m.pass log object_log ≡ lane_caller l.pass [] [] → LooksAtClock l.pass m.pass
-    → m.notes ≡ with_done l.notes l.label log object_log → IsStamp m.pass.objects (object_called call) (object_stamp_in a) → DoesNothing s m call a
+    → m.notes ≡ with_done l.notes l.label log object_log → DoesNothing s m call a
     → ((e : Ending) → IsToldSo s l m call a e) → KeepsCall s l call a m
-keeps_same {l = l} {m = m} next a same clock notes stamp does seen =
+keeps_same {l = l} {m = m} next a same clock notes does seen =
     keeps_sight next a (looks_alone (begins_same (ap (λ (c : Caller). c.timers.seen) same)) (ap (λ (c : Caller). c.timers.mine) same)
     (ap (λ (c : Caller). c.objects) same) clock
-    (notes_alone l m (ap (λ (c : Caller). c.log) same) (ap (λ (c : Caller). c.object_log) same) notes)) stamp does (λ e follows joined has. seen e)
+    (notes_alone l m (ap (λ (c : Caller). c.log) same) (ap (λ (c : Caller). c.object_log) same) notes)) does (λ e follows joined has. seen e)
 
 -- law: a lane keeps a call that made entries of a timer at a moment and nothing else, where it fits in every run that goes on from there
 pub keeps_entered : {s : Script} {x : WorldOf} {l : LaneOf} {call : Call} (IsSo : List ClockLine → Type 0) {timer : ℕ} {at : List SystemEntry}
@@ -152,12 +147,11 @@ pub keeps_entered : {s : Script} {x : WorldOf} {l : LaneOf} {call : Call} (IsSo 
     → LooksAtClock l.pass m.pass → m.pass.objects ≡ l.pass.objects
     → m.notes ≡ with_done l.notes l.label (receipts_of timer (timer_then x.timers.about at timer).stamp es) []
     → t.actions ≡ entered_on timer (timer_then x.timers.about at timer).stamp es → t.last ≡ length m.pass.timers.known.seen
-    → t.at ≡ length (writes m.pass.clock.knows) → IsStamp m.pass.objects (object_called call) (object_stamp_in a)
-    → ((notes : List PlacedEntry) → FitsOn s l m call a notes t) → KeepsCall s l call a m
-keeps_entered {s = s} {x = x} {l = l} IsSo {timer = timer} {at = moment} {es = es} next m a t made reads so clock objects joins are last at stamp fits =
+    → t.at ≡ length (writes m.pass.clock.knows) → ((notes : List PlacedEntry) → FitsOn s l m call a notes t) → KeepsCall s l call a m
+keeps_entered {s = s} {x = x} {l = l} IsSo {timer = timer} {at = moment} {es = es} next m a t made reads so clock objects joins are last at fits =
     let part = part_at {s = s} {IsSo = IsSo} {label = l.label} x.timers.about {p = l.pass.objects} (opened_timers next) made reads in
     keeps_part next m a t (part_as (sym are) (part_alone objects part.1)) so clock
-    (joins ∙ with_done-joins l.notes l.label (receipts_of timer (timer_then x.timers.about moment timer).stamp es) []) last at stamp (fits part.0)
+    (joins ∙ with_done-joins l.notes l.label (receipts_of timer (timer_then x.timers.about moment timer).stamp es) []) last at (fits part.0)
 
 -- ---- peek
 
@@ -168,5 +162,5 @@ keeps_peek {s = s} {l = l} {m = m} {timer = timer} next c =
     let made = c.peeks.made in
     subst (λ a. KeepsCall s l (calls.Peek timer) a m) (sym c.told)
     (keeps_sight next (answers.Peek c.seen.stamp c.seen.base c.seen.enqueued c.seen.running c.seen.moving)
-    (looks_at made c.objects (clock_left c.clock) c.notes) tt (λ e. refl) (λ e follows joined has.
+    (looks_at made c.objects (clock_left c.clock) c.notes) (λ e. refl) (λ e follows joined has.
     saw_quiet next.world.timers joined follows.timers made c.seen.stamp (observations.Peek c.seen) (ap (λ p. p.stamp) c.peeks.fits) c.peeks.fits))

@@ -80,7 +80,7 @@ refused_kept : {s : Script} {x : WorldOf} {b m : LaneOf} {write : Write} (next :
 refused_kept {b = b} {m = m} {write = write} next (faults.ClockRange would_be) refused same notes =
     let ws = writes m.pass.clock.knows in
     let cause = (refused.range would_be).0 refl in
-    keeps_sight next (answers.Range would_be) (looks_same b m same notes) tt (λ e. refl) (λ e follows joined has. record {
+    keeps_sight next (answers.Range would_be) (looks_same b m same notes) (λ e. refl) (λ e follows joined has. record {
       counted = omega (arith, writes_within e ws follows.clock, follows.few);
       late = cause.1;
       greatest = cause.2 ∙ ap (λ r. greatest (after_write r write)) (sym (reading_of_seen e ws follows.clock));
@@ -88,7 +88,7 @@ refused_kept {b = b} {m = m} {write = write} next (faults.ClockRange would_be) r
 refused_kept {b = b} {m = m} next faults.ClockSpent refused same notes =
     let ws = writes m.pass.clock.knows in
     let full : last_stamp ≤ (seen_reading m.pass.clock.knows).stamp = refused.spent.0 refl in
-    keeps_looking next answers.ClockSpent (looks_same b m same notes) tt
+    keeps_looking next answers.ClockSpent (looks_same b m same notes)
     (λ e follows joined has kept low. absurd (omega (arith, full, stamp_after ws, writes_within e ws follows.clock, follows.few)))
 
 -- ---- one that it took
@@ -182,7 +182,6 @@ module _ (s : Script) (x : WorldOf) (l m : LaneOf) (write : Write) (next : IsNex
     writes = (omega (arith, number), tt);
     clock_steps = (behind, (omega (arith, number), omega (arith, w.count)));
     move_steps = (omega arith, omega arith);
-    object_steps = λ i. begins_length (sees.objects.each i);
   }
 
   shown : reading_after (take r.stamp ws) ≡ r

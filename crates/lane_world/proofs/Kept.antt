@@ -2,7 +2,7 @@
 -- from what the lane's passes have seen.
 use Rattle.std.specs.List.{AllByRecursion, slice_get}
 use Rattle.std.specs.List.Sorted.{IsPermutation}
-use Rattle.std.proofs.Common.{ℕ, ◌≡◌, ◌≤◌, ◌<◌, ◌+◌, nat_eq, Some, List, [], ◌∷◌, length, map, take, ◌++◌, filter}
+use Rattle.std.proofs.Common.{ℕ, suc, ◌≡◌, ◌≤◌, ◌<◌, ◌+◌, nat_eq, Some, List, [], ◌∷◌, length, map, take, ◌++◌, filter}
 use Rattle.clock_cell.specs.Views.{reading_after, writes}
 use Rattle.clock_model.specs.Clocks.{last_stamp}
 use Rattle.lane_notes.specs.Notes.{NotesOf, both_noted, no_notes}
@@ -43,7 +43,7 @@ use Rattle.lane_world.specs.Runs.{AreObjectLines, ObjectMove, ShowsObjectCall}
 
 -- how much a lane's passes have seen of each list
 abbrev pub seen_by : WorldPass → Seen
-seen_by p = record { clock = length (writes p.clock.knows); moves = length p.timers.known.seen; objects = λ i. length (seen_of p.objects i) }
+seen_by p = record { clock = length (writes p.clock.knows); moves = length p.timers.known.seen }
 
 -- of each list what was seen goes on, and the objects are the same
 pub record SeesOn (p q : WorldPass) : Type 0 where
@@ -59,7 +59,6 @@ log_of p q notes trace = record {
   trace = trace;
   moves = (length p.timers.known.seen, length q.timers.known.seen);
   clock = (length (writes p.clock.knows), length (writes q.clock.knows));
-  objects = λ i. (length (seen_of p.objects i), length (seen_of q.objects i));
 }
 
 -- ---- the runs in which a lane may still end
@@ -68,7 +67,7 @@ log_of p q notes trace = record {
 pub record FollowsObject (e : Ending) (i : ℕ) (seen : List ObjectMove) : Type 0 where
   pub history : List ObjectMove
   pub goes_on : Begins seen history
-  pub lines : AreObjectLines e.run.clock (e.spans i) 1 history (lines_of_object e.run i)
+  pub lines : AreObjectLines e.run.clock history (lines_of_object e.run i)
 
 -- the run goes on from all that a lane's passes have seen, and the clock had taken fewer writes than it counts
 pub record Follows (p : WorldPass) (e : Ending) : Type 0 where
@@ -137,7 +136,7 @@ own_notes c notes = record {
   writes = filter (λ n. is_label c n.line.label) notes.writes;
 }
 
--- a note of an entry, of a timer's or of a base's, or of a write of the clock
+-- a note of an entry, of a timer's, a base's or an object's, or of a write of the clock
 pub record ToldNote : Type 0 where
   pub label : Label
   pub number : ℕ
@@ -149,12 +148,15 @@ of_entry n = record { label = n.label; number = n.number; shown = OfTimer n.time
 abbrev pub of_base : BaseNote → ToldNote
 of_base n = record { label = n.label; number = n.number; shown = OfBase n.base n.event }
 
+abbrev pub of_object : ObjectNote → ToldNote
+of_object n = record { label = n.label; number = n.number; shown = OfRise (suc n.object) }
+
 abbrev pub of_write : WriteNote → ToldNote
 of_write n = record { label = n.line.label; number = n.stamp; shown = OfRise 0 }
 
 -- all of them
 abbrev pub told_notes : NotesOf → List ToldNote
-told_notes notes = map of_entry notes.entries ++ (map of_base notes.bases ++ map of_write notes.writes)
+told_notes notes = map of_entry notes.entries ++ (map of_base notes.bases ++ (map of_write notes.writes ++ map of_object notes.objects))
 
 -- what such a note says but for its label
 abbrev pub told_in : ToldNote → ℕ × Shown
@@ -225,11 +227,10 @@ pub record IsWriteLeft (q : WorldPass) (log : CallLog) (n : WriteNote) : Type 0 
   pub there : slice_get (writes q.clock.knows) before ≡ Some n.line.write
   pub shows : ShowsReading n.line (reading_after (take n.stamp (writes q.clock.knows)))
 
--- the entry of a note stands in what was seen of its object, in its call's span, and every record shows it that has these readings
-pub record IsObjectLeft (q : WorldPass) (log : CallLog) (n : ObjectNote) : Type 0 where
+-- the entry of a note stands in what was seen of its object, and every record shows it that has these readings
+pub record IsObjectLeft (q : WorldPass) (n : ObjectNote) : Type 0 where
   pub before : ℕ
   pub number : before + 1 ≡ n.number
-  pub inside : ((log.objects n.object).0 ≤ before) × (before < (log.objects n.object).1)
   pub step : ObjectMove
   pub there : slice_get (seen_of q.objects n.object) before ≡ Some step
   pub shows : (e : Ending) → GoesOnClock (writes q.clock.knows) e → ShowsObjectCall e.run.clock step.call.call step.reply n.entry
@@ -239,7 +240,7 @@ pub record IsObjectLeft (q : WorldPass) (log : CallLog) (n : ObjectNote) : Type 
 abbrev pub IsNoteSeen : (k : NoteKind) → WorldPass → CallLog → NoteOf k → Type 0
 IsNoteSeen EntryNotes q log n = Unit
 IsNoteSeen LookNotes q log n = (0 < n.number) × (n.number ≤ receipts.count (TimersList n.timer) q.timers.known.seen)
-IsNoteSeen ObjectNotes q log n = IsObjectLeft q log n
+IsNoteSeen ObjectNotes q log n = IsObjectLeft q n
 IsNoteSeen SkipNotes q log n = (0 < n.number) × (n.number ≤ length (seen_of q.objects n.object))
 IsNoteSeen BaseNotes q log n = Unit
 IsNoteSeen WriteNotes q log n = IsWriteLeft q log n

@@ -1,13 +1,13 @@
 -- What all lanes leave together at the end of a run: of each call what its lane kept, all notes, and what the last passes have seen.
-use Rattle.std.specs.List.{AllByRecursion, slice_get}
-use Rattle.std.specs.Prelude.{ℕ, ◌≡◌, ◌≤◌, ◌<◌, ◌-◌, Option, None, Some, List, [], get_or, length}
+use Rattle.std.specs.List.{AllByRecursion}
+use Rattle.std.specs.Prelude.{ℕ, ◌≡◌, ◌≤◌, ◌<◌, List, [], get_or, length}
 use Rattle.clock_cell.specs.Views.{writes}
 use Rattle.clock_model.specs.Clocks.{last_stamp}
 use Rattle.lane_notes.specs.Notes.{NotesOf}
 use Rattle.record_text.specs.declared.record.Label.{Label}
 use Rattle.record_text.specs.declared.record.RunRecord.{RunRecord}
 use Rattle.run_history.specs.Promises.{HasLog}
-use Rattle.run_history.specs.Runs.{CallLog, Ending, IsJoined, RoundStarts, witness_of, clock_spans, moves_spans, object_spans}
+use Rattle.run_history.specs.Runs.{CallLog, Ending, IsJoined, RoundStarts, witness_of, clock_spans, moves_spans}
 use Rattle.run_history.specs.Rounds.{IsLedger}
 use Rattle.run_history.specs.Fits.{FitsLane, unseen}
 use Rattle.run_history.specs.Order.{calls_of, IsLabel}
@@ -16,7 +16,7 @@ use Rattle.script_text.specs.declared.script.Script.{Script}
 use Rattle.record_text.specs.declared.record.Answer.{Answer}
 use Rattle.seq_timer.specs.Systems.{rises_of}
 use Rattle.timer_objects.specs.Known.{seen_of}
-use Rattle.lane_world.specs.Runs.{ObjectMove}
+use Rattle.timer_objects.specs.Turns.{entries_told}
 use Rattle.lane_world.proofs.Kept.{Follows, IsNoteSeen, NoteKind, StandAt, Tallies, TellLog, label_of, list_of, own_notes}
 use Rattle.lane_world.specs.Worlds.{AreLast, ArePassesOf, IsWhole, IsWorldOf, WorldOf}
 use Rattle.lane_world.specs.declared.WorldPass.{WorldPass}
@@ -41,33 +41,21 @@ pub record AreLastOf (s : Script) (x : WorldOf) (q : WorldPass) : Type 0 where
   pub last : AreLast q
   -- of the counter for the clock's writes the timers' pass was told of just as many rises as the clock took writes
   pub told : rises_of 0 q.timers.known.seen ≡ length (writes q.clock.knows)
+  -- and of those for objects' entries of no more than the objects have
+  pub no_more : (i : ℕ) → i < length s.timers → entries_told i q.timers.known ≤ length (seen_of q.objects i)
 
 -- ---- the run
 
--- the span of an object's entry, where there is one
-abbrev pub span_of : Option ObjectMove → ℕ × ℕ
-span_of None = (0, 0)
-span_of (Some h) = (h.call.from, h.call.to)
-
--- a run with this record: the order of all timers' and bases' entries and the clock's writes, and the spans of objects' entries, are as the last passes have
--- seen them
+-- a run with this record: the order of all entries is as the last passes have seen it
 abbrev pub ending_of : RunRecord → WorldPass → (Label → CallLog) → RoundStarts → Ending
-ending_of r q logs starts = record {
-  run = r;
-  order = q.timers.known.seen;
-  logs = logs;
-  spans = λ i number. span_of (slice_get (seen_of q.objects i) (number - 1));
-  starts = starts;
-}
+ending_of r q logs starts = record { run = r; order = q.timers.known.seen; logs = logs; starts = starts }
 
 -- where calls stand by rounds, and what lanes promise, whatever the record
 pub record AreByRounds (s : Script) (q : WorldPass) (logs : Label → CallLog) (starts : RoundStarts) (answers : List (List Answer)) : Type 0 where
   pub moves : (r : RunRecord) → IsLedger s (moves_spans (ending_of r q logs starts))
   pub clock : (r : RunRecord) → IsLedger s (clock_spans (ending_of r q logs starts))
-  pub objects : (r : RunRecord) (i : ℕ) → IsLedger s (object_spans (ending_of r q logs starts) i)
   pub moves_most : (c : Label) → IsLabel s c → (logs c).moves.1 ≤ length q.timers.known.seen
   pub clock_most : (c : Label) → IsLabel s c → (logs c).clock.1 ≤ length (writes q.clock.knows)
-  pub objects_most : (i : ℕ) (c : Label) → IsLabel s c → ((logs c).objects i).1 ≤ length (seen_of q.objects i)
   pub lanes : length answers ≡ s.lanes
   pub calls : (e : Ending) → Follows q e → ((c : Label) → HasLog e c (logs c)) → IsJoined s e → (lane : ℕ)
       → FitsLane (witness_of s e) lane 0 unseen (calls_of s lane) (get_or answers lane [])

@@ -40,12 +40,6 @@ use Rattle.timer_fd.specs.declared.calls.Reply as fd_reply
 use Rattle.std.specs.List.{AllByRecursion}
 use Rattle.lane_world.specs.Worlds.{decl_as, IsWorldOf, WorldOf}
 use Rattle.lane_world.proofs.Declared.{declared_in, no_decl}
-use Rattle.std.proofs.Common.{arith}
-use Rattle.std.specs.List.{slice_get}
-use Rattle.std.proofs.lemmas.Option.{same_Some}
-use Rattle.timer_objects.specs.Known.{ObjectsPass, seen_of}
-use Rattle.run_history.proofs.Lists.{at_left}
-use Rattle.std.proofs.Math.Nat.{add_comm}
 use Rattle.record_text.specs.declared.record.RunRecord.{RunRecord}
 
 take_none : {A : Type 0} (xs : List A) → take 0 xs ≡ []
@@ -104,36 +98,36 @@ raw_leads : (last : ℕ) (log : List ObjectMove) (cell : ObjectCell) → Leads c
 raw_leads last [] cell leads = ap (λ (c : ObjectCell). c.object) leads
 raw_leads last (e ∷ es) cell leads = absurd leads.0.allowed
 
-module _ {S C R : Type 0} (k : LineKind S C R) (clock : List ClockLine) (spans : ℕ → ℕ × ℕ) where
+module _ {S C R : Type 0} (k : LineKind S C R) (clock : List ClockLine) where
   -- the calls that lines tell, with their answers
   abbrev pub calls_in : List ObjectLine → List (AnsweredCall C R)
   calls_in lines = present (map (k.entry_of clock) (map (λ line. line.entry) lines))
 
   -- law: an object after calls that the first of these lines show is that after the calls that these lines tell
-  pub leads_to : (number : ℕ) (t : S) (last : ℕ) (log rest : List ObjectMove) (lines : List ObjectLine) (cell : ObjectCell)
-      → Leads cell_meaning (record { object = k.object t; last = last }) log cell → AreObjectLines clock spans number (log ++ rest) lines
+  pub leads_to : (t : S) (last : ℕ) (log rest : List ObjectMove) (lines : List ObjectLine) (cell : ObjectCell)
+      → Leads cell_meaning (record { object = k.object t; last = last }) log cell → AreObjectLines clock (log ++ rest) lines
       → cell.object ≡ k.object (after_calls k.table t (take (length log) (calls_in lines)))
-  leads_to number t last [] rest lines cell leads are =
+  leads_to t last [] rest lines cell leads are =
       ap (λ (c : ObjectCell). c.object) leads ∙ ap (λ xs. k.object (after_calls k.table t xs)) (sym (take_none (calls_in lines)))
-  leads_to number t last (e ∷ es) rest [] cell leads are = absurd are
-  leads_to number t last (e ∷ es) rest (line ∷ lines) cell leads are =
+  leads_to t last (e ∷ es) rest [] cell leads are = absurd are
+  leads_to t last (e ∷ es) rest (line ∷ lines) cell leads are =
       let one = k.told clock t e.call.call e.reply line.entry leads.0.allowed leads.1 are.0 in
-      leads_to (number + 1) (k.table.next t one.0.call) e.call.to es rest lines cell
-      (subst (λ o. Leads cell_meaning (record { object = o; last = e.call.to }) es cell) one.4 leads.2) are.2
+      leads_to (k.table.next t one.0.call) e.call.to es rest lines cell
+      (subst (λ o. Leads cell_meaning (record { object = o; last = e.call.to }) es cell) one.4 leads.2) are.1
       ∙ ap (λ o. k.object (after_calls k.table t (take (suc (length es)) (present (o ∷ map (k.entry_of clock) (map (λ (y : ObjectLine). y.entry) lines))))))
       (sym one.1)
 
   -- law: lines that show all calls of an object are a legal history of it
-  pub legal : (number : ℕ) (t : S) (last : ℕ) (to : ObjectCell) (hs : List ObjectMove) (lines : List ObjectLine)
-      → Leads cell_meaning (record { object = k.object t; last = last }) hs to → AreObjectLines clock spans number hs lines
+  pub legal : (t : S) (last : ℕ) (to : ObjectCell) (hs : List ObjectMove) (lines : List ObjectLine)
+      → Leads cell_meaning (record { object = k.object t; last = last }) hs to → AreObjectLines clock hs lines
       → AllByRecursion (λ e. is_some (k.entry_of clock e) ≡ true) (map (λ line. line.entry) lines) × AreCalls k.table t (calls_in lines)
-  legal number t last to [] [] leads are = (tt, tt)
-  legal number t last to [] (line ∷ lines) leads are = absurd are
-  legal number t last to (h ∷ hs) [] leads are = absurd are
-  legal number t last to (h ∷ hs) (line ∷ lines) leads are =
+  legal t last to [] [] leads are = (tt, tt)
+  legal t last to [] (line ∷ lines) leads are = absurd are
+  legal t last to (h ∷ hs) [] leads are = absurd are
+  legal t last to (h ∷ hs) (line ∷ lines) leads are =
       let one = k.told clock t h.call.call h.reply line.entry leads.0.allowed leads.1 are.0 in
-      let rest = legal (number + 1) (k.table.next t one.0.call) h.call.to to hs lines
-      (subst (λ o. Leads cell_meaning (record { object = o; last = h.call.to }) hs to) one.4 leads.2) are.2 in (
+      let rest = legal (k.table.next t one.0.call) h.call.to to hs lines
+      (subst (λ o. Leads cell_meaning (record { object = o; last = h.call.to }) hs to) one.4 leads.2) are.1 in (
         (ap is_some one.1, rest.0),
         subst (λ o. AreCalls k.table t (present (o ∷ map (k.entry_of clock) (map (λ (y : ObjectLine). y.entry) lines)))) (sym one.1)
             (one.2, one.3, rest.1),
@@ -157,8 +151,8 @@ module _ (s : Script) (x : WorldOf) (world : IsWorldOf s x) (i : ℕ) (seen : Li
       ∙ ap (λ n. opened_cell n (decl_as k (clock_of s i))) world.limit) after.leads
 
   module _ (e : Ending) (follows : FollowsObject e i seen) where
-    shown : AreObjectLines e.run.clock (e.spans i) 1 (seen ++ follows.goes_on.rest) (lines_of_object e.run i)
-    shown = subst (λ hs. AreObjectLines e.run.clock (e.spans i) 1 hs (lines_of_object e.run i)) follows.goes_on.whole follows.lines
+    shown : AreObjectLines e.run.clock (seen ++ follows.goes_on.rest) (lines_of_object e.run i)
+    shown = subst (λ hs. AreObjectLines e.run.clock hs (lines_of_object e.run i)) follows.goes_on.whole follows.lines
 
     -- law: an object after what was seen of it is the record's after so many entries
     pub object_seen : cell.object ≡ object_after s e.run i (length seen) (kind_of s i)
@@ -167,25 +161,8 @@ module _ (s : Script) (x : WorldOf) (world : IsWorldOf s x) (i : ℕ) (seen : Li
         by_kind : (k : Kind) → kind_of s i ≡ k → cell.object ≡ object_after s e.run i (length seen) k
         by_kind (kinds.Raw context callback) is = raw_leads 0 seen cell (leads_from (kinds.Raw context callback) is)
         by_kind (kinds.Posix base) is =
-            leads_to posix_kind e.run.clock (e.spans i) 1 (posix_opening (clock_of s i) base s.limit) 0 seen follows.goes_on.rest
+            leads_to posix_kind e.run.clock (posix_opening (clock_of s i) base s.limit) 0 seen follows.goes_on.rest
             (lines_of_object e.run i) cell (leads_from (kinds.Posix base) is) shown
         by_kind (kinds.Fd base) is =
-            leads_to fd_kind e.run.clock (e.spans i) 1 (fd_opening (clock_of s i) base s.limit) 0 seen follows.goes_on.rest (lines_of_object e.run i)
+            leads_to fd_kind e.run.clock (fd_opening (clock_of s i) base s.limit) 0 seen follows.goes_on.rest (lines_of_object e.run i)
             cell (leads_from (kinds.Fd base) is) shown
-
--- law: the span that a run has of an object's entry is that of its call
-pub span_at : (clock : List ClockLine) (spans : ℕ → ℕ × ℕ) (k n : ℕ) (history : List ObjectMove) (lines : List ObjectLine) (h : ObjectMove)
-    → AreObjectLines clock spans k history lines → slice_get history n ≡ Some h → spans (k + n) ≡ (h.call.from, h.call.to)
-span_at clock spans k n [] lines h are there = absurd (cc)
-span_at clock spans k n (x ∷ xs) [] h are there = absurd are
-span_at clock spans k zero (x ∷ xs) (line ∷ lines) h are there =
-    let none : k + 0 ≡ k = omega arith in ap spans none ∙ are.1 ∙ ap (λ (m : ObjectMove). (m.call.from, m.call.to)) (same_Some x h there)
-span_at clock spans k (suc n) (x ∷ xs) (line ∷ lines) h are there =
-    let further : k + suc n ≡ k + 1 + n = omega arith in ap spans further ∙ span_at clock spans (k + 1) n xs lines h are.2 there
-
--- law: a run has the span of an object's entry that was made
-pub span_made : (q : ObjectsPass) (e : Ending) (i many : ℕ) (step : ObjectMove) → FollowsObject e i (seen_of q i) → slice_get (seen_of q i) many ≡ Some step
-    → e.spans i (many + 1) ≡ (step.call.from, step.call.to)
-span_made q e i many step follows there =
-    ap (e.spans i) (add_comm many 1) ∙ span_at e.run.clock (e.spans i) 1 many follows.history (lines_of_object e.run i) step follows.lines
-    (subst (λ ys. slice_get ys many ≡ Some step) (sym follows.goes_on.whole) (at_left (seen_of q i) follows.goes_on.rest many step there))

@@ -77,16 +77,6 @@ pub falls_lower : (low mid : ℕ) (xs : List ℕ) (high : ℕ) → low ≤ mid �
 falls_lower low mid [] high le fall = omega (arith, le, fall)
 falls_lower low mid (x ∷ xs) high le fall = (omega (arith, le, fall.0), fall.1)
 
--- numbers that never fall, and behind them others that never fall from there
-pub falls_on : (low : ℕ) (xs : List ℕ) (mid : ℕ) (ys : List ℕ) (high : ℕ) → NeverFall low xs mid → NeverFall mid ys high → NeverFall low (xs ++ ys) high
-falls_on low [] mid ys high one two = falls_lower low mid ys high one two
-falls_on low (x ∷ xs) mid ys high one two = (one.0, falls_on x xs mid ys high one.1 two)
-
--- law: one at most, in the list of this number
-pub one_falls : (i number : ℕ) (low high : ℕ → ℕ) → low i ≤ number → number ≤ high i → ((j : ℕ) → low j ≤ high j) → (j : ℕ)
-    → NeverFall (low j) (also (nat_eq i j) number []) (high j)
-one_falls i number low high above below le = by_number (λ j b. NeverFall (low j) (also b number []) (high j)) i (above, below) le
-
 -- ---- lists in two parts
 
 -- an item in front of two parts, where it is there at all
@@ -99,13 +89,6 @@ pub looked-append : (t : ℕ) (ds es : List Action) → looked t (ds ++ es) ≡ 
 looked-append t [] es = refl
 looked-append t (Looked timer number reply ∷ ds) es = also-append (nat_eq timer t) (number, reply) _ _ _ (looked-append t ds es)
 looked-append t (d ∷ ds) es = looked-append t ds es
-
--- the numbers of an object in two parts
-pub numbers-append : (i : ℕ) (ds es : List Action) → numbers_of_object i (ds ++ es) ≡ numbers_of_object i ds ++ numbers_of_object i es
-numbers-append i [] es = refl
-numbers-append i (Made j number entry ∷ ds) es = also-append (nat_eq j i) number _ _ _ (numbers-append i ds es)
-numbers-append i (Skipped j number generation ∷ ds) es = also-append (nat_eq j i) number _ _ _ (numbers-append i ds es)
-numbers-append i (d ∷ ds) es = numbers-append i ds es
 
 -- the notes of two logs, of each kind
 pub notes-append : {R N : Type 0} (note : R → Option N) (xs ys : List R) → present (map note (xs ++ ys)) ≡ present (map note xs) ++ present (map note ys)

@@ -26,7 +26,6 @@ use Rattle.lane_world.proofs.Kept.{seen_by, SeesOn, FollowsObject, Follows, Note
 pub record IsNoLess (before after : Seen) : Type 0 where
   pub clock : before.clock ≤ after.clock
   pub moves : before.moves ≤ after.moves
-  pub objects : (i : ℕ) → before.objects i ≤ after.objects i
 
 -- ---- passes that have seen more than others
 
@@ -98,7 +97,7 @@ more_heard takes = record { timers = takes.timers.heard; clock = takes.clock.hea
 
 -- law: so they have seen no less
 pub no_less : {p q : WorldPass} → SeesMore p q → IsNoLess (seen_by p) (seen_by q)
-no_less more = record { clock = begins_length more.clock; moves = begins_length more.timers; objects = λ i. begins_length (more.objects i) }
+no_less more = record { clock = begins_length more.clock; moves = begins_length more.timers }
 
 -- law: a run that goes on from what the ones have seen goes on from what the others have, of an object and of all
 pub follows_object : {e : Ending} {i : ℕ} {xs ys : List ObjectMove} → Begins xs ys → FollowsObject e i ys → FollowsObject e i xs
@@ -131,7 +130,6 @@ seen_later LookNotes log n more is = (is.0, omega (arith, is.1, count_begins (Ti
 seen_later ObjectNotes log n more is = record {
   before = is.before;
   number = is.number;
-  inside = is.inside;
   step = is.step;
   there = stands_on is.before (more.objects n.object) is.there;
   shows = λ e on. is.shows e (goes_before more.clock on);

@@ -1,5 +1,5 @@
 -- A whole run: the rounds of a script from its first passes on, and the record of what all lanes have left, which shows all that the last passes have seen.
-use Rattle.std.specs.Prelude.{ℕ, ◌≡◌, length, map, ◌+◌, Some, List, [], ◌∷◌}
+use Rattle.std.specs.Prelude.{ℕ, ◌≡◌, ◌≤◌, ◌<◌, length, map, Some, List, [], ◌∷◌}
 use Rattle.clock_cell.specs.Views.{writes}
 use Rattle.ordered_clock.specs.Moments.{told}
 use Rattle.pass_names.specs.Passes.{Looks}
@@ -13,7 +13,8 @@ use Rattle.run_history.specs.Histories.{history_of, lines_of_base}
 use Rattle.run_history.specs.Objects.{lines_of_object}
 use Rattle.seq_timer.specs.Systems.{entries_of, shifts_of}
 use Rattle.timer_objects.specs.Known.{seen_of}
-use Rattle.lane_world.specs.Rounds.{LeftOf, MakesRounds, none_left}
+use Rattle.timer_objects.specs.Turns.{entries_told}
+use Rattle.lane_world.specs.Rounds.{IsMain, LeftOf, MakesRounds, none_left}
 use Rattle.lane_world.specs.Worlds.{WorldOf}
 use Rattle.lane_world.specs.declared.WorldPass.{WorldPass}
 use Rattle.counted_row.specs.declared.view.Entry.{Entry}
@@ -36,24 +37,36 @@ pub record ShowsLeft (s : Script) (left : LeftOf) (r : RunRecord) : Type 0 where
   pub in_order : IsSortedFrom left.notes sorted
   pub shows : r ≡ record_from s.version sorted s.bases (length s.timers) left.answers
 
--- the clock was read until the timers' passes were told of just the writes that it had; nothing else was done
+-- The clock was read until the timers' passes were told of just the writes that it had; nothing else was done.
 pub record Settles (p q : WorldPass) : Type 0 where
   pub timers : LooksOn p.timers.known q.timers.known
   pub objects : q.objects ≡ p.objects
   pub clock : Looks p.clock.knows.pass q.clock.knows.pass
   pub all : told q.timers.known ≡ length (writes q.clock.knows)
 
--- the rounds were made in turn, the clock was settled, and the record shows the notes and answers that the rounds left, the notes in order
+-- Each object was looked at, and by then the timers' passes were told of no more entries of it than it has; nothing else was done.
+pub record LooksAtAll (x : WorldOf) (p q : WorldPass) : Type 0 where
+  pub timers : LooksOn p.timers.known q.timers.known
+  pub objects : Looks p.objects.knows.pass q.objects.knows.pass
+  pub opening : q.objects.knows.opening ≡ p.objects.knows.opening
+  pub clock : q.clock ≡ p.clock
+  pub no_more : (i : ℕ) → i < length x.objects.decls → entries_told i p.timers.known ≤ length (seen_of q.objects i)
+
+-- The rounds were made in turn, the clock was settled, each object was looked at, and the record shows the notes and answers that the rounds left, the
+-- notes in order.
 pub record MakesRun (x : WorldOf) (s : Script) (p : WorldPass) (r : RunRecord) (q : WorldPass) : Type 0 where
   pub left : LeftOf
   pub before : WorldPass
   pub rounds : MakesRounds x s.rounds p (none_left s.lanes) before left
-  pub settles : Settles before q
+  pub settled : WorldPass
+  pub of : IsMain x settled []
+  pub settles : Settles before settled
+  pub looks : LooksAtAll x settled q
   pub shows : ShowsLeft s left r
 
 -- ---- what it shows
 
--- an entry of an object, with its span
+-- an entry of an object
 abbrev pub ObjectMove : Type 0
 ObjectMove = Entry SpannedCall ObjectReply
 
@@ -63,19 +76,16 @@ ShowsObjectCall clock (of_kind.Posix call) (replies.Posix reply) e = posix_entry
 ShowsObjectCall clock (of_kind.Fd call) (replies.Fd reply) e = fd_entry clock e ≡ Some (record { call = fd_as_told call; reply = reply })
 ShowsObjectCall clock call reply e = ⊥
 
--- an object's lines, from a number of entry on, show these entries, and the run has their spans
-abbrev pub AreObjectLines : List ClockLine → (ℕ → ℕ × ℕ) → ℕ → List ObjectMove → List ObjectLine → Type 0
-AreObjectLines clock spans number [] [] = Unit
-AreObjectLines clock spans number (h ∷ hs) (line ∷ lines) =
-    ShowsObjectCall clock h.call.call h.reply line.entry × (spans number ≡ (h.call.from, h.call.to)) × AreObjectLines clock spans (number + 1) hs lines
-AreObjectLines clock spans number [] (line ∷ lines) = ⊥
-AreObjectLines clock spans number (h ∷ hs) [] = ⊥
+-- an object's lines show these entries
+abbrev pub AreObjectLines : List ClockLine → List ObjectMove → List ObjectLine → Type 0
+AreObjectLines clock [] [] = Unit
+AreObjectLines clock (h ∷ hs) (line ∷ lines) = ShowsObjectCall clock h.call.call h.reply line.entry × AreObjectLines clock hs lines
+AreObjectLines clock [] (line ∷ lines) = ⊥
+AreObjectLines clock (h ∷ hs) [] = ⊥
 
--- The record's histories are the whole of what these passes have seen: the clock's writes, each timer's and each base's entries, and each object's with
--- their spans.
+-- The record's histories are the whole of what these passes have seen: the clock's writes, and each timer's, each base's and each object's entries.
 pub record ShowsAllSeen (r : RunRecord) (q : WorldPass) : Type 0 where
   pub clock : map (λ line. line.write) r.clock ≡ writes q.clock.knows
   pub timers : (t : ℕ) → history_of r t ≡ entries_of t q.timers.known.seen
   pub bases : (b : ℕ) → map (λ line. line.event) (lines_of_base r b) ≡ shifts_of b q.timers.known.seen
-  pub spans : ℕ → ℕ → ℕ × ℕ
-  pub objects : (i : ℕ) → AreObjectLines r.clock (spans i) 1 (seen_of q.objects i) (lines_of_object r i)
+  pub objects : (i : ℕ) → AreObjectLines r.clock (seen_of q.objects i) (lines_of_object r i)

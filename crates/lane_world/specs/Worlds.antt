@@ -1,5 +1,5 @@
 -- A script's world, and what passes of it know.
-use Rattle.std.specs.Prelude.{ℕ, ◌≡◌, ◌≤◌, ◌<◌, ◌≢◌, List, [], length, map}
+use Rattle.std.specs.Prelude.{ℕ, ◌≡◌, ◌≤◌, ◌<◌, ◌≢◌, ◌+◌, List, [], length, map}
 use Rattle.ktime.specs.declared.clock_id.ClockId.{ClockId}
 use Rattle.atomic_table.specs.Seated.{TableId}
 use Rattle.pass_names.specs.Names.{AnswersFor, IsLast}
@@ -55,9 +55,9 @@ decl_as (kinds.Fd base) clock = record { kind = over.Fd; clock = clock; base = b
 abbrev pub decl_of : Declaration → Decl
 decl_of d = decl_as d.kind d.clock
 
--- what the timers of a script begin with: its bases, the timers as it declares them, and one counter, for the clock's writes
+-- what the timers of a script begin with: its bases, the timers as it declares them, and a counter for the clock's writes and one for each object's entries
 abbrev pub opening_for : Script → Opening
-opening_for s = rows.opening_with s.bases (declareds_of s) (terms_of s) 1
+opening_for s = rows.opening_with s.bases (declareds_of s) (terms_of s) (length s.timers + 1)
 
 -- the world is this script's: its timers on their clocks and bases, with its limit, and what stands over each
 pub record IsWorldOf (s : Script) (x : WorldOf) : Type 0 where
