@@ -9,17 +9,19 @@ use Rattle.expire_pass.specs.declared.handler.Restart.{Restart}
 use Rattle.expire_pass.specs.declared.handler.Restart.TheVariants as restarts
 
 -- What a handler's function does of timers with this opening, between what the pass knows after the claim and before the finish; for how many functions the handler's own
--- logs have room; how many timers it has at least; and how many bases it needs.
+-- logs have room; how many timers it has at least; and how many bases and counters it needs.
 pub record Meaning (A : Type 0) : Type 1 where
   pub did : Opening → A → A → KnownOfTimers → KnownOfTimers → ClaimNumbers → ClockReading → Restart → Type 0
   pub ready : A → ℕ
   pub timers : A → ℕ
   pub bases : A → ℕ
+  pub counters : A → ℕ
 
--- these timers are no more, and their bases no fewer, than a handler can serve
+-- these timers are no more, and their bases and counters no fewer, than a handler can serve
 pub record CanServe {A : Type 0} (m : Meaning A) (o : Opening) (h : A) : Type 0 where
   pub timers : length o.timers ≤ m.timers h
   pub bases : m.bases h ≤ o.bases
+  pub counters : m.counters h ≤ o.counters
 
 -- the pass's name and claims are as they were, and what it has seen and made goes on
 pub record KeepsPass (v w : KnownOfTimers) : Type 0 where

@@ -36,7 +36,8 @@ pub trait Handler {
         ensures keeps { KeepsPass pass.old.known pass.new.known }
         ensures did { meaning.did timers.now.about self.old self.new pass.old.known pass.new.known claim.now reading result }
         ensures ready { meaning.ready self.old ≤ meaning.ready self.new + 1 }
-        ensures numbers { (meaning.timers self.new ≡ meaning.timers self.old) × (meaning.bases self.new ≡ meaning.bases self.old) };
+        ensures numbers { (meaning.timers self.new ≡ meaning.timers self.old) × (meaning.bases self.new ≡ meaning.bases self.old)
+            × (meaning.counters self.new ≡ meaning.counters self.old) };
 }
 
 /// Whether a function asks for a restart.

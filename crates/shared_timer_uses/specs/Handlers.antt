@@ -20,6 +20,7 @@ one_shot = record {
   ready = λ h. 18446744073709551616;
   timers = λ h. 65536;
   bases = λ h. 0;
+  counters = λ h. 0;
 }
 
 -- it has forwarded its timer, and asks for a restart; or it has done neither
@@ -35,4 +36,5 @@ periodic = record {
   ready = λ h. 18446744073709551616;
   timers = λ h. 65536;
   bases = λ h. 0;
+  counters = λ h. 0;
 }

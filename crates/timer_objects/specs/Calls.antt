@@ -53,6 +53,7 @@ use Rattle.timer_objects.specs.Steps.{object_answer, object_step}
 use Rattle.timer_objects.specs.Cells.{MaySpan, cell_meaning, spanned}
 use Rattle.timer_objects.specs.Known.{ObjectsOf, ObjectsPass, decl_at, seen_of}
 use Rattle.timer_objects.specs.Arming.{ArmsFor, Disarms, SeesQuietly, Starts, stamp_seen}
+use Rattle.timer_objects.specs.Turns.{HasTurn, entries_told}
 
 -- what a caller's passes know, and what its logs have
 pub record Caller : Type 0 where
@@ -70,12 +71,13 @@ pub record HasWaited (old new : Caller) : Type 0 where
   pub log : new.log ≡ old.log
   pub object_log : new.object_log ≡ old.object_log
 
--- The history of the object is full. Nothing was done but to look at it, and so many entries stand there.
+-- The history of the object is full. Nothing was done but to look at it, and so many entries stood there when the timers were told of just so many.
 pub record FindsFull (x : ObjectsOf) (old new : Caller) (id n : ℕ) : Type 0 where
   pub looks : LooksOn old.timers new.timers
   pub reads : ReadsValue cell_meaning old.objects new.objects id
   pub full : x.limit ≤ n
   pub stamp : n ≡ length (seen_of new.objects id)
+  pub told : entries_told id new.timers ≡ n
   pub log : new.log ≡ old.log
   pub object_log : new.object_log ≡ old.object_log
 
@@ -142,20 +144,23 @@ BearsStart o k t (arms.Armed generation) phase = phase ≡ phases.Armed generati
 BearsStart o k t (arms.Unarmed stamp) phase = phase ≡ phases.Idle
 
 -- A settime with these arguments was made: while the object was locked its timer was disarmed, or seen to be idle; then started where the value
--- isn't zero; then the object's entry was made, of the span of both.
+-- isn't zero; then the object's entry was made, of the span of both. All of it is one turn of the object.
 pub record SetsTimer (x : ObjectsOf) (o : Opening) (old new : Caller) (id flags value interval : ℕ) (reading : ClockReading) (a : SettimeAnswer) : Type 0 where
   pub arm : Arm
   pub span : Span
   pub reply : ObjectReply
   pub enters : EntersCall x old new id (spanned (settime_by x id flags value interval reading arm) span) reply
+  pub begun : KnownOfTimers
+  pub worked : KnownOfTimers
+  pub turn : HasTurn id (length enters.commits.adds.before) old.timers begun worked new.timers
   pub disarmed : KnownOfTimers
   pub cancel_log : List Receipt
   pub so_far : Span
-  pub disarms : Disarms o old.timers disarmed id enters.commits.state.last so_far old.log cancel_log
-  pub arms : ArmsFor o disarmed new.timers id (start_by flags value) (decl_at x id).base reading arm cancel_log new.log
+  pub disarms : Disarms o begun disarmed id enters.commits.state.last so_far old.log cancel_log
+  pub arms : ArmsFor o disarmed worked id (start_by flags value) (decl_at x id).base reading arm cancel_log new.log
   pub from : span.from ≡ so_far.from
-  pub to : span.to ≡ stamp_seen o new.timers id
-  pub bears : BearsStart o new.timers id arm (phase_of (object_step enters.commits.state.object (settime_by x id flags value interval reading arm)))
+  pub to : span.to ≡ stamp_seen o worked id
+  pub bears : BearsStart o worked id arm (phase_of (object_step enters.commits.state.object (settime_by x id flags value interval reading arm)))
   pub answer : SettimeTells reply a
 
 -- a settime with valid arguments: it is refused exactly where the object's history is full
@@ -212,14 +217,17 @@ rearming_call rearmings.Reading reading arm = calls.Fd (fd_calls.Read reading ar
 rearming_call rearmings.Getting reading arm = calls.Fd (fd_calls.Gettime reading arm)
 
 -- Such a call was made: while the object was locked its timer was started in the mode that keeps its clock, where the call wants that; then the
--- object's entry was made.
+-- object's entry was made. All of it is one turn of the object.
 pub record RearmingMade (x : ObjectsOf) (o : Opening) (old new : Caller) (id : ℕ) (r : Rearming) (reading : ClockReading) (reply : ObjectReply) : Type 0 where
   pub arm : Arm
   pub span : Span
   pub enters : EntersCall x old new id (spanned (rearming_call r reading arm) span) reply
-  pub rearms : RearmsFor o old.timers new.timers id enters.commits.state.last (wanted_by r enters.commits.state.object reading) (decl_at x id).base reading
+  pub begun : KnownOfTimers
+  pub worked : KnownOfTimers
+  pub turn : HasTurn id (length enters.commits.adds.before) old.timers begun worked new.timers
+  pub rearms : RearmsFor o begun worked id enters.commits.state.last (wanted_by r enters.commits.state.object reading) (decl_at x id).base reading
       arm span old.log new.log
-  pub bears : BearsRestart o new.timers id arm (phase_of (object_step enters.commits.state.object (rearming_call r reading arm)))
+  pub bears : BearsRestart o worked id arm (phase_of (object_step enters.commits.state.object (rearming_call r reading arm)))
 
 -- an accept: it is refused exactly where the object's history is full
 abbrev pub Accepts : ObjectsOf → Opening → Caller → Caller → ℕ → ClockReading → AcceptAnswer → Type 0
@@ -242,12 +250,13 @@ ReadsFd x o old new id len reading reads.Again =
 
 -- ---- looks
 
--- an object was looked at, and nothing of timers or logs is other than before; its state, and so many entries
+-- an object was looked at when the timers were told of just its entries, and the logs are as before; its state, and so many entries
 pub record LooksAtObject (old new : Caller) (id : ℕ) (object : Object) (n : ℕ) : Type 0 where
   pub reads : ReadsValue cell_meaning old.objects new.objects id
   pub state : object ≡ reads.state.object
   pub stamp : n ≡ length (seen_of new.objects id)
-  pub timers : new.timers ≡ old.timers
+  pub timers : LooksOn old.timers new.timers
+  pub told : entries_told id new.timers ≡ n
   pub log : new.log ≡ old.log
   pub object_log : new.object_log ≡ old.object_log
 

@@ -1,6 +1,7 @@
 -- What the handler of objects' timers does.
-use Rattle.std.specs.Prelude.{ℕ, ◌≡◌, length, get_or, min, Option, Some, None}
+use Rattle.std.specs.Prelude.{ℕ, ◌≡◌, ◌+◌, length, get_or, min, Option, Some, None}
 use Rattle.ktime.specs.Readings.{ClockReading}
+use Rattle.pass_names.specs.SharedHistory.{LooksOn}
 use Rattle.base_row.specs.declared.view.Opening.{Opening}
 use Rattle.hr_timers.specs.declared.numbers.ClaimNumbers.{ClaimNumbers}
 use Rattle.hr_timers.specs.Known.{KnownOfTimers}
@@ -45,18 +46,24 @@ pub record LeavesPass (h h' : Firing) : Type 0 where
   pub knows : Knows cell_meaning h.objects_pass.now.knows → Knows cell_meaning h'.objects_pass.now.knows
 
 module _ (o : Opening) (h h' : Firing) (v w : KnownOfTimers) (c : ClaimNumbers) (reading : ClockReading) (restart : Restart) where
-  -- a timer by itself runs its callback, and objects are left alone; an object is triggered, and its timer is left alone
+  -- a timer by itself runs its callback, and objects are left alone; an object is triggered, and timers are only looked at
   abbrev pub FiresBy : Option ObjectCall → Type 0
   FiresBy None = RunsCallback o v w c reading h.log.receipts h'.log.receipts (callback_at h c.timer) restart
       × (h'.objects_pass.now ≡ h.objects_pass.now) × (h'.object_log.receipts ≡ h.object_log.receipts)
-  FiresBy (Some call) = Triggers h.objects.now h.objects_pass.now h'.objects_pass.now h.object_log.receipts h'.object_log.receipts c call
-      × (w ≡ v) × (h'.log.receipts ≡ h.log.receipts) × (restart ≡ restarts.Stop)
+  FiresBy (Some call) = Triggers h.objects.now h.objects_pass.now h'.objects_pass.now h.object_log.receipts h'.object_log.receipts v w c call
+      × LooksOn v w × (h'.log.receipts ≡ h.log.receipts) × (restart ≡ restarts.Stop)
 
   -- the function of a claim has run
   pub record Fires : Type 0 where
     pub loan : IsSameLoan h h'
     pub fires : FiresBy (trigger_of (decl_at h.objects.now c.timer).kind c reading)
 
--- it needs a base for each start that is stated
+-- it needs a base for each start that is stated, and a counter for each object behind the clock's
 abbrev pub firing : Meaning Firing
-firing = record { did = Fires; ready = ready_of; timers = λ h. length h.objects.now.decls; bases = λ h. bases_of h.callbacks.now }
+firing = record {
+  did = Fires;
+  ready = ready_of;
+  timers = λ h. length h.objects.now.decls;
+  bases = λ h. bases_of h.callbacks.now;
+  counters = λ h. length h.objects.now.decls + 1;
+}

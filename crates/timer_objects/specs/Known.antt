@@ -75,11 +75,13 @@ pub record Enters (p q : ObjectsPass) (h : Locked ObjectCell) (call : SpannedCal
 abbrev pub receipt_of : Locked ObjectCell → SpannedCall → ObjectReceipt
 receipt_of h call = record { object = h.index; number = h.stamp + 1; call = call; reply = object_answer h.state.object call.call }
 
--- there are as many timers as objects, each declared on its object's clock, and each object's base is one of theirs
+-- There are as many timers as objects, each declared on its object's clock, and each object's base is one of theirs. The timers have a counter for each
+-- object, behind the clock's.
 pub record Suits (x : ObjectsOf) (o : Opening) : Type 0 where
   pub many : length o.timers ≡ length x.decls
   pub clocks : (i : ℕ) → i < length x.decls → (timer_at o.timers i).declared.clock ≡ (decl_at x i).clock
   pub bases : (i : ℕ) → i < length x.decls → (decl_at x i).base < o.bases
+  pub counters : length x.decls < o.counters
 
 -- the pass's name is as it was, and what it has seen and made goes on
 pub record KeepsObjectsPass (p q : ObjectsPass) : Type 0 where

@@ -1,6 +1,7 @@
 pub mod Steps
 pub mod Cells
 pub mod Known
+pub mod Turns
 pub mod Arming
 pub mod Calls
 pub mod Waiting

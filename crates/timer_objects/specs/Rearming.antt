@@ -1,6 +1,7 @@
 -- The calls that make an entry and may start their object's timer before it: what each wants of an object, and how a turn of it ends.
 use Rattle.std.specs.Prelude.{ℕ, ◌≡◌, ◌≢◌, ◌<◌, length, List, [], Option, Some, IsSome}
 use Rattle.ktime.specs.Readings.{ClockReading}
+use Rattle.pass_names.specs.SharedHistory.{LooksOn}
 use Rattle.base_row.specs.Logs.{LogOf}
 use Rattle.hr_timers.specs.Known.{IsPassOf, KnownOfTimers, PassOf}
 use Rattle.base_row.specs.declared.view.Opening.{Opening}
@@ -39,6 +40,7 @@ use Rattle.timer_objects.specs.Calls.{
   wanted_by,
 }
 use Rattle.timer_objects.specs.Arming.{ArmsFor, Disarms, stamp_seen}
+use Rattle.timer_objects.specs.Turns.{entries_told}
 use Rattle.timer_objects.specs.Waiting.{IsHindered}
 use Rattle.timer_objects.specs.Valid.{IsSettimeReply, IsValidSettime, end_by}
 use Rattle.timer_objects.specs.declared.wanting.EntryCall.{EntryCall}
@@ -166,12 +168,13 @@ EndsAt x o old new id asked (ends.Made n reply) cell =
 
 -- ---- a call on an object that is held
 
--- a pass took the lock of an object
-pub record HasLocked (x : ObjectsOf) (begun now : ObjectsPass) (id : ℕ) (h : Locked ObjectCell) : Type 0 where
+-- a caller took the lock of an object, and may have looked at timers for it
+pub record HasLocked (x : ObjectsOf) (first pass : PassOf) (begun now : ObjectsPass) (id : ℕ) (h : Locked ObjectCell) : Type 0 where
+  pub looks : LooksOn first.known pass.known
   pub is : IsObjectsPass x begun
   pub locks : Locks cell_meaning begun now id h
 
--- a caller holds an object whose history has room, and asks this of it
+-- a caller holds an object whose history has room, when the timers are told of just its entries, and asks this of it
 pub record IsHolding (x : ObjectsOf) (timers : BaseRowOf) (pass : PassOf) (objects_pass : ObjectsPass) (id : ℕ) (asked : EntryCall) (h : Locked ObjectCell)
     : Type 0 where
   pub of_timers : IsPassOf timers pass
@@ -184,6 +187,7 @@ pub record IsHolding (x : ObjectsOf) (timers : BaseRowOf) (pass : PassOf) (objec
   pub index : h.index ≡ id
   pub holds : HoldsObject x h
   pub room : h.stamp < x.limit
+  pub told : entries_told id pass.known ≡ h.stamp
 
 -- ---- looks
 

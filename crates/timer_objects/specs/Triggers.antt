@@ -1,7 +1,9 @@
 -- What the expiry of its timer does to an object.
 use Rattle.std.specs.Prelude.{ℕ, ◌≡◌, ◌+◌, ◌-◌, ◌<◌, ◌≤◌, ◌⊎◌, List, [], ◌∷◌, ◌++◌, length, Option, Some, None}
 use Rattle.ktime.specs.Readings.{ClockReading}
+use Rattle.pass_names.specs.SharedHistory.{LooksOn}
 use Rattle.hr_timers.specs.declared.numbers.ClaimNumbers.{ClaimNumbers}
+use Rattle.hr_timers.specs.Known.{KnownOfTimers}
 use Rattle.timer_setting.specs.declared.trigger_answer.TriggerAnswer.TheVariants as triggers
 use Rattle.counted_row.specs.Calls.{Commits, ReadsValue}
 use Rattle.posix_timer.specs.declared.calls.Call.TheVariants as posix_calls
@@ -20,6 +22,7 @@ use Rattle.timer_objects.specs.declared.object.ObjectReply.TheVariants as replie
 use Rattle.timer_objects.specs.Steps.{object_answer}
 use Rattle.timer_objects.specs.Cells.{MaySpan, cell_meaning, spanned}
 use Rattle.timer_objects.specs.Known.{ObjectsOf, ObjectsPass, seen_of}
+use Rattle.timer_objects.specs.Turns.{HasTurn, entries_told}
 
 -- the trigger of an object of this kind by a claim of its timer, at this reading; a timer by itself has none
 abbrev pub trigger_of : Kind → ClaimNumbers → ClockReading → Option ObjectCall
@@ -36,19 +39,25 @@ trigger_refused (calls.Fd c) n = replies.Fd (fd_replies.Trigger (triggers.Spent 
 abbrev pub span_of : ClaimNumbers → Span
 span_of c = record { from = c.number - 1; to = c.number }
 
-module _ (x : ObjectsOf) (p q : ObjectsPass) (log log' : List ObjectReceipt) where
-  -- The trigger stands last in the object's history, which had room for it, and a receipt of it was noted.
+module _ (x : ObjectsOf) (p q : ObjectsPass) (log log' : List ObjectReceipt) (v w : KnownOfTimers) where
+  -- The trigger stands last in the object's history, which had room for it, and a receipt of it was noted. It had a turn of the object, in which it did
+  -- nothing to the timer.
   pub record EntersTrigger (id : ℕ) (call : SpannedCall) : Type 0 where
     pub commits : Commits cell_meaning p q id call
     pub may : MaySpan commits.state call
     pub room : length commits.adds.before < x.limit
+    pub begun : KnownOfTimers
+    pub turn : HasTurn id (length commits.adds.before) v begun begun w
     pub receipt : log'
         ≡ log ++ record { object = id; number = length commits.adds.before + 1; call = call; reply = object_answer commits.state.object call.call } ∷ []
 
-  -- The history of the object is full. Nothing was done but to look at it, and a receipt says that the trigger was refused, at so many entries.
+  -- The history of the object is full. Nothing was done but to look at it when the timers were told of just its entries, and a receipt says that the trigger
+  -- was refused, at so many entries.
   pub record SkipsTrigger (id : ℕ) (call : SpannedCall) : Type 0 where
     pub reads : ReadsValue cell_meaning p q id
     pub full : x.limit ≤ length (seen_of q id)
+    pub looks : LooksOn v w
+    pub told : entries_told id w ≡ length (seen_of q id)
     pub receipt : log'
         ≡ log ++ record { object = id; number = length (seen_of q id); call = call; reply = trigger_refused call.call (length (seen_of q id)) } ∷ []
 

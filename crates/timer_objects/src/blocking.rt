@@ -160,7 +160,7 @@ impl Objects {
         ensures again { GoesOn result → (log.new ≡ log.old) × (object_log.new ≡ object_log.old) }
         ensures room { (log.old.spare ≤ log.new.spare + most_noted self.now timers.now.about id) × (object_log.old.spare ≤ object_log.new.spare + 1) }
     {
-        let held = self.lock(rt, objects_pass, id);
+        let held = self.lock_in_turn(rt, timers, pass, objects_pass, id);
         let reading = clock.read(rt, clock_pass);
         if self.is_full(&held) {
             let stamp = self.release(objects_pass, held);

@@ -2,7 +2,7 @@
 ghost use Rattle.std.specs.Prelude.{◌≡◌, ◌≤◌, ◌<◌, ◌+◌, length, IfNone, IfSome, IsSome, MatchOption};
 ghost use Rattle.pass_names.specs.SharedHistory.{LooksOn};
 ghost use Rattle.seq_timer.specs.Tables.{timer_at};
-ghost use Rattle.hr_timers.specs.Known.{IsPassOf};
+ghost use Rattle.hr_timers.specs.Known.{IsPassOf, PassOf};
 ghost use Rattle.hr_timers.specs.Ways.{most_to_start};
 ghost use Rattle.timer_setting.specs.Phases.{IsOutcomeOf};
 ghost use Rattle.timer_objects.specs.declared.object.Kind.TheVariants as kinds;
@@ -18,6 +18,7 @@ use crate::log::ObjectLog;
 use crate::object::{Decl, Kind, ObjectCall, ObjectReply};
 use crate::objects::Objects;
 use crate::settime::{end_of, wanted_by};
+use crate::turns::raise;
 use crate::wanting::{COUNT_LENGTH, Ended, EntryCall, Rearming, wanted};
 use counted_row::{Held, RowPass};
 use expire_pass::Log;
@@ -152,7 +153,7 @@ impl Objects {
         ensures why { IfNone result (HasToWait self.now objects_pass.old objects_pass.new id (IsUnsettable timers.now.about pass.new.known id asked.now)) }
         ensures room { (log.old.spare ≤ log.new.spare + most_noted self.now timers.now.about id) × (object_log.old.spare ≤ object_log.new.spare + 1) }
     {
-        let held = self.lock(rt, objects_pass, id);
+        let held = self.lock_in_turn(rt, timers, pass, objects_pass, id);
         if self.is_full(&held) {
             let stamp = self.release(objects_pass, held);
             return Some(Ended::Full { stamp });
@@ -170,7 +171,8 @@ impl Objects {
         )
     }
 
-    /// Makes the call that is asked of a held object whose history has room, and lets it go. It answers nothing where its timer can't be set yet.
+    /// Makes the call that is asked of a held object whose history has room, in the object's turn, and lets it go. It answers nothing where its timer
+    /// can't be set yet.
     pub(crate) fn make_held<R: Wait>(
         &self,
         rt: &R,
@@ -186,9 +188,9 @@ impl Objects {
         requires holding { IsHolding self.now timers.now pass.old objects_pass.old id asked.now held }
         requires room { (most_noted self.now timers.now.about id ≤ log.old.spare) × (1 ≤ object_log.old.spare) }
         ensures leaves { LeavesPasses self.now timers.now pass.new objects_pass.new }
-        ensures ends { (begun : ObjectsPass) → HasLocked self.now begun objects_pass.old id held → MatchOption result (HasWaited (caller_of pass.old begun log.old object_log.old) (caller_of pass.new objects_pass.new log.new object_log.new)) (λ e. EndsAt self.now timers.now.about (caller_of pass.old begun log.old object_log.old) (caller_of pass.new objects_pass.new log.new object_log.new) id asked.now e held.state) }
+        ensures ends { (first : PassOf) (begun : ObjectsPass) → HasLocked self.now first pass.old begun objects_pass.old id held → MatchOption result (HasWaited (caller_of first begun log.old object_log.old) (caller_of pass.new objects_pass.new log.new object_log.new)) (λ e. EndsAt self.now timers.now.about (caller_of first begun log.old object_log.old) (caller_of pass.new objects_pass.new log.new object_log.new) id asked.now e held.state) }
         ensures again { IfNone result ((log.new ≡ log.old) × (object_log.new ≡ object_log.old)) }
-        ensures why { (begun : ObjectsPass) → HasLocked self.now begun objects_pass.old id held → IfNone result (HasToWait self.now begun objects_pass.new id (IsUnsettable timers.now.about pass.new.known id asked.now)) }
+        ensures why { (first : PassOf) (begun : ObjectsPass) → HasLocked self.now first pass.old begun objects_pass.old id held → IfNone result (HasToWait self.now begun objects_pass.new id (IsUnsettable timers.now.about pass.new.known id asked.now)) }
         ensures room { (log.old.spare ≤ log.new.spare + most_noted self.now timers.now.about id) × (object_log.old.spare ≤ object_log.new.spare + 1) }
     {
         let Decl { kind, base, .. } = self.decl(id);
@@ -197,10 +199,14 @@ impl Objects {
             self.release(objects_pass, held);
             return None;
         };
-        let stamp = held.stamp() + 1;
+        let stamp = held.stamp();
+        raise(rt, timers, pass, id, stamp);
         let call = call_of(kind, asked, arm);
         let reply = self.enter(objects_pass, held, object_log, id, &call, span);
-        Some(Ended::Made { stamp, reply })
+        Some(Ended::Made {
+            stamp: stamp + 1,
+            reply,
+        })
     }
 }
 

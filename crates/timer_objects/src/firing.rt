@@ -112,6 +112,8 @@ impl Handler for FiringWith<'_, Log, ObjectLog> {
                 let lent = &mut *self.objects_pass;
                 trigger(
                     rt,
+                    timers,
+                    pass,
                     self.objects,
                     lent,
                     &mut self.object_log,

@@ -24,4 +24,5 @@ mod objects;
 mod readers;
 mod settime;
 mod trigger;
+mod turns;
 mod wanting;

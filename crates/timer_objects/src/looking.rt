@@ -1,9 +1,11 @@
 //! Looks at objects, and gettime, which is one of a POSIX timer.
 ghost use Rattle.std.specs.Prelude.{◌≡◌, ◌≤◌, ◌<◌, ◌+◌, length};
+ghost use Rattle.pass_names.specs.SharedHistory.{LooksOn};
 ghost use Rattle.hr_timers.specs.Known.{IsPassOf};
 ghost use Rattle.timer_objects.specs.declared.object.Kind.TheVariants as kinds;
 ghost use Rattle.timer_objects.specs.Known.{IsObjectsPass, Suits, decl_at, most_noted};
 ghost use Rattle.timer_objects.specs.Steps.{IsObjectOf};
+ghost use Rattle.timer_objects.specs.Turns.{entries_told};
 ghost use Rattle.timer_objects.specs.Calls.{Gettimes, LooksOverrun, LooksReadable};
 ghost use Rattle.timer_objects.specs.Rearming.{FindsObject, KeepsNames, caller_of};
 
@@ -49,7 +51,7 @@ impl Objects {
         match self.kind(id) {
             Kind::Raw => unreachable!(),
             Kind::Posix => {
-                let (object, stamp) = self.look_at(rt, objects_pass, id);
+                let (object, stamp) = self.look_at(rt, timers, pass, objects_pass, id);
                 let Object::Posix(timer) = object else {
                     unreachable!()
                 };
@@ -80,42 +82,57 @@ impl Objects {
         }
     }
 
-    /// An object as it is, and how many entries its history has.
-    fn look_at<R: Wait>(&self, rt: &R, pass: &mut RowPass<ObjectCell>, id: u32) -> (Object, u64)
-        requires pass { IsObjectsPass self.now pass.old }
+    /// An object as it is, and how many entries its history has, at a moment among the entries of timers.
+    pub fn look_at<R: Wait>(
+        &self,
+        rt: &R,
+        timers: &Timers,
+        pass: &mut Pass,
+        objects_pass: &mut RowPass<ObjectCell>,
+        id: u32,
+    ) -> (Object, u64)
+        requires pass { IsPassOf timers.now pass.old }
+        requires objects { IsObjectsPass self.now objects_pass.old }
+        requires suits { Suits self.now timers.now.about }
         requires within { id < length self.now.decls }
-        ensures pass { IsObjectsPass self.now pass.new }
-        ensures finds { FindsObject pass.old pass.new id result.0 result.1 }
-        ensures name { pass.new.knows.pass.id ≡ pass.old.knows.pass.id }
+        ensures pass { IsPassOf timers.now pass.new }
+        ensures objects { IsObjectsPass self.now objects_pass.new }
+        ensures finds { FindsObject objects_pass.old objects_pass.new id result.0 result.1 }
+        ensures looks { LooksOn pass.old.known pass.new.known }
+        ensures told { entries_told id pass.new.known ≡ result.1 }
+        ensures name { objects_pass.new.knows.pass.id ≡ objects_pass.old.knows.pass.id }
         ensures kind { IsObjectOf (decl_at self.now id) self.now.limit result.1 result.0 }
     {
-        let held = self.lock(rt, pass, id);
+        let held = self.lock_in_turn(rt, timers, pass, objects_pass, id);
         let object = held.state().object;
-        let stamp = self.release(pass, held);
+        let stamp = self.release(objects_pass, held);
         (object, stamp)
     }
 
-    /// Whether a descriptor is ready to be read (`poll(2)`). It touches no timer.
+    /// Whether a descriptor is ready to be read (`poll(2)`).
     pub fn readable<R: Wait>(
         &self,
         rt: &R,
-        _timers: &Timers,
-        _pass: &mut Pass,
+        timers: &Timers,
+        pass: &mut Pass,
         objects_pass: &mut RowPass<ObjectCell>,
         _log: &mut Log,
         _object_log: &mut ObjectLog,
         id: u32,
         reading: Reading,
     ) -> Readable
+        requires pass { IsPassOf timers.now pass.old }
         requires objects { IsObjectsPass self.now objects_pass.old }
+        requires suits { Suits self.now timers.now.about }
         requires within { id < length self.now.decls }
         requires kind { (decl_at self.now id).kind ≡ kinds.Fd }
+        ensures pass { IsPassOf timers.now pass.new }
         ensures objects { IsObjectsPass self.now objects_pass.new }
-        ensures looks { LooksReadable (caller_of _pass.old objects_pass.old _log.old _object_log.old) (caller_of _pass.new objects_pass.new _log.new _object_log.new) id reading result }
+        ensures looks { LooksReadable (caller_of pass.old objects_pass.old _log.old _object_log.old) (caller_of pass.new objects_pass.new _log.new _object_log.new) id reading result }
         ensures name { objects_pass.new.knows.pass.id ≡ objects_pass.old.knows.pass.id }
-        ensures untouched { (_pass.new ≡ _pass.old) × (_log.new ≡ _log.old) × (_object_log.new ≡ _object_log.old) }
+        ensures untouched { (_log.new ≡ _log.old) × (_object_log.new ≡ _object_log.old) }
     {
-        let (object, stamp) = self.look_at(rt, objects_pass, id);
+        let (object, stamp) = self.look_at(rt, timers, pass, objects_pass, id);
         let Object::Fd(timer) = object else {
             unreachable!()
         };
@@ -125,26 +142,29 @@ impl Objects {
         }
     }
 
-    /// How many further periods had passed when the last signal of a POSIX timer was accepted (`timer_getoverrun`). It touches no timer.
+    /// How many further periods had passed when the last signal of a POSIX timer was accepted (`timer_getoverrun`).
     pub fn getoverrun<R: Wait>(
         &self,
         rt: &R,
-        _timers: &Timers,
-        _pass: &mut Pass,
+        timers: &Timers,
+        pass: &mut Pass,
         objects_pass: &mut RowPass<ObjectCell>,
         _log: &mut Log,
         _object_log: &mut ObjectLog,
         id: u32,
     ) -> Overrun
+        requires pass { IsPassOf timers.now pass.old }
         requires objects { IsObjectsPass self.now objects_pass.old }
+        requires suits { Suits self.now timers.now.about }
         requires within { id < length self.now.decls }
         requires kind { (decl_at self.now id).kind ≡ kinds.Posix }
+        ensures pass { IsPassOf timers.now pass.new }
         ensures objects { IsObjectsPass self.now objects_pass.new }
-        ensures looks { LooksOverrun (caller_of _pass.old objects_pass.old _log.old _object_log.old) (caller_of _pass.new objects_pass.new _log.new _object_log.new) id result }
+        ensures looks { LooksOverrun (caller_of pass.old objects_pass.old _log.old _object_log.old) (caller_of pass.new objects_pass.new _log.new _object_log.new) id result }
         ensures name { objects_pass.new.knows.pass.id ≡ objects_pass.old.knows.pass.id }
-        ensures untouched { (_pass.new ≡ _pass.old) × (_log.new ≡ _log.old) × (_object_log.new ≡ _object_log.old) }
+        ensures untouched { (_log.new ≡ _log.old) × (_object_log.new ≡ _object_log.old) }
     {
-        let (object, stamp) = self.look_at(rt, objects_pass, id);
+        let (object, stamp) = self.look_at(rt, timers, pass, objects_pass, id);
         let Object::Posix(timer) = object else {
             unreachable!()
         };

@@ -1,16 +1,20 @@
 //! The trigger of an object by the expiry of its timer.
 ghost use Rattle.std.specs.Prelude.{◌≡◌, ◌≤◌, ◌<◌, ◌+◌, [], ◌∷◌, ◌++◌, None, Some, length, MatchBool};
 ghost use Rattle.counted_row.specs.Views.{IsPassOfRow, Locks, released};
+ghost use Rattle.hr_timers.specs.Known.{IsPassOf};
+ghost use Rattle.pass_names.specs.SharedHistory.{LooksOn};
 ghost use Rattle.timer_objects.specs.Cells.{cell_meaning, spanned};
 ghost use Rattle.timer_objects.specs.Known.{HoldsObject, IsObjectsPass, decl_at, row_of, seen_of};
 ghost use Rattle.timer_objects.specs.Triggers.{Triggers, trigger_refused, span_of, trigger_of};
+ghost use Rattle.timer_objects.specs.Turns.{entries_told};
 
 use crate::cell::{ObjectCell, Span};
 use crate::log::{ObjectLog, note};
 use crate::object::{Kind, ObjectCall, ObjectReply};
 use crate::objects::Objects;
+use crate::turns::raise;
 use counted_row::{Held, RowPass};
-use hr_timers::Claim;
+use hr_timers::{Claim, Pass, Timers};
 use ktime::Reading;
 use pass_names::Retries;
 use std::sync::Wait;
@@ -59,30 +63,38 @@ fn span_of(claim: &Claim) -> Span
 /// Triggers the object over a claim's timer, or notes that its history is full.
 pub(crate) fn trigger<R: Wait>(
     rt: &R,
+    timers: &Timers,
+    pass: &mut Pass,
     objects: &Objects,
-    pass: &mut RowPass<ObjectCell>,
+    objects_pass: &mut RowPass<ObjectCell>,
     log: &mut ObjectLog,
     call: ObjectCall,
     claim: &Claim,
     reading: Reading,
 )
-    requires row { IsPassOfRow (row_of objects.now) pass.old }
-    requires idle { pass.old.knows.held ≡ None }
-    requires unclaimed { pass.old.knows.claims ≡ [] }
+    requires pass { IsPassOf timers.now pass.old }
+    requires counters { length objects.now.decls < timers.now.about.counters }
+    requires row { IsPassOfRow (row_of objects.now) objects_pass.old }
+    requires idle { objects_pass.old.knows.held ≡ None }
+    requires unclaimed { objects_pass.old.knows.claims ≡ [] }
     requires within { claim.now.timer < length objects.now.decls }
     requires call { trigger_of (decl_at objects.now claim.now.timer).kind claim.now reading ≡ Some call }
     requires room { 0 < log.old.spare }
-    ensures pass { IsObjectsPass objects.now pass.new }
-    ensures triggers { Triggers objects.now pass.old pass.new log.old.receipts log.new.receipts claim.now call }
+    ensures pass { IsPassOf timers.now pass.new }
+    ensures objects { IsObjectsPass objects.now objects_pass.new }
+    ensures looks { LooksOn pass.old.known pass.new.known }
+    ensures triggers { Triggers objects.now objects_pass.old objects_pass.new log.old.receipts log.new.receipts pass.old.known pass.new.known claim.now call }
     ensures spare { log.new.spare + 1 ≡ log.old.spare }
 {
     let id = claim.timer();
     let span = span_of(claim);
-    let held = hold(rt, objects, pass, id, span.from);
-    if held.stamp() >= objects.limit() {
-        return skip(objects, pass, held, log, id, &call, span);
+    let held = hold(rt, timers, pass, objects, objects_pass, id, span.from);
+    let stamp = held.stamp();
+    if stamp >= objects.limit() {
+        return skip(objects, objects_pass, held, log, id, &call, span);
     }
-    let reply = objects.enter(pass, held, log, id, &call, span);
+    raise(rt, timers, pass, id, stamp);
+    let reply = objects.enter(objects_pass, held, log, id, &call, span);
     tell_reader(objects, id, &reply);
 }
 
@@ -93,29 +105,36 @@ fn tell_reader(objects: &Objects, id: u32, reply: &ObjectReply) {
     }
 }
 
-/// Takes the lock of an object, once the spans of its calls don't go beyond this number of its timer's entries, or its history is full.
+/// Takes the lock of an object in its turn, once the spans of its calls don't go beyond this number of its timer's entries, or its history is full.
 fn hold<R: Wait>(
     rt: &R,
+    timers: &Timers,
+    pass: &mut Pass,
     objects: &Objects,
-    pass: &mut RowPass<ObjectCell>,
+    objects_pass: &mut RowPass<ObjectCell>,
     id: u32,
     from: u64,
 ) -> Held<ObjectCell>
-    requires row { IsPassOfRow (row_of objects.now) pass.old }
-    requires idle { pass.old.knows.held ≡ None }
-    requires unclaimed { pass.old.knows.claims ≡ [] }
+    requires pass { IsPassOf timers.now pass.old }
+    requires counters { length objects.now.decls < timers.now.about.counters }
+    requires row { IsPassOfRow (row_of objects.now) objects_pass.old }
+    requires idle { objects_pass.old.knows.held ≡ None }
+    requires unclaimed { objects_pass.old.knows.claims ≡ [] }
     requires within { id < length objects.now.decls }
-    ensures row { IsPassOfRow (row_of objects.now) pass.new }
-    ensures locks { Locks cell_meaning pass.old pass.new id result }
+    ensures pass { IsPassOf timers.now pass.new }
+    ensures looks { LooksOn pass.old.known pass.new.known }
+    ensures told { entries_told id pass.new.known ≡ result.stamp }
+    ensures row { IsPassOfRow (row_of objects.now) objects_pass.new }
+    ensures locks { Locks cell_meaning objects_pass.old objects_pass.new id result }
     ensures holds { HoldsObject objects.now result }
     ensures behind { result.stamp < objects.now.limit → result.state.last ≤ from }
 {
     for _ in Retries::new(rt) {
-        let held = objects.lock(rt, pass, id);
+        let held = objects.lock_in_turn(rt, timers, pass, objects_pass, id);
         if is_ready(objects, &held, from) {
             return held;
         }
-        objects.release(pass, held);
+        objects.release(objects_pass, held);
     }
     unreachable!()
 }

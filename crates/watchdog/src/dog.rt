@@ -18,12 +18,13 @@ impl Handler for Dog {
     ghost use Rattle.expire_pass.specs.declared.handler.Restart.TheVariants as restarts;
 
     // What each function does; for how many functions there is room; the most timers that it serves, here all that there can be; and how
-    // many bases it needs.
+    // many bases and counters it needs.
     ghost meaning = { record {
       did = λ o h h' k k' c reading restart. restart ≡ restarts.Stop;
       ready = λ h. 2 ^ 64;
       timers = λ h. 65536;
       bases = λ h. 0;
+      counters = λ h. 0;
     } };
 
     fn fire<R: Wait>(
