@@ -13,6 +13,7 @@ pub mod Fired
 pub mod PartKept
 pub mod Expired
 pub mod ObjectLooks
+pub mod ObjectTurns
 pub mod ObjectMade
 pub mod Armed
 pub mod Sights

@@ -29,6 +29,7 @@ use Rattle.script_text.specs.declared.script.Script.{Script}
 use Rattle.run_history.specs.Truths.{WasOffLine}
 use Rattle.run_history.specs.Runs.{witness_of, Ending}
 use Rattle.run_history.specs.Truths.{HadEntries}
+use Rattle.call_laws.proofs.ObjectTurns.{entries_had}
 use Rattle.lane_world.specs.Called.{CalledThen, lane_caller, CallsOverrun, gettime_told, LaneOf, with_done}
 use Rattle.lane_world.proofs.Kept.{Follows, IsNextCall, KeepsCall}
 use Rattle.lane_world.proofs.SeenMore.{begins_same}
@@ -36,7 +37,7 @@ use Rattle.lane_world.specs.Worlds.{WorldOf}
 use Rattle.call_laws.proofs.CallKept.{clock_left, LooksAtClock}
 use Rattle.lane_world.proofs.PartLists.{no_notes-joins}
 use Rattle.lane_world.proofs.ObjectSeen.{object_after, object_seen}
-use Rattle.call_laws.proofs.Sights.{DoesNothing, entries_had, IsToldSo, keeps_sight, LooksOnly, notes_alone}
+use Rattle.call_laws.proofs.Sights.{DoesNothing, IsToldSo, keeps_sight, LooksOnly, notes_alone}
 use Rattle.call_laws.proofs.CallKept.{reading_of_seen}
 use Rattle.script_text.specs.declared.script.Kind.{Kind}
 use Rattle.record_text.specs.declared.record.RunRecord.{RunRecord}

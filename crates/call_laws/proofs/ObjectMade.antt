@@ -1,6 +1,5 @@
 -- A call on an object that made an entry, as its lane keeps it: it found the object's timer, perhaps cancelled and perhaps started it, and then made the entry.
 use Rattle.call_laws.proofs.Parts.{HasRead}
-use Rattle.call_laws.proofs.CallKept.{IsStamp}
 use Rattle.call_laws.proofs.Noted.{notes_of, notes_of-append, with_done-joins}
 use Rattle.call_laws.proofs.Parts.{part_made, part_none, part_then}
 use Rattle.call_laws.proofs.Stays.{timer_stays}
@@ -16,7 +15,6 @@ use Rattle.timer_objects.specs.Steps.{object_step}
 use Rattle.timer_objects.specs.declared.log.ObjectReceipt.{ObjectReceipt}
 use Rattle.record_text.specs.declared.record.Answer.{Answer}
 use Rattle.record_text.specs.declared.record.ObjectEntry.{ObjectEntry}
-use Rattle.run_history.specs.Told.{object_stamp_in, object_called}
 use Rattle.run_history.specs.Objects.{armed_in_phase}
 use Rattle.script_text.specs.declared.script.Script.{Script}
 use Rattle.lane_notes.specs.Arms.{arm_noted}
@@ -40,7 +38,6 @@ use Rattle.call_laws.proofs.Armed.{IsArmedSo, IsLike, IsRearmSpan, start_true, T
 use Rattle.call_laws.proofs.CallKept.{clock_left, reading_goes_on}
 use Rattle.call_laws.proofs.PartKept.{keeps_part}
 use Rattle.call_laws.proofs.Parts.{IsNotedAs}
-use Rattle.timer_objects.specs.Arming.{stamp_seen}
 use Rattle.timer_objects.specs.declared.cell.SpannedCall.{SpannedCall}
 use Rattle.timer_setting.specs.declared.arming.Arm.TheVariants as arms
 use Rattle.std.proofs.lemmas.List.{append-nil}
@@ -69,12 +66,10 @@ armed_after s r i n k = refl
 
 module _ {s : Script} {x : WorldOf} {l : LaneOf} (m : LaneOf) {call : Call} (next : IsNextCall s x l call) {timer : ℕ} {log : List Receipt}
     {object_log : List ObjectReceipt} {made : SpannedCall} {reply : ObjectReply}
-    (enters : EntersCall x.objects (lane_caller l.pass [] []) (lane_caller m.pass log object_log) timer made reply) {mode : Mode} {ns base : ℕ}
+    (enters : EntersCall x.objects (lane_caller l.pass [] []) (lane_caller m.pass log object_log) timer made reply)
+    {begun w : KnownOfTimers} (turn : HasTurn timer (length enters.commits.adds.before) l.pass.timers.known begun w m.pass.timers.known) {mode : Mode} {ns base : ℕ}
     {reading : ClockReading} {arm : Arm} {cancel : Option (ℕ × ℕ)} {begin : KnownOfTimers}
-    (k : TimerPart s x l timer begin m.pass.timers.known mode ns base reading arm cancel log) where
-  abbrev w : KnownOfTimers
-  w = m.pass.timers.known
-
+    (k : TimerPart s x l timer begin w mode ns base reading arm cancel log) (behind : Begins begun.seen begin.seen) where
   -- the number of the object's entry
   abbrev number : ℕ
   number = length enters.commits.adds.before + 1
@@ -89,12 +84,15 @@ module _ {s : Script} {x : WorldOf} {l : LaneOf} (m : LaneOf) {call : Call} (nex
   -- ---- in a run that goes on from there
 
   module _ {e : Ending} (follows : Follows m.pass e) (joined : IsJoined s e) where
+    worked : GoesOn w.seen e
+    worked = goes_before turn.ends.seen follows.timers
+
     timer_now : witnesses.timer_along (witness_of s e) (length w.seen) timer ≡ timer_then x.timers.about w.seen timer
-    timer_now = timer_stays next.world.timers joined w.seen follows.timers timer
+    timer_now = timer_stays next.world.timers joined w.seen worked timer
 
     -- law: a timer as the lane knew it where the call found it is the script's
     pub timer_found : witnesses.timer_along (witness_of s e) (length begin.seen) timer ≡ timer_then x.timers.about begin.seen timer
-    timer_found = timer_stays next.world.timers joined begin.seen (goes_before k.part.1.enters.seen follows.timers) timer
+    timer_found = timer_stays next.world.timers joined begin.seen (goes_before k.part.1.enters.seen worked) timer
 
     -- law: what became of its start
     pub outcome_is : IsArmedSo arm (witnesses.timer_along (witness_of s e) (length w.seen) timer)
@@ -123,53 +121,38 @@ module _ {s : Script} {x : WorldOf} {l : LaneOf} (m : LaneOf) {call : Call} (nex
         (subst (λ o. IsLike on_clock arm o (witnesses.timer_along (witness_of s e) (length w.seen) timer)) (sym phase_is)
         (subst (IsLike on_clock arm (armed_in_phase phase)) (sym timer_now) like))
 
-    -- the run has the entry's span
-    span_is : e.spans timer number ≡ (made.from, made.to)
-    span_is =
-        span_made m.pass.objects e timer (length enters.commits.adds.before) step (follows.objects timer)
-        (subst (λ ys. slice_get ys (length enters.commits.adds.before) ≡ Some step) (sym enters.commits.adds.last)
-        (at_seam enters.commits.adds.before [] step))
+    -- law: the object had just the entries before it where the call found its timer, and where it had done its part of that
+    pub stood_first : StoodBefore (witness_of s e) timer number (length begin.seen)
+    stood_first = stood_before turn begin.seen joined follows.timers behind k.part.1.enters.seen
 
-    -- law: it is the whole part, where it goes from the timer as the call found it to the timer as it left it
-    pub whole_span : made.from ≡ stamp_seen x.timers.about begin timer → made.to ≡ stamp_seen x.timers.about w timer
-        → IsSpan (witness_of s e) (length begin.seen) timer number (length w.seen)
-    whole_span from to =
-        span_is ∙ ap (λ n. (n, made.to)) (from ∙ sym (ap (λ (u : Timer). u.stamp) timer_found))
-        ∙ ap (λ n. ((witnesses.timer_along (witness_of s e) (length begin.seen) timer).stamp, n)) (to ∙ sym (ap (λ (u : Timer). u.stamp) timer_now))
-
-    -- law: or as it is where the call starts the timer only if it has expired
-    pub rearm_span : (b : Arm) → IsRearmSpan (timer_then x.timers.about begin.seen timer) (timer_then x.timers.about w.seen timer) b made.from made.to
-        → IsSpanBy (witness_of s e) (length begin.seen) timer number (arm_noted b) (length w.seen)
-    rearm_span arms.NotAsked spans = record {
-      empty = ap (λ p. p.0) span_is ∙ spans.0 ∙ sym (ap (λ p. p.1) span_is);
-      seen = λ none. let le = spans.1 (sym (ap (λ (u : Timer). u.running) timer_now) ∙ none) in
-          omega (arith, le, ap (λ (u : Timer). u.stamp) timer_now, ap (λ p. p.0) span_is);
-    }
-    rearm_span b spans = whole_span spans.0 spans.1
+    pub stood_last : StoodBefore (witness_of s e) timer number (length w.seen)
+    stood_last = stood_before turn w.seen joined follows.timers (begins_trans behind k.part.1.enters.seen) (begins_refl w.seen)
 
   -- ---- the call
 
   module _ (reads : ReadsClock l.pass m.pass reading) (notes : m.notes ≡ with_done l.notes l.label log object_log) {entry : ObjectEntry}
       (noted : IsNotedAs (HasRead reading) made.call reply entry) where
+    -- the receipts of the call: those of its part of the timer, and that of the object's entry
+    abbrev receipts : List PlacedEntry
+    receipts = k.part.0 ++ (enters_entry turn s (HasRead reading)).0 ∷ []
+
     -- law: a lane keeps the call, where it fits
-    pub keeps_made : (a : Answer) → IsStamp m.pass.objects (object_called call) (object_stamp_in a)
-        → ((e : Ending) → Follows m.pass e → IsJoined s e → IsKept (witness_of s e) (moves_spans e) l.label
-        (plain reading.stamp (length begin.seen) (length w.seen) (settime_actions timer cancel k.start number entry)) k.part.0 call a (seen_by l.pass)
-        (seen_by m.pass) → (moves_spans e).first l.label ≤ length begin.seen
+    pub keeps_made : (a : Answer) → ((e : Ending) → Follows m.pass e → IsJoined s e → IsKept (witness_of s e) (moves_spans e) l.label
+        (plain reading.stamp (length begin.seen) (length m.pass.timers.known.seen) (settime_actions timer cancel k.start number entry)) receipts call a
+        (seen_by l.pass) (seen_by m.pass) → (moves_spans e).first l.label ≤ length begin.seen
         → FitsCall (witness_of s e) l.label call a (seen_by l.pass) (seen_by m.pass))
         → KeepsCall s l call a m
-    keeps_made a stamp fits =
+    keeps_made a fits =
         let p = l.pass in
         let q = m.pass in
         let receipt_of : ObjectReply → ObjectReceipt = λ r. record { object = timer; number = number; call = made; reply = r } in
         let this = receipt_of step.reply ∷ [] in
         let log_is : object_log ≡ this = enters.object_log ∙ ap (λ r. receipt_of r ∷ []) enters.reply in
-        let entered = part_made {s = s} {label = l.label} {v = w} {q = q.objects} {step = step} enters.commits.adds enters.commits.opening
-        (subst (λ r. IsNotedAs (HasRead reading) made.call r entry) enters.reply noted) in
-        let whole = rw (append-nil k.part.0) at (part_then (part_none {v = p.timers.known} {p = p.objects} {w = begin} k.seen k.mine)
-        (part_then k.part.1 entered)) in
-        keeps_part next m a (plain reading.stamp (length begin.seen) (length w.seen) (settime_actions timer cancel k.start number entry)) whole
+        let entered = part_made {label = l.label} {q = q.objects} {step = step} enters.commits.adds enters.commits.opening
+        (subst (λ r. IsNotedAs (HasRead reading) made.call r entry) enters.reply noted) (enters_entry turn s (HasRead reading)) in
+        let whole = part_then (part_none {v = p.timers.known} {p = p.objects} {w = begin} k.seen k.mine) (part_then k.part.1 entered) in
+        keeps_part next m a (plain reading.stamp (length begin.seen) (length q.timers.known.seen) (settime_actions timer cancel k.start number entry)) whole
         (reading_goes_on p q reading reads) (clock_left reads.same)
         (notes ∙ with_done-joins l.notes l.label log object_log ∙ ap (both_noted l.notes) (ap (notes_of l.label log) log_is
-        ∙ ap (λ rs. notes_of l.label rs this) (sym (append-nil log)) ∙ notes_of-append l.label log [] [] this)) refl reads.count stamp
+        ∙ ap (λ rs. notes_of l.label rs this) (sym (append-nil log)) ∙ notes_of-append l.label log [] [] this)) refl reads.count
         (λ e follows joined has kept low. let le = begins_length k.seen in fits e follows joined kept (omega (arith, le, low)))

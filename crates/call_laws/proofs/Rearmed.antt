@@ -7,15 +7,15 @@ use Rattle.ktime.specs.declared.mode.Mode.TheVariants as modes
 use Rattle.base_row.specs.declared.view.Opening.{Opening}
 use Rattle.base_row.specs.declared.log.Receipt.{Receipt}
 use Rattle.hr_timers.specs.Known.{KnownOfTimers, timer_then}
-use Rattle.hr_timers.specs.declared.answer.StartAnswer.TheVariants as starts
-use Rattle.hr_timers.specs.declared.answer.StartAnswer.{StartAnswer}
+use Rattle.pass_names.specs.Passes.{Begins}
+use Rattle.pass_names.specs.SharedHistory.{LooksOn}
+use Rattle.pass_names.proofs.Passes.{begins_trans}
 use Rattle.timer_setting.specs.Phases.{next_start}
 use Rattle.timer_setting.specs.declared.arming.Arm.TheVariants as arms
 use Rattle.timer_setting.specs.declared.arming.Arm.{Arm}
 use Rattle.timer_setting.specs.declared.arming.Wanted.{Wanted}
 use Rattle.timer_setting.specs.declared.phase.Phase.TheVariants as phases
 use Rattle.timer_setting.specs.declared.phase.Phase.{Phase}
-use Rattle.timer_objects.specs.Arming.{arm_of, quiet_at}
 use Rattle.timer_objects.specs.Calls.{BearsRestart, RearmsFor, wanted_by}
 use Rattle.timer_objects.specs.declared.cell.Span.{Span}
 use Rattle.timer_objects.specs.declared.object.Object.TheVariants as objects
@@ -29,7 +29,7 @@ use Rattle.lane_world.specs.Called.{LaneOf}
 use Rattle.lane_world.proofs.Kept.{IsNextCall}
 use Rattle.lane_world.proofs.SeenMore.{begins_same}
 use Rattle.lane_world.specs.Worlds.{WorldOf}
-use Rattle.call_laws.proofs.Armed.{IsLike, IsRearmSpan, start_none, start_part, TimerPart}
+use Rattle.call_laws.proofs.Armed.{IsLike, start_none, start_part, TimerPart}
 use Rattle.call_laws.proofs.Parts.{part_none}
 
 -- it keeps the timer's clock, and its time isn't past the end of time

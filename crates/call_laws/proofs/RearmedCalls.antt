@@ -1,6 +1,5 @@
 -- Calls on objects that may arm their timer again, as their lanes keep them: an acceptance, a read, and a gettime of either kind.
 use Rattle.call_laws.proofs.Entering.{made_inside}
-use Rattle.call_laws.proofs.CallKept.{IsStamp}
 use Rattle.std.proofs.Common.{◌≡◌, ◌≤◌, ℕ, Some, option_map, List, [], length, refl, sym, ap, subst}
 use Rattle.clock_cell.specs.Views.{writes}
 use Rattle.ktime.specs.Readings.{ClockReading}
@@ -32,7 +31,6 @@ use Rattle.record_text.specs.declared.record.ObjectEntry.TheVariants as object_e
 use Rattle.record_text.specs.declared.record.ReadReply.TheVariants as reads
 use Rattle.record_text.specs.declared.record.ReadReply.{ReadReply}
 use Rattle.run_history.specs.FdHistories.{fd_arm, read_answer_of}
-use Rattle.run_history.specs.Told.{object_stamp_in}
 use Rattle.run_history.specs.Histories.{reading_at}
 use Rattle.run_history.specs.ObjectCalls.{DoesGettime}
 use Rattle.script_text.specs.Declarations.{kind_of}
@@ -53,7 +51,6 @@ use Rattle.ktime.specs.declared.mode.Mode.TheVariants as modes
 use Rattle.timer_objects.specs.Calls.{wanted_by}
 use Rattle.record_text.specs.declared.record.Armed.{Armed}
 use Rattle.run_history.specs.Actions.{Action}
-use Rattle.run_history.specs.Told.{object_called}
 use Rattle.run_history.specs.Fits.{FitsCall}
 use Rattle.run_history.specs.Receipts.{PlacedEntry}
 use Rattle.run_history.specs.Runs.{witness_of, Ending, IsJoined, moves_spans}
@@ -88,10 +85,11 @@ arm_back arm = (refl, refl)
 module _ {s : Script} {x : WorldOf} {l m : LaneOf} {call : Call} (next : IsNextCall s x l call) {timer : ℕ} {a : Answer} {Does : Caller → Caller → ClockReading → Type 0} (c : CallsObject x l m a Does) {r : Rearming} {reply : ObjectReply}
     (made : RearmingMade x.objects x.timers.about (lane_caller l.pass [] []) (lane_caller m.pass c.log c.object_log) timer r c.reading reply)
     (entry : Armed → ObjectEntry) where
-  part : RearmPart s x l timer m.pass.timers.known (decl_at x.objects timer).base c.reading made.arm made.span c.log
+  part : RearmPart s x l timer made.begun made.worked (decl_at x.objects timer).base c.reading made.arm c.log
   part =
       let object = made.enters.commits.state.object in
-      rearm_part next timer c.reading made.enters.commits.state.last (wanted_by r object c.reading) made.arm (wanted_timely r object c.reading) made.rearms
+      rearm_part next timer c.reading made.enters.commits.state.last (wanted_by r object c.reading) made.arm (wanted_timely r object c.reading)
+      made.turn.looks made.rearms
 
   rearmed : {e : Ending} → Follows m.pass e → IsJoined s e
       → IsRearmed (witness_of s e) l.label part.does.part.0 c.reading.stamp (length part.begin.seen) (length m.pass.timers.known.seen) timer
@@ -115,16 +113,16 @@ module _ {s : Script} {x : WorldOf} {l m : LaneOf} {call : Call} (next : IsNextC
       → skip_generation (rearming_call r c.reading made.arm) reply ≡ None
       → ((clock : List ClockLine)
       → ShowsObjectCall clock (rearming_call r (reading_at clock c.reading.stamp) made.arm) reply (entry (arm_noted made.arm)))
-      → (b : Answer) → IsStamp m.pass.objects (object_called call) (object_stamp_in b) → ((e : Ending) (begin last : ℕ) (arm : Armed) (start : List Action)
+      → (b : Answer) → ((e : Ending) (begin last : ℕ) (arm : Armed) (start : List Action)
       (number : ℕ)
       (notes : List PlacedEntry) → IsKept (witness_of s e) (moves_spans e) l.label
       (plain c.reading.stamp begin last (rearming_actions timer start number (entry arm))) notes call b (seen_by l.pass) (seen_by m.pass)
       → (moves_spans e).first l.label ≤ begin → IsRearmed (witness_of s e) l.label notes c.reading.stamp begin last timer arm start number
       → FitsCall (witness_of s e) l.label call b (seen_by l.pass) (seen_by m.pass))
       → KeepsCall s l call b m
-  keeps_rearming noted no_skip shows b stamp fits =
-      keeps_made m next made.enters part.does c.reads c.notes
-      (noted_at c.reading (λ r'. rearming_call r r' made.arm) reply (entry (arm_noted made.arm)) noted no_skip shows) b stamp
+  keeps_rearming noted no_skip shows b fits =
+      keeps_made m next made.enters made.turn part.does part.behind c.reads c.notes
+      (noted_at c.reading (λ r'. rearming_call r r' made.arm) reply (entry (arm_noted made.arm)) noted no_skip shows) b
       (λ e follows joined kept low. fits e _ _ (arm_noted made.arm) part.does.start _ part.does.part.0 kept low (rearmed follows joined))
 
 -- ---- the calls
@@ -135,22 +133,21 @@ pub keeps_accept : {s : Script} {x : WorldOf} {l m : LaneOf} {a : Answer} {timer
 keeps_accept {s} {x} {l} {m} {a} {timer} next called = subst (λ b. KeepsCall s l (calls.Accept timer) b m) (sym called.1) (by_answer called.0 called.2)
   where
     accepted : (reply : AcceptReply) → accept_noted (accept_answer_of reply) ≡ Some reply
-        → IsStamp m.pass.objects (Some timer) (object_stamp_in (answer_of_accept reply))
         → CallsObject x l m a (λ old new reading. RearmingMade x.objects x.timers.about old new timer rearmings.Accepting reading
         (replies.Posix (posix_replies.Accept (accept_answer_of reply)))) → KeepsCall s l (calls.Accept timer) (answer_of_accept reply) m
-    accepted reply back stamp c =
+    accepted reply back c =
         keeps_rearming next c c.does (λ arm. object_entries.Accept c.reading.stamp arm reply)
         (ap (option_map (λ (r : AcceptReply). object_entries.Accept c.reading.stamp (arm_noted c.does.arm) r)) back) refl (λ clock.
         ap (λ k. Some (record { call = posix_calls.Accept (reading_at clock c.reading.stamp) k; reply = posix_replies.Accept (accept_answer_of reply) }))
-        (arm_back c.does.arm).0) (answer_of_accept reply) stamp
+        (arm_back c.does.arm).0) (answer_of_accept reply)
         (λ e begin last arm start number notes kept low rearmed. accept_made reply kept low rearmed)
 
     by_answer : (g : AcceptAnswer) → CallsObject x l m a (λ old new reading. Accepts x.objects x.timers.about old new timer reading g)
         → KeepsCall s l (calls.Accept timer) (accept_told g) m
     by_answer (accept_answers.Spent n) c =
-        keeps_full next (answers.Spent n) timer n c.does (clock_left c.reads.same) c.notes (λ stamp. (stamp, refl)) (λ e. refl) (λ e saw. saw)
-    by_answer (accept_answers.Accepted overrun) c = accepted (acceptances.Accepted overrun) refl tt c
-    by_answer accept_answers.NoSignal c = accepted acceptances.NoSignal refl tt c
+        keeps_full next (answers.Spent n) timer n c.does (clock_left c.reads.same) c.notes (λ e. refl) (λ e saw. saw)
+    by_answer (accept_answers.Accepted overrun) c = accepted (acceptances.Accepted overrun) refl c
+    by_answer accept_answers.NoSignal c = accepted acceptances.NoSignal refl c
 
 -- law: a lane keeps a read
 pub keeps_read : {s : Script} {x : WorldOf} {l m : LaneOf} {a : Answer} {timer len : ℕ} → IsNextCall s x l (calls.Read timer len)
@@ -159,26 +156,26 @@ keeps_read {s} {x} {l} {m} {a} {timer} {len} next called =
     subst (λ b. KeepsCall s l (calls.Read timer len) b m) (sym called.1) (by_answer called.0 called.2)
   where
     read : (reply : ReadReply) → read_noted (read_answer_of reply) ≡ Some reply
-        → IsStamp m.pass.objects (Some timer) (object_stamp_in (answer_of_read reply)) → CallsObject x l m a (λ old new reading. (count_length ≤ len)
+        → CallsObject x l m a (λ old new reading. (count_length ≤ len)
         × RearmingMade x.objects x.timers.about old new timer rearmings.Reading reading (replies.Fd (fd_replies.Read (read_answer_of reply))))
         → KeepsCall s l (calls.Read timer len) (answer_of_read reply) m
-    read reply back stamp c =
+    read reply back c =
         keeps_rearming next c c.does.1 (λ arm. object_entries.Read c.reading.stamp arm reply)
         (ap (option_map (λ (r : ReadReply). object_entries.Read c.reading.stamp (arm_noted c.does.1.arm) r)) back) refl (λ clock.
         ap (λ k. Some (record { call = fd_calls.Read (reading_at clock c.reading.stamp) k; reply = fd_replies.Read (read_answer_of reply) }))
-        (arm_back c.does.1.arm).1) (answer_of_read reply) stamp
+        (arm_back c.does.1.arm).1) (answer_of_read reply)
         (λ e begin last arm start number notes kept low rearmed. read_made len reply kept low rearmed c.does.0)
 
     by_answer : (g : ReadAnswer) → CallsObject x l m a (λ old new reading. ReadsFd x.objects x.timers.about old new timer len reading g)
         → KeepsCall s l (calls.Read timer len) (read_told g) m
     by_answer read_answers.ShortBuffer c =
-        keeps_same next answers.Invalid c.does.1 (clock_left c.reads.same) c.notes tt (λ e. (refl, c.does.0)) (λ e. tt)
+        keeps_same next answers.Invalid c.does.1 (clock_left c.reads.same) c.notes (λ e. (refl, c.does.0)) (λ e. tt)
     by_answer (read_answers.Spent n) c =
-        keeps_full next (answers.Spent n) timer n c.does.1 (clock_left c.reads.same) c.notes (λ stamp. (stamp, refl)) (λ e. (refl, c.does.0))
+        keeps_full next (answers.Spent n) timer n c.does.1 (clock_left c.reads.same) c.notes (λ e. (refl, c.does.0))
         (λ e saw. saw)
-    by_answer (read_answers.Count total) c = read (reads.Count total) refl tt c
-    by_answer read_answers.Canceled c = read reads.Canceled refl tt c
-    by_answer read_answers.Again c = read reads.Again refl tt c
+    by_answer (read_answers.Count total) c = read (reads.Count total) refl c
+    by_answer read_answers.Canceled c = read reads.Canceled refl c
+    by_answer read_answers.Again c = read reads.Again refl c
 
 -- law: a lane keeps a gettime of a descriptor
 pub keeps_gettime-fd : {s : Script} {x : WorldOf} {l m : LaneOf} {a : Answer} {timer base : ℕ} → IsNextCall s x l (calls.Gettime timer)
@@ -188,7 +185,7 @@ pub keeps_gettime-fd : {s : Script} {x : WorldOf} {l m : LaneOf} {a : Answer} {t
 keeps_gettime-fd {s = s} {l = l} {m = m} {timer = timer} next kind (gettimes.Spent n) c =
     subst (λ b. KeepsCall s l (calls.Gettime timer) b m) (sym c.does.1)
     (keeps_full next (answers.Spent n) timer n c.does.0 (clock_left c.reads.same) c.notes
-    (λ stamp. (stamp, refl)) (λ e. let last = length m.pass.timers.known.seen in
+    (λ e. let last = length m.pass.timers.known.seen in
     subst (λ k. DoesGettime (WasOffLine (witness_of s e) last last) s.limit k timer (length (writes m.pass.clock.knows)) (answers.Spent n) [])
     (sym kind) refl) (λ e saw. saw))
 keeps_gettime-fd {s = s} {l = l} {m = m} {timer = timer} {base = base} next kind (gettimes.Left left interval stamp) c =
@@ -196,4 +193,4 @@ keeps_gettime-fd {s = s} {l = l} {m = m} {timer = timer} {base = base} next kind
     (keeps_rearming next c c.does.0.0 (λ arm. object_entries.Gettime c.reading.stamp arm left interval) refl refl
     (λ clock. ap (λ k. Some (record { call = fd_calls.Gettime (reading_at clock c.reading.stamp) k; reply = (fd_replies.Gettime (lefts.Left left interval)) }))
     (arm_back c.does.0.0.arm).1)
-    (answers.Left left interval) tt (λ e begin last arm start number notes kept low rearmed. gettime_made base left interval kept low rearmed kind))
+    (answers.Left left interval) (λ e begin last arm start number notes kept low rearmed. gettime_made base left interval kept low rearmed kind))

@@ -1,6 +1,5 @@
 -- A settime of an object, as its lane keeps it: the disarming of the object's timer, its start, and the object's entry.
 use Rattle.call_laws.proofs.Entering.{made_inside}
-use Rattle.call_laws.proofs.CallKept.{IsStamp}
 use Rattle.std.proofs.Common.{◌≡◌, ℕ, ◌+◌, true, Option, None, Some, List, [], length, arith, refl, sym, ap, ◌∙◌, subst}
 use Rattle.std.specs.Prelude.{MatchOption}
 use Rattle.ktime.specs.Readings.{ClockReading}
@@ -19,7 +18,6 @@ use Rattle.record_text.specs.declared.record.Answer.TheVariants as answers
 use Rattle.record_text.specs.declared.record.Answer.{Answer}
 use Rattle.record_text.specs.declared.record.SettimeReply.TheVariants as settimes
 use Rattle.record_text.specs.declared.record.SettimeReply.{SettimeReply}
-use Rattle.run_history.specs.Told.{object_stamp_in}
 use Rattle.run_history.specs.ObjectCalls.{Arms, cancels, nanoseconds_of, start_mode}
 use Rattle.script_text.specs.Declarations.{kind_of}
 use Rattle.script_text.specs.declared.script.Call.TheVariants as calls
@@ -55,7 +53,7 @@ module _ {s : Script} {x : WorldOf} {l : LaneOf} (m : LaneOf) {timer flags : ℕ
     reading a)
     (valid : AreValid (bits_beyond (flags_of (decl_at x.objects timer).kind) flags) value interval) where
   abbrev w : KnownOfTimers
-  w = m.pass.timers.known
+  w = set.worked
 
   abbrev call : ObjectCall
   call = settime_by x.objects timer flags (time_of value) (time_of interval) reading set.arm
@@ -75,7 +73,8 @@ module _ {s : Script} {x : WorldOf} {l : LaneOf} (m : LaneOf) {timer flags : ℕ
       (d.receipts ∙ ap (λ k. receipts_of timer k (cancel_entries d.answer)) d.from)
 
   part : TimerPart s x l timer begin w (mode_by flags) (time_of value) (decl_at x.objects timer).base reading set.arm disarmed.0 log
-  part = settime_start next timer reading set.cancel_log set.disarms.cancelled.made.from refl disarmed.1 flags (time_of value) set.arm set.arms
+  part = settime_start next timer reading set.cancel_log (begins_trans set.turn.looks.seen set.disarms.cancelled.made.from) refl disarmed.1 flags
+      (time_of value) set.arm set.arms
 
   noted : SettimeNoted flags (time_of value) (time_of interval) reading a (decl_at x.objects timer).kind set.arm set.reply
   noted =
@@ -114,13 +113,10 @@ module _ {s : Script} {x : WorldOf} {l : LaneOf} (m : LaneOf) {timer flags : ℕ
   -- law: the lane keeps it
   pub keeps_set : KeepsCall s l (calls.Settime timer flags value interval) (settime_told a) m
   keeps_set = subst (λ b. KeepsCall s l (calls.Settime timer flags value interval) b m) (sym noted.answers)
-      (keeps_made m next set.enters part reads notes noted.noted (answer_of_settime noted.told) (no_stamp noted.told) (λ e follows joined kept low.
+      (keeps_made m next set.enters set.turn part set.disarms.cancelled.made.from reads notes noted.noted (answer_of_settime noted.told)
+      (λ e follows joined kept low.
       settime_made noted.told kept low (is_set follows joined)
       (noted.refused (witness_of s e) timer (length w.seen) (outcome_is m next set.enters part follows joined))))
-    where
-      no_stamp : (reply : SettimeReply) → IsStamp m.pass.objects (Some timer) (object_stamp_in (answer_of_settime reply))
-      no_stamp settimes.Canceled = tt
-      no_stamp reply = tt
 
 -- ---- each settime
 
@@ -150,7 +146,7 @@ keeps_settime {s = s} {x = x} {l = l} {m = m} {a = a} {timer = timer} {flags = f
         let takes = takes_valid (kind_of s timer) _ flags value interval (declared_over s x timer next.world)
         (λ raw. let none = raw_object next full.reads.at raw in omega (arith, none.1, full.full, full.stamp, next.world.limit, next.range.limit.0)) in
         keeps_full next (answers.Spent n) timer n full (clock_left c.reads.same) c.notes
-        (λ stamp. (stamp, refl)) (λ e. (refl, takes.0 valid)) (λ e saw. saw)
+        (λ e. (refl, takes.0 valid)) (λ e saw. saw)
     by_answer settings.BadFlags valid made = absurd made
     by_answer settings.BadTime valid made = absurd made
     by_answer answer valid made = keeps_set m next c.reads c.notes made valid
@@ -162,5 +158,5 @@ keeps_settime {s = s} {x = x} {l = l} {m = m} {a = a} {timer = timer} {flags = f
     by_arguments None valid made = by_answer called.0 valid made
     by_arguments (Some refusal) bad refused =
         subst (λ b. KeepsCall s l (calls.Settime timer flags value interval) b m) (sym (ap settime_told refused.0 ∙ bad.0))
-        (keeps_same next answers.Invalid refused.1 (clock_left c.reads.same) c.notes tt
+        (keeps_same next answers.Invalid refused.1 (clock_left c.reads.same) c.notes
         (λ e. (refl, λ v. bad.1 (valid_for (kind_of s timer) _ flags value interval (declared_over s x timer next.world) v))) (λ e. tt))

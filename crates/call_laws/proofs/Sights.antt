@@ -1,6 +1,6 @@
 -- Calls on objects that make no entry: a lane keeps a call that looked at timers and objects only, and one that found its object's history full.
 use Rattle.call_laws.proofs.Parts.{part_alone, part_as}
-use Rattle.std.proofs.Common.{◌≡◌, ◌≤◌, ℕ, suc, List, [], length, arith, refl, sym, ap, ◌∙◌, subst}
+use Rattle.std.proofs.Common.{◌≡◌, ◌≤◌, ℕ, List, [], length, arith, refl, sym, ap, ◌∙◌, subst}
 use Rattle.std.proofs.lemmas.Option.{slice_get_within}
 use Rattle.clock_cell.specs.Views.{writes}
 use Rattle.pass_names.specs.Passes.{Begins}
@@ -18,9 +18,8 @@ use Rattle.run_history.specs.Calls.{Does}
 use Rattle.run_history.specs.Witnesses.{Trace}
 use Rattle.run_history.specs.Promises.{HasLog}
 use Rattle.run_history.specs.Runs.{witness_of, Ending, IsJoined}
-use Rattle.run_history.specs.Truths.{AnswerHolds, HadEntries, SawFull, WasOffLine}
-use Rattle.timer_objects.specs.Turns as timer_turns
-use Rattle.hr_timers.specs.Known.{KnownOfTimers}
+use Rattle.run_history.specs.Truths.{AnswerHolds, SawFull, WasOffLine}
+use Rattle.call_laws.proofs.ObjectTurns.{entries_had}
 use Rattle.run_history.proofs.OthersMade.{plain, quiet_made}
 use Rattle.lane_world.specs.Called.{lane_caller, LaneOf, with_done}
 use Rattle.lane_world.proofs.Kept.{Follows, IsNextCall, KeepsCall, log_of}
@@ -37,7 +36,7 @@ use Rattle.record_text.specs.declared.record.Answer.TheVariants as answers
 use Rattle.record_text.specs.declared.record.ClockLine.{ClockLine}
 use Rattle.run_history.specs.Actions.{made}
 use Rattle.script_text.specs.declared.script.Call.TheVariants as calls
-use Rattle.run_history.specs.Promises.{GoesOn, GoesOnClock}
+use Rattle.run_history.specs.Promises.{GoesOnClock}
 use Rattle.run_history.specs.Receipts.{PlacedEntry}
 use Rattle.lane_world.specs.Called.{CallsPeek}
 use Rattle.call_laws.proofs.Entering.{looks_made}
@@ -78,11 +77,6 @@ pub notes_alone : (l m : LaneOf) {log : List Receipt} {object_log : List ObjectR
 notes_alone l m {object_log = object_log} none no_objects notes =
     notes ∙ ap (λ rs. with_done l.notes l.label rs object_log) none ∙ ap (λ rs. with_done l.notes l.label [] rs) no_objects
     ∙ with_done-joins l.notes l.label [] [] ∙ sym (no_notes-joins l.notes)
-
--- law: the timers' pass was told of so many entries of an object, which had as many then
-pub entries_had : {s : Script} {e : Ending} (i n : ℕ) (k : KnownOfTimers) → IsJoined s e → GoesOn k.seen e → timer_turns.entries_told i k ≡ n
-    → HadEntries (witness_of s e) i n (length k.seen)
-entries_had i n k joined goes told = rises_along (suc i) k.seen joined goes ∙ told
 
 -- ---- the call
 
