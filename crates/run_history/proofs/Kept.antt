@@ -91,15 +91,19 @@ module _ {w : Witness} {moves : Spans} {c : Label} {t : Trace} {notes : List Pla
       (omega (arith, high, kept.last)) (kept.all ∙ ap (map at_place) stops.split ∙ map-append at_place stops.early stops.late)
       (places_below n stops.early stops.below) (places_behind n stops.late stops.behind))
 
-  -- it had made nothing before its first entry, and all of these behind its last
+  -- it had made nothing before its first entry, and all behind its last
   pub none_yet : (n : ℕ) → AllByRecursion (λ x. n ≤ x.place) notes → Stops c notes [] n
   none_yet n behind = record { early = []; late = notes; split = refl; are = refl; below = tt; behind = behind }
 
-  pub made_all : (n : ℕ) (early : List Action) → all_entered t.actions ≡ all_entered early → AllByRecursion (λ x. x.place < n) notes → Stops c notes early n
-  made_all n early same below = record { early = notes; late = []; split = sym (append-nil notes); are = kept.entered ∙ same; below = below; behind = tt }
-
   pub made_at_end : Stops c notes t.actions t.last
-  made_at_end = made_all t.last t.actions refl (inside_below (moves.first c) t.last notes kept.inside)
+  made_at_end = record {
+    early = notes;
+    late = [];
+    split = sym (append-nil notes);
+    are = kept.entered;
+    below = inside_below (moves.first c) t.last notes kept.inside;
+    behind = tt;
+  }
 
   -- A call fits that begins at a moment at which it had made nothing: it did what its arguments and its answer say, what it was told held, and the
   -- answer is right.
