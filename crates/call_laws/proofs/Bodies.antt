@@ -95,11 +95,8 @@ module _ (s : Script) (o : Opening) (is : o ≡ opening_for s) (some : 1 ≤ s.l
         enters = enters_none looks.0 looks.1;
         part = part_alone same (part_looked claim number event observation reply looks.0 looks.1 noted
             (omega (arith, counted, (count_begins (TimersList c.timer) made.from))) (omega (arith, counted, (count_begins (TimersList c.timer) made.seen))));
-        ran = λ e joined goes follows finish restarted. (
-          does e joined goes finish restarted,
-          λ before points. (rw observes (saw_quiet is joined goes made number observation stamp holds), below),
-          tt,
-        );
+        ran = λ e joined goes finish restarted.
+            (does e joined goes finish restarted, (rw observes (saw_quiet is joined goes made number observation stamp holds), below));
       }
 
   -- a callback that made an entry of its timer
@@ -117,7 +114,7 @@ module _ (s : Script) (o : Opening) (is : o ≡ opening_for s) (some : 1 ≤ s.l
         adds = (logs, same_log ∙ sym (append-nil h.object_log.receipts));
         enters = its.1.enters;
         part = part_alone same (part_claimed claim (receipts_of c.timer (timer_then o at c.timer).stamp (e ∷ [])) [] its.1);
-        ran = λ e joined goes follows finish restarted. (does e joined goes finish restarted, λ before points. tt, tt);
+        ran = λ e joined goes finish restarted. (does e joined goes finish restarted, tt);
       }
 
   -- law: the actions of the callback of a timer by itself, as its timer declares it
@@ -133,7 +130,7 @@ module _ (s : Script) (o : Opening) (is : o ≡ opening_for s) (some : 1 ≤ s.l
         adds = (run.1 ∙ sym (append-nil h.log.receipts), same_log ∙ sym (append-nil h.object_log.receipts));
         enters = enters_none looks.0 looks.1;
         part = part_alone same (part_claimed claim [] [] (part_none looks.0 looks.1));
-        ran = λ e joined goes follows finish restarted. (rw kind (refl, ap asks run.2), λ before points. tt, tt);
+        ran = λ e joined goes finish restarted. (rw kind (refl, ap asks run.2), tt);
       }
     where
       looks : Begins v.seen w.seen × (w.mine ≡ v.mine)

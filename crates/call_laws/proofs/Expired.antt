@@ -38,7 +38,6 @@ use Rattle.run_history.specs.Receipts.{PlacedEntry}
 use Rattle.run_history.specs.Runs.{witness_of, Ending, IsJoined, moves_spans}
 use Rattle.run_history.proofs.Expires.{expire_busy, expire_done, expire_more, expiring, HaveRun}
 use Rattle.run_history.proofs.Kept.{IsKept}
-use Rattle.run_history.proofs.Promise.{object_point_from}
 use Rattle.lane_world.specs.Called.{CallsExpire, claimed_in, expire_told, LaneOf}
 use Rattle.lane_world.proofs.Kept.{Follows, IsNextCall, KeepsCall, seen_by}
 use Rattle.lane_world.proofs.SeenMore.{goes_before}
@@ -51,16 +50,11 @@ use Rattle.call_laws.proofs.Fired.{RunKept, turns_kept}
 -- ---- a run that looked on
 
 -- callbacks ran to a later number too
-have_later : (w : Witness) (c : Label) (order : List SystemEntry) (context : Context) (base at : ℕ) (before : List Action) (from : ℕ) (fs : List Fired) (notes : List PlacedEntry)
-    (to to' : ℕ) → to ≤ to' → HaveRun w c order context base at before from fs notes to → HaveRun w c order context base at before from fs notes to'
-have_later w c order context base at before from [] notes to to' le run = (run.0, omega (arith, run.1, le))
-have_later w c order context base at before from (f ∷ fs) notes to to' le run = (
-  run.0,
-  run.1,
-  run.2,
-  run.3,
-  have_later w c order context base at (before ++ fires base at f) run.0 fs run.2 to to' le run.4,
-)
+have_later : (w : Witness) (order : List SystemEntry) (context : Context) (base at from : ℕ) (fs : List Fired) (notes : List PlacedEntry) (to to' : ℕ)
+    → to ≤ to' → HaveRun w order context base at from fs notes to → HaveRun w order context base at from fs notes to'
+have_later w order context base at from [] notes to to' le run = (run.0, omega (arith, run.1, le))
+have_later w order context base at from (f ∷ fs) notes to to' le run =
+    (run.0, run.1, run.2, run.3, have_later w order context base at run.0 fs run.2 to to' le run.4)
 
 -- law: callbacks ran, and behind them their pass only looked
 run_later : {s : Script} {label : Label} {context : Context} {base : ℕ} {reading : ClockReading} {n : ℕ} {v : KnownOfTimers} {p : ObjectsPass} {w : KnownOfTimers}
@@ -75,10 +69,9 @@ run_later {s = s} {label = label} {context = context} {base = base} {reading = r
       notes = run.notes;
       claimed = run.claimed;
       part = part_looks run.part looks.seen looks.mine;
-      have = λ e joined goes follows later behind points.
-          have_later (witness_of s e) label e.order context base reading.stamp [] (length v.seen) run.fired run.notes (length w.seen) (length w'.seen)
-          (begins_length looks.seen)
-          (run.have e joined (goes_before looks.seen goes) follows later behind points);
+      have = λ e joined goes.
+          have_later (witness_of s e) e.order context base reading.stamp (length v.seen) run.fired run.notes (length w.seen) (length w'.seen)
+          (begins_length looks.seen) (run.have e joined (goes_before looks.seen goes));
     }
 
 -- ---- the call
@@ -96,20 +89,15 @@ module _ {s : Script} {x : WorldOf} {l m : LaneOf} {a : Answer} {context : Conte
       → IsKept (witness_of s e) (moves_spans e) l.label
       (expiring base c.reading.stamp (length l.pass.timers.known.seen) (length m.pass.timers.known.seen) run.fired) run.notes (calls.Expire context base budget)
       (told (map (λ f. f.timer) run.fired)) (seen_by l.pass) (seen_by m.pass) → length l.pass.timers.known.seen ≡ (moves_spans e).first l.label
-      → HaveRun (witness_of s e) l.label e.order context base c.reading.stamp [] (length l.pass.timers.known.seen) run.fired run.notes
+      → HaveRun (witness_of s e) e.order context base c.reading.stamp (length l.pass.timers.known.seen) run.fired run.notes
       (length m.pass.timers.known.seen)
       → FitsCall (witness_of s e) l.label (calls.Expire context base budget) (told (map (λ f. f.timer) run.fired)) (seen_by l.pass) (seen_by m.pass))
       → KeepsCall s l (calls.Expire context base budget) (told (claimed_in c.log)) m
   keeps_run told run fits =
-      let is : IsLabel s l.label = slice_get_within (calls_of s l.label.lane) l.label.call next.at next.there in
       rw run.claimed (keeps_part next m (told (map (λ f. f.timer) run.fired))
       (expiring base c.reading.stamp (length l.pass.timers.known.seen) (length m.pass.timers.known.seen) run.fired) run.part (reading_goes_on l.pass m.pass c.reading c.reads)
       (clock_left c.reads.same) (c.notes ∙ with_done-joins l.notes l.label (c.log ++ c.callback_log) c.object_log) refl c.reads.count
-      (λ e follows joined has kept low. fits e follows joined kept low
-      (run.have e joined follows.timers follows.objects [] (λ i. tt)
-      (λ i k before rest parts low high below behind. object_point_from joined is has i k before rest
-      (sym (append-nil (flat_map (fires base c.reading.stamp) run.fired)) ∙ parts) low high below
-      behind))))
+      (λ e follows joined has kept low. fits e follows joined kept low (run.have e joined follows.timers)))
 
   -- the callbacks
   callbacks_kept : (n : ℕ) (w : KnownOfTimers) → Turns firing x.timers.about context base c.reading n l.pass.timers.known c.runs.before [] w c.runs.after c.log
@@ -133,12 +121,12 @@ module _ {s : Script} {x : WorldOf} {l m : LaneOf} {a : Answer} {context : Conte
       → KeepsCall s l (calls.Expire context base budget) (expire_told c.reading.stamp (claimed_in c.log) answer) m
   answer_kept (expiries.More n) run =
       let ran = callbacks_kept n m.pass.timers.known run.1 in
-      keeps_run (λ ts. answers.More c.reading.stamp ts) ran (λ e follows joined kept low have. expire_more e.order kept low have (ran.many ∙ run.0))
+      keeps_run (λ ts. answers.More c.reading.stamp ts) ran (λ e follows joined kept low have. expire_more e.order joined.entries kept low have (ran.many ∙ run.0))
   answer_kept (expiries.Done n) run =
       let ran = run_later (callbacks_kept n run.1.0 run.1.1) run.1.2.0 in
       let none = run.1.2.1 in
       keeps_run (λ ts. answers.Done c.reading.stamp ts) ran
-      (λ e follows joined kept low have. expire_done e.order kept low have (omega (arith, ran.many, run.0)) (record {
+      (λ e follows joined kept low have. expire_done e.order joined.entries kept low have (omega (arith, ran.many, run.0)) (record {
         free = λ t. held e follows joined (λ u r. runs_on base (seen_in context (u.timers t)) ≡ false) (none.idle t);
         first = held e follows joined (λ u r. next_on context (u.bases base) r ≡ None) none.first;
         stopped = λ clock. held e follows joined (λ u r. IsStopped (in_context context u.timers) base r clock) (none.none clock);
@@ -146,7 +134,7 @@ module _ {s : Script} {x : WorldOf} {l m : LaneOf} {a : Answer} {context : Conte
   answer_kept (expiries.BaseBusy n t g) run =
       let ran = run_later (callbacks_kept n run.1.0 run.1.1) run.1.2.0 in
       keeps_run (λ ts. answers.Busy c.reading.stamp ts t g) ran
-      (λ e follows joined kept low have. expire_busy e.order kept low have (omega (arith, ran.many, run.0))
+      (λ e follows joined kept low have. expire_busy e.order joined.entries kept low have (omega (arith, ran.many, run.0))
       (held e follows joined (λ u r. running_on base (seen_in context (u.timers t)) ≡ Some g) run.1.2.1))
 
   -- law: a lane keeps an expiry run

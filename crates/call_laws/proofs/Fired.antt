@@ -1,7 +1,6 @@
 -- The callbacks of an expiry run: one with its claim and its finish, and all of them one behind the other.
 use Rattle.std.proofs.lemmas.List.Sorted.{IsPermutation-middle}
 use Rattle.hr_timers.proofs.Moments.{declared_kept}
-use Rattle.lane_world.proofs.SeenMore.{follows_object}
 use Rattle.call_laws.proofs.Entering.{EntersOne}
 use Rattle.call_laws.proofs.Noted.{notes_of, one_noted, same-trans, same_notes, SameNotes}
 use Rattle.call_laws.proofs.Parts.{part_entry, part_noted, part_then}
@@ -46,13 +45,12 @@ use Rattle.run_history.specs.Calls.{fires}
 use Rattle.run_history.specs.Witnesses.{Fired, OfTimer, TimersList}
 use Rattle.run_history.specs.Receipts.{PlacedEntry}
 use Rattle.run_history.specs.Runs.{witness_of, Ending, IsJoined}
-use Rattle.run_history.specs.Truths.{IsObjectPoint, WasOffLine}
+use Rattle.run_history.specs.Truths.{WasOffLine}
 use Rattle.run_history.proofs.Actions.{made-append}
-use Rattle.run_history.proofs.Expires.{claim_of, finish_of, with_claim, HaveRun, run_push}
+use Rattle.run_history.proofs.Expires.{claim_of, finish_of, HaveRun, run_push}
 use Rattle.run_history.proofs.Known.{made_goes_on}
 use Rattle.run_history.proofs.Reached.{body_wider, was_wider}
 use Rattle.lane_world.specs.Called.{claimed_in}
-use Rattle.lane_world.proofs.Kept.{FollowsObject}
 use Rattle.lane_world.proofs.SeenMore.{count_begins, goes_before, begins_same}
 use Rattle.lane_world.specs.Worlds.{callback_of, IsWorldOf, WorldOf}
 use Rattle.lane_world.proofs.Declared.{declared_callback, declared_over, over_of}
@@ -91,12 +89,6 @@ four note a b c d = rw (notes-append note (a ++ b) (c ++ d), notes-append note a
 
 -- ---- the callbacks so far
 
--- a point of an object's list by the call's actions before and behind it
-abbrev pub HasPoints : Script → Ending → Label → ObjectsPass → ObjectsPass → List Action → Type 0
-HasPoints s e label p q all =
-    (i n : ℕ) (before rest : List Action) → all ≡ before ++ rest → length (seen_of p i) ≤ n → n ≤ length (seen_of q i)
-    → AllByRecursion (λ x. x.0 ≤ n) (made i before) → AllByRecursion (λ x. n < x.0) (made i rest) → IsObjectPoint (witness_of s e) label before i n
-
 -- callbacks of an expiry run from its beginning on: their actions, as a part of the call, and that they ran in every run that goes on from there
 pub record RunKept (s : Script) (label : Label) (context : Context) (base : ℕ) (reading : ClockReading) (n : ℕ) (k : KnownOfTimers) (p : ObjectsPass) (k' : KnownOfTimers)
     (p' : ObjectsPass) (log callback_log : List Receipt) (object_log : List ObjectReceipt) : Type 0 where
@@ -105,10 +97,8 @@ pub record RunKept (s : Script) (label : Label) (context : Context) (base : ℕ)
   pub notes : List PlacedEntry
   pub claimed : claimed_in log ≡ map (λ f. f.timer) fired
   pub part : IsPart s (HasRead reading) label k p k' p' (flat_map (fires base reading.stamp) fired) notes (notes_of label (log ++ callback_log) object_log)
-  pub have : (e : Ending) → IsJoined s e → promises.GoesOn k'.seen e → ((i : ℕ) → FollowsObject e i (seen_of p' i)) → (later : List Action)
-      → ((i : ℕ) → AllByRecursion (λ x. length (seen_of p' i) < x.0) (made i later))
-      → HasPoints s e label p p' (flat_map (fires base reading.stamp) fired ++ later)
-      → HaveRun (witness_of s e) label e.order context base reading.stamp [] (length k.seen) fired notes (length k'.seen)
+  pub have : (e : Ending) → IsJoined s e → promises.GoesOn k'.seen e
+      → HaveRun (witness_of s e) e.order context base reading.stamp (length k.seen) fired notes (length k'.seen)
 
 -- as what a timer was opened
 declared-opened : (list : List Declared) (terms : Terms) (t : ℕ) → (timer_at (openings list terms) t).declared ≡ get_or list t no_declared
@@ -169,12 +159,12 @@ module _ (s : Script) (x : WorldOf) (is : IsWorldOf s x) (some : 1 ≤ s.limit) 
           (subst (λ cb. RunsCallback o v w c reading h.log.receipts h'.log.receipts cb restart) its run.0)
       by_kind (kinds.Posix asked) same =
           let run = by_over (kinds.Posix asked) same in
-          rw run.1 (trigger_kept s h.objects.now limit some label c reading claim restart h h' run.2 run.3 (λ Reached f its. rw same its)
-          (of_kind.Posix (posix_calls.Trigger c.generation reading)) (λ y allows. posix_noted y c.generation reading allows) (λ n. refl) (λ n. refl) run.0)
+          trigger_kept s h.objects.now limit some label c reading claim restart w h h' run.2 run.3 (λ Reached f its. rw same its)
+          (of_kind.Posix (posix_calls.Trigger c.generation reading)) (λ y allows. posix_noted y c.generation reading allows) (λ n. refl) (λ n. refl) run.0
       by_kind (kinds.Fd asked) same =
           let run = by_over (kinds.Fd asked) same in
-          rw run.1 (trigger_kept s h.objects.now limit some label c reading claim restart h h' run.2 run.3 (λ Reached f its. rw same its)
-          (of_kind.Fd (fd_calls.Trigger c.generation reading)) (λ y allows. fd_noted y c.generation reading allows) (λ n. refl) (λ n. refl) run.0)
+          trigger_kept s h.objects.now limit some label c reading claim restart w h h' run.2 run.3 (λ Reached f its. rw same its)
+          (of_kind.Fd (fd_calls.Trigger c.generation reading)) (λ y allows. fd_noted y c.generation reading allows) (λ n. refl) (λ n. refl) run.0
 
   -- a callback ran, with its claim and its finish, in every run that goes on from there
   turn_ran : {k v w k' : KnownOfTimers} {c : ClaimNumbers} {restart : Restart} {h h' : Firing} (claim : IsClaimed s base c reading k v)
@@ -183,14 +173,11 @@ module _ (s : Script) (x : WorldOf) (is : IsWorldOf s x) (some : 1 ≤ s.limit) 
       (finish : EntersOne s (HasRead reading) w k'
       (number, OfTimer c.timer (record { event = events.Finish (asks restart); reply = replies.Finish c.generation restarted }))) (e : Ending)
       → IsJoined s e → promises.GoesOn k'.seen e
-      → ((i : ℕ) → FollowsObject e i (seen_of h'.objects_pass.now i)) → (before : List Action)
-      → ((i : ℕ) → ((j : ℕ) → made j b.body ≡ []) → IsObjectPoint (witness_of s e) label
-      (with_claim base reading.stamp (fired_of c b.body number (asks restart) restarted) before) i (length (seen_of h'.objects_pass.now i)))
-      → (ran : expires.Ran (witness_of s e) label e.order context base reading.stamp before (fired_of c b.body number (asks restart) restarted) (length k.seen)
+      → (ran : expires.Ran (witness_of s e) e.order context base reading.stamp (fired_of c b.body number (asks restart) restarted) (length k.seen)
       (length k'.seen)) × (claim.entered.0 ∷ b.notes ++ finish.0 ∷ [] ≡ expires.notes_of ran)
-  turn_ran {k = k} {v = v} {w = w} {k' = k'} {c = c} {restart = restart} claim b number restarted own finish e joined goes follows before points =
+  turn_ran {k = k} {v = v} {w = w} {k' = k'} {c = c} {restart = restart} claim b number restarted own finish e joined goes =
       let acted = goes_before finish.1.seen goes in
-      let ran = b.ran e joined acted follows number restarted in
+      let ran = b.ran e joined acted number restarted in
       let claimed = goes_before b.enters.seen acted in (
         record {
           claimed = length v.seen;
@@ -211,8 +198,7 @@ module _ (s : Script) (x : WorldOf) (is : IsWorldOf s x) (some : 1 ≤ s.limit) 
           kind = body_wider (WasOffLine (witness_of s e) (length v.seen) (length w.seen)) (WasOffLine (witness_of s e) (length k.seen) (length k'.seen))
               (was_wider (witness_of s e) (begins_length claim.entered.1.seen) (begins_length finish.1.seen)) s.limit (kind_of s c.timer) reading.stamp
               (fired_of c b.body number (asks restart) restarted) ran.0;
-          holds = ran.1 (with_claim base reading.stamp (fired_of c b.body number (asks restart) restarted) before) points;
-          span = ran.2;
+          holds = ran.1;
         },
         refl,
       )
@@ -276,25 +262,10 @@ module _ (s : Script) (x : WorldOf) (is : IsWorldOf s x) (some : 1 ≤ s.limit) 
         notes = run.notes ++ notes;
         claimed = rw (turn.receipts, claimed_in-append log more, run.claimed) (sym (map-append (λ (g : Fired). g.timer) run.fired (f ∷ [])));
         part = rw all (part_noted (same-trans (same_notes logs) order) (part_then run.part part));
-        have = λ e joined goes follows later behind points.
-            let whole : flat_map (fires base at) (run.fired ++ f ∷ []) ++ later ≡ done ++ (one ++ later) = rw (all, append_assoc done one later) refl in
-            let grows = objects_grow p1 p' part.goes_on in
-            let before_run = run.have e joined (goes_before part.enters.seen goes) (λ i. follows_object (part.goes_on.each i) (follows i)) (one ++ later)
-            (λ i. rw (made-append i one later)
-            (each_joined (made i one) (made i later) (λ x le. omega (arith, le)) (λ x less. let le = grows i in omega (arith, less, le))
-            (part.rise i).above (behind i)))
-            (λ i m before rest parts low high below above.
-            points i m before rest (whole ∙ parts) low (let le = grows i in omega (arith, high, le)) below above) in
-            let one_run = turn_ran claim b (u.stamp + 1) restarted own finish e joined goes follows done
-            (λ i none. let le = grows i in
-            points i (length (seen_of p' i)) (with_claim base at f done) ((f.body ++ finishing) ++ later)
-            (whole ∙ sym (append_assoc done claiming ((f.body ++ finishing) ++ later)))
-            (let begun = objects_grow p p1 run.part.goes_on i in omega (arith, le, begun)) (omega arith)
-            (rw (made-append i done claiming, append-nil (made i done))
-            (each_weaker (made i done) (λ x less. omega (arith, less, le)) (run.part.rise i).below))
-            (rw (made-append i (f.body ++ finishing) later, made-append i f.body finishing, none i) (behind i))) in
-            rw one_run.1 (run_push (witness_of s e) label e.order context base at [] done (length k.seen) run.fired run.notes (length k1.seen) f (length k'.seen)
-            before_run refl one_run.0);
+        have = λ e joined goes.
+            let one_run = turn_ran claim b (u.stamp + 1) restarted own finish e joined goes in
+            rw one_run.1 (run_push (witness_of s e) e.order context base at (length k.seen) run.fired run.notes (length k1.seen) f (length k'.seen)
+            (run.have e joined (goes_before part.enters.seen goes)) one_run.0);
       }
     where
       both : {R N : Type 0} (note : R → Option N) (xs ys : List R)
@@ -313,7 +284,7 @@ module _ (s : Script) (x : WorldOf) (is : IsWorldOf s x) (some : 1 ≤ s.limit) 
         notes = [];
         claimed = refl;
         part = part_none (begins_same refl) refl;
-        have = λ e joined goes follows later behind points. (refl, omega arith);
+        have = λ e joined goes. (refl, omega arith);
       } in (
         rw (turns.0, turns.1, turns.2, fresh, fresh_objects) none,
         ap (λ (g : Firing). g.objects.now) turns.1 ∙ objects,

@@ -4,7 +4,7 @@ use Rattle.call_laws.proofs.Noted.{notes_of, notes_of-append, with_done-joins}
 use Rattle.call_laws.proofs.Parts.{part_made, part_none, part_then}
 use Rattle.call_laws.proofs.Stays.{timer_stays}
 use Rattle.lane_notes.specs.Notes.{both_noted}
-use Rattle.std.proofs.Common.{◌≤◌, ◌≡◌, ℕ, ◌+◌, Option, Some, List, [], length, arith, refl, sym, ap, ◌∙◌, subst, Bool, ◌∷◌}
+use Rattle.std.proofs.Common.{◌≤◌, ◌≡◌, ℕ, ◌+◌, Option, Some, List, [], length, arith, refl, sym, ap, ◌∙◌, subst, Bool, ◌∷◌, ◌++◌}
 use Rattle.ktime.specs.Readings.{ClockReading}
 use Rattle.seq_timer.specs.Steps.{Timer}
 use Rattle.base_row.specs.declared.log.Receipt.{Receipt}
@@ -19,22 +19,29 @@ use Rattle.run_history.specs.Objects.{armed_in_phase}
 use Rattle.script_text.specs.declared.script.Script.{Script}
 use Rattle.lane_notes.specs.Arms.{arm_noted}
 use Rattle.run_history.specs.Runs.{witness_of, Ending, IsJoined, moves_spans}
-use Rattle.run_history.specs.Truths.{IsSpan, IsSpanBy, IsTrueStart}
+use Rattle.run_history.specs.Truths.{IsTrueStart, StoodBefore}
+use Rattle.run_history.specs.Promises.{GoesOn}
+use Rattle.run_history.specs.Receipts.{PlacedEntry}
+use Rattle.run_history.specs.ObjectCalls.{cancels}
+use Rattle.run_history.proofs.Known.{behind_all, made-append, made_goes_on}
+use Rattle.timer_objects.specs.Turns.{HasTurn}
+use Rattle.pass_names.specs.Passes.{Begins}
+use Rattle.call_laws.proofs.ObjectTurns.{enters_entry, stood_before}
 use Rattle.run_history.proofs.ObjectsMade.{settime_actions}
 use Rattle.run_history.proofs.OthersMade.{plain}
 use Rattle.lane_world.specs.Called.{lane_caller, LaneOf, ReadsClock, with_done}
 use Rattle.lane_world.proofs.Kept.{Follows, IsNextCall, KeepsCall, seen_by}
 use Rattle.lane_world.proofs.SeenMore.{goes_before}
 use Rattle.lane_world.specs.Worlds.{WorldOf}
-use Rattle.pass_names.proofs.Passes.{begins_length}
+use Rattle.pass_names.proofs.Passes.{begins_length, begins_refl, begins_trans}
 use Rattle.timer_setting.specs.declared.arming.Arm.{Arm}
 use Rattle.timer_objects.specs.declared.object.ObjectReply.{ObjectReply}
 use Rattle.script_text.specs.declared.script.Call.{Call}
 use Rattle.run_history.specs.Fits.{FitsCall}
-use Rattle.run_history.proofs.Kept.{IsKept}
+use Rattle.run_history.proofs.Kept.{IsKept, Stops}
 use Rattle.ktime.specs.declared.mode.Mode.{Mode}
 use Rattle.run_history.specs.Witnesses as witnesses
-use Rattle.call_laws.proofs.Armed.{IsArmedSo, IsLike, IsRearmSpan, start_true, TimerPart}
+use Rattle.call_laws.proofs.Armed.{IsArmedSo, IsLike, start_true, TimerPart}
 use Rattle.call_laws.proofs.CallKept.{clock_left, reading_goes_on}
 use Rattle.call_laws.proofs.PartKept.{keeps_part}
 use Rattle.call_laws.proofs.Parts.{IsNotedAs}
@@ -44,7 +51,7 @@ use Rattle.std.proofs.lemmas.List.{append-nil}
 use Rattle.timer_objects.specs.Steps.{object_answer}
 use Rattle.lane_world.specs.Runs.{ObjectMove}
 use Rattle.std.proofs.Common.{length-append}
-use Rattle.std.specs.List.{slice_get}
+use Rattle.std.specs.List.{AllByRecursion}
 use Rattle.counted_row.specs.Views.{StateAfter}
 use Rattle.counted_row.proofs.Histories.{after_push}
 use Rattle.timer_objects.specs.Cells.{cell_meaning, opened_cells}
@@ -53,8 +60,6 @@ use Rattle.run_history.specs.Objects.{object_armed_after}
 use Rattle.script_text.specs.Declarations.{kind_of}
 use Rattle.script_text.specs.declared.script.Kind.TheVariants as kinds
 use Rattle.script_text.specs.declared.script.Kind.{Kind}
-use Rattle.run_history.proofs.Lists.{at_seam}
-use Rattle.lane_world.proofs.ObjectSeen.{span_made}
 use Rattle.record_text.specs.declared.record.RunRecord.{RunRecord}
 use Rattle.lane_world.proofs.ObjectSeen.{object_after, object_seen}
 use Rattle.timer_setting.specs.declared.phase.Phase.{Phase}
@@ -80,6 +85,30 @@ module _ {s : Script} {x : WorldOf} {l : LaneOf} (m : LaneOf) {call : Call} (nex
 
   abbrev phase : Phase
   phase = phase_of (object_step enters.commits.state.object made.call)
+
+  -- the receipts of the call: those of its part of the timer, and that of the object's entry
+  abbrev pub receipts : List PlacedEntry
+  receipts = k.part.0 ++ (enters_entry turn s (HasRead reading)).0 ∷ []
+
+  -- law: they stand behind where the call found its timer, those of its timer before the object's
+  pub stop_first : AllByRecursion (λ y. length begin.seen ≤ y.place) receipts
+  stop_first =
+      let one = enters_entry turn s (HasRead reading) in
+      let made = made-append m.pass.timers.known.seen (length begin.seen) (length w.seen) (length m.pass.timers.known.seen) k.part.0 (one.0 ∷ [])
+      (made_goes_on m.pass.timers.known.seen w.seen turn.ends.seen.rest (length begin.seen) (length w.seen) k.part.0 turn.ends.seen.whole k.part.1.enters.made)
+      one.1.made (begins_length k.part.1.enters.seen) (begins_length turn.ends.seen) in
+      behind_all (length begin.seen) (length begin.seen) receipts (omega arith) made.rise
+
+  pub stop_last : Stops l.label receipts (cancels timer cancel ++ k.start) (length w.seen)
+  stop_last =
+      let one = enters_entry turn s (HasRead reading) in record {
+        early = k.part.0;
+        late = one.0 ∷ [];
+        split = refl;
+        are = k.part.1.are;
+        below = k.part.1.enters.made.below;
+        behind = (one.1.made.rise.0, tt);
+      }
 
   -- ---- in a run that goes on from there
 
@@ -132,10 +161,6 @@ module _ {s : Script} {x : WorldOf} {l : LaneOf} (m : LaneOf) {call : Call} (nex
 
   module _ (reads : ReadsClock l.pass m.pass reading) (notes : m.notes ≡ with_done l.notes l.label log object_log) {entry : ObjectEntry}
       (noted : IsNotedAs (HasRead reading) made.call reply entry) where
-    -- the receipts of the call: those of its part of the timer, and that of the object's entry
-    abbrev receipts : List PlacedEntry
-    receipts = k.part.0 ++ (enters_entry turn s (HasRead reading)).0 ∷ []
-
     -- law: a lane keeps the call, where it fits
     pub keeps_made : (a : Answer) → ((e : Ending) → Follows m.pass e → IsJoined s e → IsKept (witness_of s e) (moves_spans e) l.label
         (plain reading.stamp (length begin.seen) (length m.pass.timers.known.seen) (settime_actions timer cancel k.start number entry)) receipts call a

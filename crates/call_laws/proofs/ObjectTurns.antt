@@ -8,7 +8,7 @@ use Rattle.run_history.specs.Promises.{GoesOn}
 use Rattle.run_history.specs.Runs.{Ending, IsJoined, witness_of}
 use Rattle.run_history.specs.Truths.{HadEntries, StoodBefore}
 use Rattle.run_history.specs.Witnesses.{CountersList, OfRise}
-use Rattle.run_history.proofs.Promise.{rises_along}
+use Rattle.run_history.proofs.Known.{rises_along}
 use Rattle.script_text.specs.declared.script.Script.{Script}
 use Rattle.seq_timer.specs.Systems.{rises_of}
 use Rattle.seq_timer.specs.declared.system.SystemEntry.{SystemEntry}

@@ -26,7 +26,6 @@ use Rattle.run_history.specs.Traces.{all_entered}
 use Rattle.run_history.proofs.Actions.{all_entered-append, made-append}
 use Rattle.run_history.proofs.Lists.{at_seam}
 use Rattle.lane_world.specs.Runs.{ObjectMove, ShowsObjectCall}
-use Rattle.lane_world.proofs.Kept.{FollowsObject}
 use Rattle.lane_world.proofs.SeenMore.{begins_same, count_begins}
 use Rattle.call_laws.proofs.Entering.{enters-append, enters_at, enters_none, EntersNotes, EntersOne}
 use Rattle.call_laws.proofs.Noted.{entered_all, entered_noted, entered_on, entered_only, noted_by, noted_by-append, notes_of, notes_of-append, one_noted, same-both, same_notes, SameNotes}
@@ -62,7 +61,7 @@ use Rattle.run_history.specs.Calls.{IsBody}
 use Rattle.run_history.specs.Witnesses.{Fired, OfTimer, Shown, TimersList}
 use Rattle.run_history.specs.Promises as promises
 use Rattle.run_history.specs.Runs.{witness_of, Ending, IsJoined}
-use Rattle.run_history.specs.Truths.{IsClaimSpan, IsObjectPoint, WasOffLine}
+use Rattle.run_history.specs.Truths.{WasOffLine}
 use Rattle.run_history.proofs.Expires.{ReplyHolds}
 use Rattle.lane_world.proofs.PartLists.{rises_none}
 
@@ -329,12 +328,9 @@ pub record BodyKept (s : Script) (label : Label) {base : ℕ} {c : ClaimNumbers}
   pub enters : EntersNotes s (HasRead reading) v w notes
   pub part : IsPart s (HasRead reading) label k h.objects_pass.now w h'.objects_pass.now
       (Entered c.timer c.number (claim_in base reading.stamp c) ∷ body) (claim.entered.0 ∷ notes) (notes_of label (claim_receipt reading c ∷ more) object_more)
-  pub ran : (e : Ending) → IsJoined s e → promises.GoesOn w.seen e → ((i : ℕ) → FollowsObject e i (seen_of h'.objects_pass.now i)) → (finish : ℕ)
-      (restarted : Restarted) → let f = fired_of c body finish (asks restart) restarted in
-      IsBody (WasOffLine (witness_of s e) (length v.seen) (length w.seen)) s.limit (kind_of s c.timer) reading.stamp f
-      × ((before : List Action)
-      → ((i : ℕ) → ((j : ℕ) → made j body ≡ []) → IsObjectPoint (witness_of s e) label before i (length (seen_of h'.objects_pass.now i)))
-      → ReplyHolds (witness_of s e) label before (length w.seen) body) × IsClaimSpan (witness_of s e) f body
+  pub ran : (e : Ending) → IsJoined s e → promises.GoesOn w.seen e → (finish : ℕ) (restarted : Restarted)
+      → IsBody (WasOffLine (witness_of s e) (length v.seen) (length w.seen)) s.limit (kind_of s c.timer) reading.stamp
+      (fired_of c body finish (asks restart) restarted) × ReplyHolds (witness_of s e) (length w.seen) body
 
 module _ {s : Script} {label : Label} {base : ℕ} {c : ClaimNumbers} {reading : ClockReading} {k v w : KnownOfTimers} {p : ObjectsPass}
     (claim : IsClaimed s base c reading k v) where

@@ -1,5 +1,6 @@
 -- Calls on objects that may arm their timer again, as their lanes keep them: an acceptance, a read, and a gettime of either kind.
-use Rattle.call_laws.proofs.Entering.{made_inside}
+use Rattle.run_history.proofs.Reached.{arms_wider, was_wider}
+use Rattle.lane_world.proofs.SeenMore.{goes_before}
 use Rattle.std.proofs.Common.{◌≡◌, ◌≤◌, ℕ, Some, option_map, List, [], length, refl, sym, ap, subst}
 use Rattle.clock_cell.specs.Views.{writes}
 use Rattle.ktime.specs.Readings.{ClockReading}
@@ -33,7 +34,7 @@ use Rattle.record_text.specs.declared.record.ReadReply.{ReadReply}
 use Rattle.run_history.specs.FdHistories.{fd_arm, read_answer_of}
 use Rattle.run_history.specs.Histories.{reading_at}
 use Rattle.run_history.specs.ObjectCalls.{DoesGettime}
-use Rattle.script_text.specs.Declarations.{kind_of}
+use Rattle.script_text.specs.Declarations.{base_of, kind_of}
 use Rattle.run_history.specs.PosixHistories.{accept_answer_of, posix_arm}
 use Rattle.script_text.specs.declared.script.Call.TheVariants as calls
 use Rattle.script_text.specs.declared.script.Kind.TheVariants as kinds
@@ -63,7 +64,7 @@ use Rattle.timer_objects.specs.Calls.{Caller}
 use Rattle.call_laws.proofs.CallKept.{clock_left}
 use Rattle.call_laws.proofs.Parts.{noted_at}
 use Rattle.lane_world.proofs.Declared.{declared_base}
-use Rattle.call_laws.proofs.ObjectMade.{keeps_made, rearm_span, start_is}
+use Rattle.call_laws.proofs.ObjectMade.{keeps_made, receipts, start_is, stood_first, stood_last, stop_first, stop_last}
 use Rattle.call_laws.proofs.Rearmed.{like_restart, rearm_part, RearmPart, wanted_timely}
 use Rattle.script_text.specs.declared.script.Call.{Call}
 use Rattle.timer_objects.specs.declared.wanting.Rearming.{Rearming}
@@ -92,20 +93,26 @@ module _ {s : Script} {x : WorldOf} {l m : LaneOf} {call : Call} (next : IsNextC
       made.turn.looks made.rearms
 
   rearmed : {e : Ending} → Follows m.pass e → IsJoined s e
-      → IsRearmed (witness_of s e) l.label part.does.part.0 c.reading.stamp (length part.begin.seen) (length m.pass.timers.known.seen) timer
+      → IsRearmed (witness_of s e) l.label (receipts m next made.enters made.turn part.does part.behind) c.reading.stamp (length part.begin.seen) (length m.pass.timers.known.seen) timer
       (arm_noted made.arm) part.does.start (length made.enters.commits.adds.before + 1)
   rearmed {e = e} follows joined = record {
     ns = part.ns;
     timely = part.timely;
-    arms = subst (λ b. Arms (WasOffLine (witness_of s e) (length part.begin.seen) (length m.pass.timers.known.seen)) s.limit timer modes.Keep part.ns
-        c.reading.stamp b (arm_noted made.arm) part.does.start) (declared_base s x timer next.world) (part.does.arms e joined follows.timers);
-    ends = length m.pass.timers.known.seen;
+    arms = arms_wider (WasOffLine (witness_of s e) (length part.begin.seen) (length made.worked.seen))
+        (WasOffLine (witness_of s e) (length part.begin.seen) (length m.pass.timers.known.seen))
+        (was_wider (witness_of s e) (omega arith) (begins_length made.turn.ends.seen)) s.limit timer modes.Keep part.ns c.reading.stamp
+        (base_of (kind_of s timer)) (arm_noted made.arm) part.does.start (subst (λ b. Arms (WasOffLine (witness_of s e) (length part.begin.seen) (length made.worked.seen)) s.limit timer
+        modes.Keep part.ns c.reading.stamp b (arm_noted made.arm) part.does.start) (declared_base s x timer next.world)
+        (part.does.arms e joined (goes_before made.turn.ends.seen follows.timers)));
+    ends = length made.worked.seen;
     between = begins_length part.does.part.1.enters.seen;
-    high = omega arith;
-    part = made_inside part.does.part.1.enters.made;
-    holds = start_is m next made.enters part.does follows joined false
-        (like_restart x.timers.about m.pass.timers.known timer made.arm _ made.bears);
-    span = rearm_span m next made.enters part.does follows joined made.arm part.spans;
+    high = begins_length made.turn.ends.seen;
+    behind = stop_first m next made.enters made.turn part.does part.behind;
+    stops = stop_last m next made.enters made.turn part.does part.behind;
+    holds = start_is m next made.enters made.turn part.does part.behind follows joined false
+        (like_restart x.timers.about made.worked timer made.arm _ made.bears);
+    had = stood_first m next made.enters made.turn part.does part.behind follows joined;
+    stood = stood_last m next made.enters made.turn part.does part.behind follows joined;
   }
 
   -- law: a lane keeps a call on an object that may arm the object's timer again and made an entry, where such calls fit
@@ -123,7 +130,7 @@ module _ {s : Script} {x : WorldOf} {l m : LaneOf} {call : Call} (next : IsNextC
   keeps_rearming noted no_skip shows b fits =
       keeps_made m next made.enters made.turn part.does part.behind c.reads c.notes
       (noted_at c.reading (λ r'. rearming_call r r' made.arm) reply (entry (arm_noted made.arm)) noted no_skip shows) b
-      (λ e follows joined kept low. fits e _ _ (arm_noted made.arm) part.does.start _ part.does.part.0 kept low (rearmed follows joined))
+      (λ e follows joined kept low. fits e _ _ (arm_noted made.arm) part.does.start _ _ kept low (rearmed follows joined))
 
 -- ---- the calls
 

@@ -1,5 +1,9 @@
 -- A settime of an object, as its lane keeps it: the disarming of the object's timer, its start, and the object's entry.
-use Rattle.call_laws.proofs.Entering.{made_inside}
+use Rattle.pass_names.specs.Passes.{Begins}
+use Rattle.pass_names.proofs.Passes.{begins_trans}
+use Rattle.run_history.proofs.Reached.{arms_wider, was_wider}
+use Rattle.script_text.specs.Declarations.{base_of}
+use Rattle.lane_world.proofs.SeenMore.{goes_before}
 use Rattle.std.proofs.Common.{◌≡◌, ℕ, ◌+◌, true, Option, None, Some, List, [], length, arith, refl, sym, ap, ◌∙◌, subst}
 use Rattle.std.specs.Prelude.{MatchOption}
 use Rattle.ktime.specs.Readings.{ClockReading}
@@ -38,7 +42,7 @@ use Rattle.timer_objects.specs.Steps.{ObjectAllows}
 use Rattle.base_row.specs.Logs.{receipts_of}
 use Rattle.hr_timers.specs.Calls.{cancel_entries}
 use Rattle.call_laws.proofs.Armed.{disarmed_part, settime_start, TimerPart, TimersPart}
-use Rattle.call_laws.proofs.ObjectMade.{keeps_made, outcome_is, start_is, timer_found, whole_span}
+use Rattle.call_laws.proofs.ObjectMade.{keeps_made, outcome_is, receipts, start_is, stood_first, stood_last, stop_first, stop_last, timer_found}
 use Rattle.call_laws.proofs.SettimeNoted.{settime_noted, SettimeNoted}
 use Rattle.call_laws.proofs.SettimeParts.{checked, IsRefusal, like_start, raw_object, takes_valid, valid_for}
 use Rattle.timer_objects.specs.declared.object.ObjectCall.{ObjectCall}
@@ -76,6 +80,10 @@ module _ {s : Script} {x : WorldOf} {l : LaneOf} (m : LaneOf) {timer flags : ℕ
   part = settime_start next timer reading set.cancel_log (begins_trans set.turn.looks.seen set.disarms.cancelled.made.from) refl disarmed.1 flags
       (time_of value) set.arm set.arms
 
+  -- it was found while the call had the object
+  after : Begins set.begun.seen begin.seen
+  after = set.disarms.cancelled.made.from
+
   noted : SettimeNoted flags (time_of value) (time_of interval) reading a (decl_at x.objects timer).kind set.arm set.reply
   noted =
       let d = decl_at x.objects timer in
@@ -84,39 +92,44 @@ module _ {s : Script} {x : WorldOf} {l : LaneOf} (m : LaneOf) {timer flags : ℕ
       (subst (λ r. SettimeTells r a) set.enters.reply set.answer))
 
   module _ {e : Ending} (follows : Follows m.pass e) (joined : IsJoined s e) where
-    is_set : IsSet (witness_of s e) l.label part.part.0 reading.stamp (length begin.seen) (length w.seen) timer flags value interval disarmed.0
-        (arm_noted set.arm) part.start (length set.enters.commits.adds.before + 1)
+    is_set : IsSet (witness_of s e) l.label (receipts m next set.enters set.turn part after) reading.stamp (length begin.seen)
+        (length m.pass.timers.known.seen) timer flags value interval disarmed.0 (arm_noted set.arm) part.start (length set.enters.commits.adds.before + 1)
     is_set =
         let takes = takes_valid (kind_of s timer) _ flags value interval (declared_over s x timer next.world)
         (λ raw. let none = raw_object next set.enters.commits.at raw in subst (λ y. ObjectAllows y call) none.0 set.enters.may.allowed) in
         let off = WasOffLine (witness_of s e) (length begin.seen) (length w.seen) in
         record {
           taken = takes.0 valid;
-          arms = subst (λ b. Arms off s.limit timer (start_mode (kind_of s timer) flags) (nanoseconds_of value) reading.stamp b (arm_noted set.arm)
+          arms = arms_wider off (WasOffLine (witness_of s e) (length begin.seen) (length m.pass.timers.known.seen))
+              (was_wider (witness_of s e) (omega arith) (begins_length set.turn.ends.seen)) s.limit timer (start_mode (kind_of s timer) flags)
+              (nanoseconds_of value) reading.stamp (base_of (kind_of s timer)) (arm_noted set.arm) part.start
+              (subst (λ b. Arms off s.limit timer (start_mode (kind_of s timer) flags) (nanoseconds_of value) reading.stamp b (arm_noted set.arm)
               part.start) (declared_base s x timer next.world)
               (subst (λ k. Arms off s.limit timer k (time_of value) reading.stamp (decl_at x.objects timer).base (arm_noted set.arm) part.start)
-              (sym takes.1) (part.arms e joined follows.timers));
+              (sym takes.1) (part.arms e joined (goes_before set.turn.ends.seen follows.timers))));
           ends = length w.seen;
           between = begins_length part.part.1.enters.seen;
-          high = omega arith;
-          part = made_inside part.part.1.enters.made;
+          high = begins_length set.turn.ends.seen;
+          behind = stop_first m next set.enters set.turn part after;
+          stops = stop_last m next set.enters set.turn part after;
           idle = found disarmed.0 disarmed.2;
-          holds = start_is m next set.enters part follows joined true (like_start x.timers.about w timer set.arm _ set.bears);
-          span = whole_span m next set.enters part follows joined (set.from ∙ set.disarms.from) set.to;
+          holds = start_is m next set.enters set.turn part after follows joined true (like_start x.timers.about w timer set.arm _ set.bears);
+          had = stood_first m next set.enters set.turn part after follows joined;
+          stood = stood_last m next set.enters set.turn part after follows joined;
         }
       where
         found : (cancel : Option (ℕ × ℕ)) → (cancel ≡ None → IsIdle (timer_then x.timers.about begin.seen timer))
             → FoundIdle (witness_of s e) timer cancel (length begin.seen)
-        found None idle = subst IsIdle (sym (timer_found m next set.enters part follows joined)) (idle refl)
+        found None idle = subst IsIdle (sym (timer_found m next set.enters set.turn part after follows joined)) (idle refl)
         found (Some cancel) idle = tt
 
   -- law: the lane keeps it
   pub keeps_set : KeepsCall s l (calls.Settime timer flags value interval) (settime_told a) m
   keeps_set = subst (λ b. KeepsCall s l (calls.Settime timer flags value interval) b m) (sym noted.answers)
-      (keeps_made m next set.enters set.turn part set.disarms.cancelled.made.from reads notes noted.noted (answer_of_settime noted.told)
+      (keeps_made m next set.enters set.turn part after reads notes noted.noted (answer_of_settime noted.told)
       (λ e follows joined kept low.
       settime_made noted.told kept low (is_set follows joined)
-      (noted.refused (witness_of s e) timer (length w.seen) (outcome_is m next set.enters part follows joined))))
+      (noted.refused (witness_of s e) timer (length w.seen) (outcome_is m next set.enters set.turn part after follows joined))))
 
 -- ---- each settime
 

@@ -36,14 +36,14 @@ use Rattle.script_text.specs.declared.script.Script.{Script}
 use Rattle.lane_notes.specs.Objects.{object_entry_noted, skip_generation}
 use Rattle.run_history.specs.Calls.{IsBody, IsTrigger}
 use Rattle.run_history.specs.Witnesses.{Fired}
-use Rattle.run_history.proofs.Lists.{at_seam}
+use Rattle.run_history.specs.Witnesses.{TimersList}
 use Rattle.lane_world.specs.Runs.{ObjectMove}
-use Rattle.lane_world.proofs.SeenMore.{begins_same}
-use Rattle.lane_world.proofs.ObjectSeen.{span_made}
+use Rattle.lane_world.proofs.SeenMore.{count_begins}
+use Rattle.call_laws.proofs.ObjectTurns.{enters_entry, entries_had}
 use Rattle.timer_objects.specs.Firings.{Firing}
-use Rattle.call_laws.proofs.Entering.{enters_none, EntersNotes}
-use Rattle.lane_world.proofs.PartLists.{one_falls, rises_none}
-use Rattle.call_laws.proofs.Parts.{BodyKept, fired_of, HasRead, IsClaimed, IsNotedAs, noted_at, objects_grow, part_claimed, part_made}
+use Rattle.call_laws.proofs.Entering.{enters_none}
+use Rattle.lane_world.proofs.PartLists.{rises_none}
+use Rattle.call_laws.proofs.Parts.{BodyKept, fired_of, HasRead, IsClaimed, IsNotedAs, noted_at, objects_grow, part_claimed, part_made, part_none, part_then}
 
 -- ---- the note of a trigger
 
@@ -80,8 +80,8 @@ fd_noted x generation reading allows = absurd allows
 -- ---- the trigger
 
 module _ (s : Script) (x : ObjectsOf) (limit : x.limit ≡ s.limit) (some : 1 ≤ s.limit) (label : Label) (c : ClaimNumbers)
-    (reading : ClockReading) {base : ℕ} {k v : KnownOfTimers} (claim : IsClaimed s base c reading k v) (restart : Restart) (h h' : Firing)
-    (same_log : h'.log.receipts ≡ h.log.receipts) (stops : restart ≡ wishes.Stop)
+    (reading : ClockReading) {base : ℕ} {k v : KnownOfTimers} (claim : IsClaimed s base c reading k v) (restart : Restart) (w : KnownOfTimers)
+    (h h' : Firing) (same_log : h'.log.receipts ≡ h.log.receipts) (stops : restart ≡ wishes.Stop)
     (is_body : (Reached : ℕ → ℕ → Type 0) (f : Fired) → IsTrigger reading.stamp f → IsBody Reached s.limit (kind_of s c.timer) reading.stamp f) (call : ObjectCall)
     (noted : (y : Object) → ObjectAllows y call → TriggerNoted call (object_answer y call) c.generation reading)
     (no_entry : (n : ℕ) → object_entry_noted call (trigger_refused call n) ≡ None)
@@ -92,13 +92,9 @@ module _ (s : Script) (x : ObjectsOf) (limit : x.limit ≡ s.limit) (some : 1 �
   abbrev q : ObjectsPass
   q = h'.objects_pass.now
 
-  -- the claim's function has left timers alone
-  still : EntersNotes s (HasRead reading) v v []
-  still = enters_none (begins_same refl) refl
-
   -- a trigger that made an entry
-  entered_trigger : EntersTrigger x p q h.object_log.receipts h'.object_log.receipts c.timer (spanned call (span_of c))
-      → BodyKept s label claim restart v h h'
+  entered_trigger : EntersTrigger x p q h.object_log.receipts h'.object_log.receipts v w c.timer (spanned call (span_of c))
+      → BodyKept s label claim restart w h h'
   entered_trigger t =
       let adds = t.commits.adds in
       let state = t.commits.state in
@@ -106,41 +102,40 @@ module _ (s : Script) (x : ObjectsOf) (limit : x.limit ≡ s.limit) (some : 1 �
       let many = length adds.before in
       let step : ObjectMove = record { call = spanned call (span_of c); reply = object_answer state.object call } in
       let body = Made c.timer (many + 1) (object_entries.Trigger c.generation reading.stamp n.0) ∷ [] in
+      let r : ObjectReceipt = record { object = c.timer; number = many + 1; call = step.call; reply = step.reply } in
+      let one = enters_entry t.turn s (HasRead reading) in
+      let part : IsPart s (HasRead reading) label v p w q body (one.0 ∷ []) (notes_of label [] (r ∷ [])) =
+      part_then (part_none {w = t.begun} t.turn.looks.seen t.turn.looks.mine) (part_made {step = step} adds t.commits.opening n.1 one) in
       record {
         body = body;
-        notes = [];
+        notes = one.0 ∷ [];
         more = [];
-        object_more = record { object = c.timer; number = many + 1; call = step.call; reply = step.reply } ∷ [];
+        object_more = r ∷ [];
         adds = (same_log ∙ sym (append-nil h.log.receipts), t.receipt);
-        enters = still;
-        part = part_claimed claim [] (record { object = c.timer; number = many + 1; call = step.call; reply = step.reply } ∷ [])
-            (part_made {step = step} adds t.commits.opening n.1);
-        ran = λ e joined goes follows finish rearmed. (
-          is_body _ (fired_of c body finish (asks restart) rearmed) (inl (many + 1, n.0, refl), ap asks stops),
-          λ before points. tt,
-          (c.number - 1, omega (arith, claim.some), span_made q e c.timer many step (follows c.timer) (rw adds.last (at_seam adds.before [] step))),
-        );
+        enters = part.enters;
+        part = part_claimed claim [] (r ∷ []) part;
+        ran = λ e joined goes finish rearmed.
+            ((is_body _ (fired_of c body finish (asks restart) rearmed) (inl (many + 1, n.0, refl), ap asks stops)), tt);
       }
 
   -- a trigger that a full history refused
-  refused_trigger : SkipsTrigger x p q h.object_log.receipts h'.object_log.receipts c.timer (spanned call (span_of c))
-      → BodyKept s label claim restart v h h'
+  refused_trigger : SkipsTrigger x p q h.object_log.receipts h'.object_log.receipts v w c.timer (spanned call (span_of c))
+      → BodyKept s label claim restart w h h'
   refused_trigger t =
       let many = length (seen_of q c.timer) in
       let r : ObjectReceipt = record { object = c.timer; number = many; call = spanned call (span_of c); reply = trigger_refused call many } in
       let body = Skipped c.timer many c.generation ∷ [] in
       let grows = objects_grow p q t.reads.pass.seen in
-      let part : IsPart s (HasRead reading) label v p v q body [] (notes_of label [] (r ∷ [])) = record {
-        enters = still;
+      let part : IsPart s (HasRead reading) label v p w q body [] (notes_of label [] (r ∷ [])) = record {
+        enters = enters_none t.looks.seen t.looks.mine;
         are = refl;
         told = same_notes (rw (no_entry many, skip many) refl);
         goes_on = t.reads.pass.seen;
         opening = t.reads.opening;
         mine = t.reads.pass.mine ∙ sym (append-nil p.knows.pass.mine);
         each = ((omega (arith, t.full, limit, some), omega arith), tt);
-        looks_rise = λ u. rises_none (omega arith);
+        looks_rise = λ u. let le = count_begins (TimersList u) t.looks.seen in rises_none (omega (arith, le));
         rise = λ i. let le = grows i in rises_none (omega (arith, le));
-        steps = one_falls c.timer many (λ i. length (seen_of p i)) (λ i. length (seen_of q i)) (grows c.timer) (omega arith) grows;
       } in
       record {
         body = body;
@@ -148,15 +143,14 @@ module _ (s : Script) (x : ObjectsOf) (limit : x.limit ≡ s.limit) (some : 1 �
         more = [];
         object_more = r ∷ [];
         adds = (same_log ∙ sym (append-nil h.log.receipts), t.receipt);
-        enters = still;
+        enters = part.enters;
         part = part_claimed claim [] (r ∷ []) part;
-        ran = λ e joined goes follows finish rearmed. (
-          is_body _ (fired_of c body finish (asks restart) rearmed) (inr (many, refl), ap asks stops),
-          λ before points. (points c.timer (λ j. refl), omega (arith, t.full, limit)),
-          tt,
+        ran = λ e joined goes finish rearmed. (
+          (is_body _ (fired_of c body finish (asks restart) rearmed) (inr (many, refl), ap asks stops)),
+          (entries_had c.timer many w joined goes t.told, omega (arith, t.full, limit)),
         );
       }
 
   -- law: what the claim of an object's timer does
-  pub trigger_kept : Triggers x p q h.object_log.receipts h'.object_log.receipts c call → BodyKept s label claim restart v h h'
+  pub trigger_kept : Triggers x p q h.object_log.receipts h'.object_log.receipts v w c call → BodyKept s label claim restart w h h'
   trigger_kept triggers = ⊎_elim entered_trigger refused_trigger triggers

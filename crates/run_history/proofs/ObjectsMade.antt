@@ -101,7 +101,7 @@ disarmed Reached limit w timer ns at base begin mode None (armings.Generation ge
     go [] = idle
     go (out ∷ outs) = idle
 
--- where its start was refused, the timer's history was full at the call's last moment
+-- where its start was refused, the timer's history was full when it had made its entries of the timer
 abbrev pub RefusedBy : Witness → ℕ → SettimeReply → ℕ → Type 0
 RefusedBy w timer (settings.Old left old) last = Unit
 RefusedBy w timer settings.Canceled last = Unit
@@ -112,7 +112,7 @@ module _ (reply : SettimeReply) {w : Witness} {moves : Spans} {c : Label} {at be
     (kept : IsKept w moves c (plain at begin last (settime_actions timer cancel start number (settime_entry at flags value interval reply arm))) notes
     (calls.Settime timer flags value interval) (answer_of_settime reply) before after)
     (low : moves.first c ≤ begin) (set : IsSet w c notes at begin last timer flags value interval cancel arm start number)
-    (refused : RefusedBy w timer reply last) where
+    (refused : RefusedBy w timer reply set.ends) where
   -- law: a settime that makes an entry fits
   pub settime_made : FitsCall w c (calls.Settime timer flags value interval) (answer_of_settime reply) before after
   settime_made =
@@ -137,11 +137,11 @@ module _ (reply : SettimeReply) {w : Witness} {moves : Spans} {c : Label} {at be
       does settings.Canceled ds makes = makes
       does (settings.Unarmed stamp) ds makes = makes
 
-      seen : (reply : SettimeReply) (ds : List Action) → RefusedBy w timer reply last → DisarmedFirst w timer ds begin
+      seen : (reply : SettimeReply) (ds : List Action) → RefusedBy w timer reply set.ends → DisarmedFirst w timer ds begin
           → AnswerHolds w begin last c at ds (calls.Settime timer flags value interval) (answer_of_settime reply)
       seen (settings.Old left old) ds refused first = first
       seen settings.Canceled ds refused first = first
-      seen (settings.Unarmed stamp) ds refused first = (first, refused)
+      seen (settings.Unarmed stamp) ds refused first = (first, (set.ends, set.between, set.high, refused))
 
 -- ---- an acceptance, a read, a descriptor's gettime
 

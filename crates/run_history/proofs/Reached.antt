@@ -47,7 +47,7 @@ module _ (Fewer More : ℕ → ℕ → Type 0) (to : (base heir : ℕ) → Fewer
 
   -- ---- calls on objects
 
-  arms_wider : (limit timer : ℕ) (mode : Mode) (ns reading base : ℕ) (arm : Armed) (start : List Action)
+  pub arms_wider : (limit timer : ℕ) (mode : Mode) (ns reading base : ℕ) (arm : Armed) (start : List Action)
       → Arms Fewer limit timer mode ns reading base arm start → Arms More limit timer mode ns reading base arm start
   arms_wider limit timer mode ns reading base armings.None start arms = arms
   arms_wider limit timer mode ns reading base (armings.Generation generation) start arms = (arms.0, arms.1, arms.2, arming_wider arms.3)
