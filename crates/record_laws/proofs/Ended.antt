@@ -18,7 +18,7 @@ use Rattle.lane_world.specs.declared.WorldPass.{WorldPass}
 use Rattle.record_laws.proofs.ClockLines.{clock_accepted, clock_few, clock_goes_on, clock_in_span, clock_lines, clock_lines_long, clock_own}
 use Rattle.record_laws.proofs.FiledNotes.{are_filed, filed_notes, receipts_inside}
 use Rattle.record_laws.proofs.HungLines.{looks_own, skips_own, looks_under, skips_under}
-use Rattle.record_laws.proofs.ObjectLines.{object_histories, object_in_span, object_lines_long, object_lines_show, object_own}
+use Rattle.record_laws.proofs.ObjectLines.{object_histories, object_lines_show, object_own}
 use Rattle.timer_objects.specs.Known.{seen_of}
 use Rattle.seq_timer.specs.Systems.{AreSystemSteps, first_system, openings}
 use Rattle.base_row.specs.declared.view.Opening.{Opening}
@@ -28,7 +28,6 @@ use Rattle.clock_cell.specs.Views.{writes}
 use Rattle.run_history.specs.Promises.{HasLog}
 use Rattle.run_history.specs.Histories.{clock_labels}
 use Rattle.script_text.specs.Declarations.{declareds_of, terms_of}
-use Rattle.run_history.specs.Objects.{object_labels}
 
 module _ {s : Script} {x : WorldOf} {q : WorldPass} {notes sorted : NotesOf} {logs : Label → CallLog} (last : AreLastOf s x q) (left : AreLeft s q notes logs)
     (is : IsSortedFrom notes sorted) (answers : List (List Answer)) (starts : RoundStarts) where
@@ -58,12 +57,9 @@ module _ {s : Script} {x : WorldOf} {q : WorldPass} {notes sorted : NotesOf} {lo
     skips = skips_own last left is answers c;
   }
 
-  -- the clock has as many lines as writes were seen, and each object as many as its entries
+  -- the clock has as many lines as writes were seen
   clock_long : length (clock_labels e.run) ≡ length (writes q.clock.knows)
   clock_long = length-map (clock_lines last left is) (λ (line : ClockLine). line.label) ∙ clock_lines_long last left is
-
-  objects_long : (i : ℕ) → length (object_labels e.run i) ≡ length (seen_of q.objects i)
-  objects_long i = length-map (lines_of_object e.run i) (λ (line : ObjectLine). line.label) ∙ object_lines_long last left is answers i
 
   module _ (rounds : AreByRounds s q logs starts answers) where
     -- law: so it has the parts that make a run
@@ -84,13 +80,7 @@ module _ {s : Script} {x : WorldOf} {q : WorldPass} {notes sorted : NotesOf} {lo
         most = λ c label. subst (λ n. (logs c).clock.1 ≤ n) (sym clock_long) (rounds.clock_most c label);
       };
       writes = clock_accepted last left is;
-      objects_laid = λ i. record {
-        inside = object_in_span last left is answers i;
-        ledger = rounds.objects e.run i;
-        most = λ c label. subst (λ n. ((logs c).objects i).1 ≤ n) (sym (objects_long i)) (rounds.objects_most i c label);
-      };
-      object_histories = λ i. (object_histories last left is answers starts i).0;
-      spans = λ i. (object_histories last left is answers starts i).1;
+      object_histories = object_histories last left is answers starts;
       looks = looks_under last left is answers;
       skips = skips_under last left is answers;
       bases = length-bases s.version sorted s.bases (length s.timers) answers;

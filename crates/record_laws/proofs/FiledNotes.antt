@@ -15,13 +15,14 @@ use Rattle.std.proofs.lemmas.List.{append-nil}
 use Rattle.std.proofs.lemmas.List.Sorted.{IsPermutation-append, IsPermutation-map}
 use Rattle.record_text.proofs.Lists.{All-append}
 use Rattle.lane_notes.specs.Notes.{NotesOf}
-use Rattle.lane_notes.specs.Records.{base_line, record_from, timer_line}
-use Rattle.lane_notes.specs.Sorted.{is_of_list, IsSortedFrom, place_of_base, place_of_entry, place_of_look, place_of_write}
+use Rattle.lane_notes.specs.Records.{base_line, object_line, record_from, timer_line}
+use Rattle.lane_notes.specs.Sorted.{is_of_list, IsSortedFrom, place_of_base, place_of_entry, place_of_look, place_of_object, place_of_skip, place_of_write}
 use Rattle.lane_notes.specs.declared.notes.BaseNote.{BaseNote}
 use Rattle.lane_notes.specs.declared.notes.EntryNote.{EntryNote}
+use Rattle.lane_notes.specs.declared.notes.ObjectNote.{ObjectNote}
 use Rattle.lane_notes.specs.declared.notes.WriteNote.{WriteNote}
 use Rattle.lane_notes.proofs.Lists.{noted_lines-shown}
-use Rattle.lane_notes.proofs.Rising.{RiseBehind, RiseBehind-sorted}
+use Rattle.lane_notes.proofs.Rising.{AtMostOne, is_at, RiseBehind, RiseBehind-sorted}
 use Rattle.lane_notes.proofs.Standing.{HasPlace, stands_permuted, stood_before}
 use Rattle.record_text.specs.declared.record.Answer.{Answer}
 use Rattle.record_text.specs.declared.record.Label.{Label}
@@ -29,18 +30,18 @@ use Rattle.run_history.specs.Actions.{also}
 use Rattle.run_history.specs.Order.{IsLabel}
 use Rattle.script_text.specs.declared.script.Script.{Script}
 use Rattle.run_history.specs.Receipts.{AreFiled, Filed, files_on, IsAhead, IsMade, line_filed, PlacedEntry, RiseBy}
-use Rattle.run_history.specs.Witnesses.{BasesList, CountersList, OfBase, OfTimer, Owner, ShownLine, TimersList, is_owner, line_of_base, line_of_timer, line_of_write, lines_at, owner_of}
+use Rattle.run_history.specs.Witnesses.{BasesList, CountersList, OfBase, OfRise, OfTimer, Owner, ShownLine, TimersList, is_owner, line_of_base, line_of_object, line_of_timer, line_of_write, lines_at, owner_of}
 use Rattle.run_history.specs.Runs.{CallLog}
 use Rattle.run_history.proofs.Known.{behind_all, rises_lower}
 use Rattle.run_history.proofs.Laid.{same_place}
 use Rattle.run_history.proofs.Lists.{all_at, each, at_map, map_get}
-use Rattle.lane_world.proofs.Kept.{BaseNotes, EntryNotes, ToldNote, WriteNotes, of_base, of_entry, of_write, told_notes}
+use Rattle.lane_world.proofs.Kept.{BaseNotes, EntryNotes, ObjectNotes, ToldNote, WriteNotes, of_base, of_entry, of_object, of_write, told_notes}
 use Rattle.lane_world.proofs.PartLists.{each_weaker}
 use Rattle.lane_world.proofs.Left.{AreLastOf, AreLeft}
 use Rattle.lane_world.specs.Worlds.{WorldOf}
 use Rattle.lane_world.specs.declared.WorldPass.{WorldPass}
-use Rattle.record_laws.proofs.LastSeen.{base_lines_are, entries_once, has_receipt, HasReceipt, is_told, none_past, note_made, noted_at, rises_once, same_parts, shifts_once, timer_lines_are, told_parts}
-use Rattle.record_laws.proofs.Numbered.{as_many, at_most_one, none_long, number_within}
+use Rattle.record_laws.proofs.LastSeen.{base_lines_are, entries_once, has_receipt, HasReceipt, is_told, entry_rises_once, note_made, noted_at, object_lines_are, objects_once, same_parts, write_rises_once, writes_once, shifts_once, timer_lines_are, told_parts}
+use Rattle.record_laws.proofs.Numbered.{as_many, at_most_one, number_within}
 use Rattle.record_laws.proofs.ClockLines.{all_of_clock}
 use Rattle.std.proofs.lemmas.Simd.{map-map}
 
@@ -90,24 +91,37 @@ files_rise : (logs : Label → CallLog) (o : Owner) (k : ℕ) (ps : List (WithRe
 files_rise logs o k [] rise = tt
 files_rise logs o k (p ∷ ps) rise = (rise.0, files_rise logs (owner_of p.0.shown) p.0.number ps rise.1)
 
-writes_rise : (k : ℕ) (ws : List WriteNote) → RiseBehind place_of_write 0 k ws → RiseTold (CountersList 0) k (map of_write ws)
-writes_rise k [] rise = tt
-writes_rise k (w ∷ ws) rise = (⊎_elim (λ less. inl less) (λ same. inr (refl, same.1)) rise.0, writes_rise w.stamp ws rise.1)
+objects_rise : (i k : ℕ) (os : List ObjectNote) → RiseBehind place_of_object i k os → RiseTold (CountersList (suc i)) k (map of_object os)
+objects_rise i k [] rise = tt
+objects_rise i k (x ∷ os) rise =
+    (⊎_elim (λ less. inl (omega (arith, less))) (λ same. inr (ap (λ n. CountersList (suc n)) same.0, same.1)) rise.0, objects_rise x.object x.number os rise.1)
 
-bases_rise : (b k : ℕ) (bs : List BaseNote) (ws : List WriteNote) → RiseBehind place_of_base b k bs → RiseBehind place_of_write 0 0 ws
-    → RiseTold (BasesList b) k (map of_base bs ++ map of_write ws)
-bases_rise b k [] [] rise behind = tt
-bases_rise b k [] (w ∷ ws) rise behind = (inl tt, writes_rise w.stamp ws behind.1)
-bases_rise b k (x ∷ bs) ws rise behind =
-    (⊎_elim (λ less. inl less) (λ same. inr (ap (λ n. BasesList n) same.0, same.1)) rise.0, bases_rise x.base x.number bs ws rise.1 behind)
+writes_rise : (k : ℕ) (ws : List WriteNote) (os : List ObjectNote) → RiseBehind place_of_write 0 k ws → RiseBehind place_of_object 0 0 os
+    → RiseTold (CountersList 0) k (map of_write ws ++ map of_object os)
+writes_rise k [] [] rise last = tt
+writes_rise k [] (x ∷ os) rise last = (inl (omega arith), objects_rise x.object x.number os last.1)
+writes_rise k (w ∷ ws) os rise last = (⊎_elim (λ less. inl less) (λ same. inr (refl, same.1)) rise.0, writes_rise w.stamp ws os rise.1 last)
 
-told_rise : (t k : ℕ) (es : List EntryNote) (bs : List BaseNote) (ws : List WriteNote) → RiseBehind place_of_entry t k es → RiseBehind place_of_base 0 0 bs
-    → RiseBehind place_of_write 0 0 ws → RiseTold (TimersList t) k (map of_entry es ++ (map of_base bs ++ map of_write ws))
-told_rise t k [] [] [] rise behind last = tt
-told_rise t k [] [] (w ∷ ws) rise behind last = (inl tt, writes_rise w.stamp ws last.1)
-told_rise t k [] (x ∷ bs) ws rise behind last = (inl tt, bases_rise x.base x.number bs ws behind.1 last)
-told_rise t k (e ∷ es) bs ws rise behind last =
-    (⊎_elim (λ less. inl less) (λ same. inr (ap (λ n. TimersList n) same.0, same.1)) rise.0, told_rise e.timer e.number es bs ws rise.1 behind last)
+bases_rise : (b k : ℕ) (bs : List BaseNote) (ws : List WriteNote) (os : List ObjectNote) → RiseBehind place_of_base b k bs
+    → RiseBehind place_of_write 0 0 ws → RiseBehind place_of_object 0 0 os
+    → RiseTold (BasesList b) k (map of_base bs ++ (map of_write ws ++ map of_object os))
+bases_rise b k [] [] [] rise behind last = tt
+bases_rise b k [] [] (x ∷ os) rise behind last = (inl tt, objects_rise x.object x.number os last.1)
+bases_rise b k [] (w ∷ ws) os rise behind last = (inl tt, writes_rise w.stamp ws os behind.1 last)
+bases_rise b k (x ∷ bs) ws os rise behind last =
+    (⊎_elim (λ less. inl less) (λ same. inr (ap (λ n. BasesList n) same.0, same.1)) rise.0, bases_rise x.base x.number bs ws os rise.1 behind last)
+
+told_rise : (t k : ℕ) (es : List EntryNote) (bs : List BaseNote) (ws : List WriteNote) (os : List ObjectNote) → RiseBehind place_of_entry t k es
+    → RiseBehind place_of_base 0 0 bs → RiseBehind place_of_write 0 0 ws → RiseBehind place_of_object 0 0 os
+    → RiseTold (TimersList t) k (map of_entry es ++ (map of_base bs ++ (map of_write ws ++ map of_object os)))
+told_rise t k [] [] [] [] rise of_bases of_writes of_objects = tt
+told_rise t k [] [] [] (x ∷ os) rise of_bases of_writes of_objects = (inl tt, objects_rise x.object x.number os of_objects.1)
+told_rise t k [] [] (w ∷ ws) os rise of_bases of_writes of_objects = (inl tt, writes_rise w.stamp ws os of_writes.1 of_objects)
+told_rise t k [] (x ∷ bs) ws os rise of_bases of_writes of_objects = (inl tt, bases_rise x.base x.number bs ws os of_bases.1 of_writes of_objects)
+told_rise t k (e ∷ es) bs ws os rise of_bases of_writes of_objects = (
+  ⊎_elim (λ less. inl less) (λ same. inr (ap (λ n. TimersList n) same.0, same.1)) rise.0,
+  told_rise e.timer e.number es bs ws os rise.1 of_bases of_writes of_objects,
+)
 
 -- ---- notes of one list
 
@@ -138,6 +152,7 @@ of_timer_told : (t : ℕ) (ns : NotesOf) → map line_told (filter (is_on (Timer
 of_timer_told t ns =
     let o = TimersList t in
     ap (map line_told) (told_parts (is_on o) ns ∙ same_parts refl (none_on of_base o (λ x. refl) ns.bases) (none_on of_write o (λ x. refl) ns.writes)
+    (none_on of_object o (λ x. refl) ns.objects)
     ∙ append-nil (filter (is_on o) (map of_entry ns.entries))) ∙ lines_on of_entry place_of_entry o t _ (λ e. refl)
     (λ e is. ap (λ u. record { label = e.label; shown = OfTimer u e.entry }) is) ns.entries
 
@@ -146,15 +161,30 @@ of_base_told : (b : ℕ) (ns : NotesOf) → map line_told (filter (is_on (BasesL
 of_base_told b ns =
     let o = BasesList b in
     ap (map line_told) (told_parts (is_on o) ns ∙ same_parts (none_on of_entry o (λ x. refl) ns.entries) refl (none_on of_write o (λ x. refl) ns.writes)
+    (none_on of_object o (λ x. refl) ns.objects)
     ∙ append-nil (filter (is_on o) (map of_base ns.bases))) ∙ lines_on of_base place_of_base o b _ (λ e. refl)
     (λ e is. ap (λ u. record { label = e.label; shown = OfBase u e.event }) is) ns.bases
 
-of_write_told : (k : ℕ) (ns : NotesOf) → map line_told (filter (is_on (CountersList k)) (told_notes ns))
-    ≡ map (λ n. line_of_write n.line) (filter (is_of_list place_of_write k) ns.writes)
-of_write_told k ns =
-    let o = CountersList k in
-    ap (map line_told) (told_parts (is_on o) ns ∙ same_parts (none_on of_entry o (λ x. refl) ns.entries) (none_on of_base o (λ x. refl) ns.bases) refl)
-    ∙ lines_on of_write place_of_write o k _ (λ e. refl) (λ e is. refl) ns.writes
+of_write_told : (ns : NotesOf) → map line_told (filter (is_on (CountersList 0)) (told_notes ns))
+    ≡ map (λ n. line_of_write n.line) (filter (is_of_list place_of_write 0) ns.writes)
+of_write_told ns =
+    let o = CountersList 0 in
+    ap (map line_told) (told_parts (is_on o) ns ∙ same_parts (none_on of_entry o (λ x. refl) ns.entries) (none_on of_base o (λ x. refl) ns.bases) refl
+    (none_on of_object o (λ x. refl) ns.objects) ∙ append-nil (filter (is_on o) (map of_write ns.writes)))
+    ∙ lines_on of_write place_of_write o 0 _ (λ e. refl) (λ e is. refl) ns.writes
+
+of_object_told : (i : ℕ) (ns : NotesOf) → map line_told (filter (is_on (CountersList (suc i))) (told_notes ns))
+    ≡ map (λ n. record { label = n.label; shown = OfRise (suc i) }) (filter (is_of_list place_of_object i) ns.objects)
+of_object_told i ns =
+    let o = CountersList (suc i) in
+    ap (map line_told) (told_parts (is_on o) ns ∙ same_parts (none_on of_entry o (λ x. refl) ns.entries) (none_on of_base o (λ x. refl) ns.bases)
+    (none_on of_write o (λ x. refl) ns.writes) refl) ∙ lines_on of_object place_of_object o i _ (λ e. refl)
+    (λ e is. ap (λ j. record { label = e.label; shown = OfRise (suc j) }) is) ns.objects
+
+-- writes are of the clock's one list
+none_elsewhere : (k n : ℕ) (ws : List WriteNote) → filter (is_at place_of_write (suc k) n) ws ≡ []
+none_elsewhere k n [] = refl
+none_elsewhere k n (w ∷ ws) = none_elsewhere k n ws
 
 -- ---- the record's lines
 
@@ -166,7 +196,8 @@ module _ {s : Script} {x : WorldOf} {q : WorldPass} {notes sorted : NotesOf} {lo
   same_told : IsPermutation (told_notes notes) (told_notes sorted)
   same_told = IsPermutation-append _ _ _ _ (IsPermutation-map of_entry notes.entries sorted.entries is.entries.same)
       (IsPermutation-append _ _ _ _ (IsPermutation-map of_base notes.bases sorted.bases is.bases.same)
-      (IsPermutation-map of_write notes.writes sorted.writes is.writes.same))
+      (IsPermutation-append _ _ _ _ (IsPermutation-map of_write notes.writes sorted.writes is.writes.same)
+      (IsPermutation-map of_object notes.objects sorted.objects is.objects.same)))
 
   -- a note stands among the sorted ones where it stands among those that were left
   stood : (n : ToldNote) → HasPlace (told_notes sorted) n → HasPlace (told_notes notes) n
@@ -210,6 +241,10 @@ module _ {s : Script} {x : WorldOf} {q : WorldPass} {notes sorted : NotesOf} {lo
   shapes : (o : Owner) → map line_filed (files_on o filed_notes) ≡ map line_told (filter (is_on o) (told_notes sorted))
   shapes o = files_lines logs o pairs ∙ ap (λ ns. map line_told (filter (is_on o) ns)) (are_notes logs (told_notes sorted) each_has)
 
+  writes_apart : (l n : ℕ) → AtMostOne (is_at place_of_write l n) notes.writes
+  writes_apart zero n = at_most_one is.writes (writes_once last left) n
+  writes_apart (suc k) n = subst (λ ws. length ws ≤ 1) (sym (none_elsewhere k n notes.writes)) (omega arith)
+
   -- a list has as many receipts as entries
   many_filed : (o : Owner) → length (files_on o filed_notes) ≡ receipts.count o seen
   many_filed (TimersList t) =
@@ -218,9 +253,12 @@ module _ {s : Script} {x : WorldOf} {q : WorldPass} {notes sorted : NotesOf} {lo
   many_filed (BasesList b) =
       sym (length-map (files_on (BasesList b) filed_notes) line_filed) ∙ ap length (shapes (BasesList b) ∙ of_base_told b sorted)
       ∙ length-map (filter (is_of_list place_of_base b) sorted.bases) _ ∙ as_many is.bases (shifts_once last left b)
-  many_filed (CountersList k) =
-      sym (length-map (files_on (CountersList k) filed_notes) line_filed) ∙ ap length (shapes (CountersList k) ∙ of_write_told k sorted)
-      ∙ length-map (filter (is_of_list place_of_write k) sorted.writes) _ ∙ as_many is.writes (rises_once last left k)
+  many_filed (CountersList zero) =
+      sym (length-map (files_on (CountersList 0) filed_notes) line_filed) ∙ ap length (shapes (CountersList 0) ∙ of_write_told sorted)
+      ∙ length-map (filter (is_of_list place_of_write 0) sorted.writes) _ ∙ as_many is.writes (write_rises_once last left)
+  many_filed (CountersList (suc i)) =
+      sym (length-map (files_on (CountersList (suc i)) filed_notes) line_filed) ∙ ap length (shapes (CountersList (suc i)) ∙ of_object_told i sorted)
+      ∙ length-map (filter (is_of_list place_of_object i) sorted.objects) _ ∙ as_many is.objects (entry_rises_once last left i)
 
   -- and its lines are theirs
   lines_filed : (o : Owner) → lines_at (record_from s.version sorted s.bases (length s.timers) answers) o ≡ map line_filed (files_on o filed_notes)
@@ -237,13 +275,13 @@ module _ {s : Script} {x : WorldOf} {q : WorldPass} {notes sorted : NotesOf} {lo
       each_line (n ∷ bs) = ap (λ zs. record { label = n.label; shown = OfBase b n.event } ∷ zs) (each_line bs)
   lines_filed (CountersList zero) =
       map-map line_of_write (λ (n : WriteNote). n.line) sorted.writes ∙ ap (map (λ (n : WriteNote). line_of_write n.line)) (sym (all_of_clock sorted.writes))
-      ∙ sym (shapes (CountersList 0) ∙ of_write_told 0 sorted)
-  lines_filed (CountersList (suc k)) =
-      let o = CountersList (suc k) in
-      sym (none_long (map line_filed (files_on o filed_notes))
-      (length-map (files_on o filed_notes) line_filed ∙ many_filed o ∙ none_past last o (λ is. absurd (omega (arith, is)))))
+      ∙ sym (shapes (CountersList 0) ∙ of_write_told sorted)
+  lines_filed (CountersList (suc i)) =
+      ap (map (line_of_object i)) (object_lines_are last left is answers i)
+      ∙ noted_lines-shown place_of_skip object_line place_of_object i sorted.objects sorted.skips (line_of_object i)
+      (λ n. record { label = n.label; shown = OfRise (suc i) }) (λ n us. refl) ∙ sym (shapes (CountersList (suc i)) ∙ of_object_told i sorted)
 
-  -- law: the record's lines of timers, of bases and of the clock are the receipts of all calls, sorted
+  -- law: the record's lines of timers, of bases, of the clock and of objects are the receipts of all calls, sorted
   pub are_filed : AreFiled (record_from s.version sorted s.bases (length s.timers) answers) seen (λ c. (logs c).notes) filed_notes
   are_filed = record {
     rise = λ c. rises_lower 0 (logs c).moves.0 (map (λ y. y.place) (logs c).notes) (omega arith) (left.stand c).rise;
@@ -252,25 +290,30 @@ module _ {s : Script} {x : WorldOf} {q : WorldPass} {notes sorted : NotesOf} {lo
     back = λ i f at. let m = map_get (file logs) pairs i f at in
         (m.0.1.index, subst (λ (g : Filed). slice_get (logs g.label).notes m.0.1.index ≡ Some g.note) m.2 m.0.1.there);
     sorts = files_rise logs (TimersList 0) 0 pairs (subst (RiseTold (TimersList 0) 0) (sym (are_notes logs (told_notes sorted) each_has))
-        (told_rise 0 0 sorted.entries sorted.bases sorted.writes
+        (told_rise 0 0 sorted.entries sorted.bases sorted.writes sorted.objects
         (RiseBehind-sorted place_of_entry notes.entries sorted.entries is.entries (λ l n. at_most_one is.entries (entries_once last left l) n)
         (each _ notes.entries (λ p n at. (number_within is.entries (entries_once last left n.timer) n (p, at) refl).0)))
         (RiseBehind-sorted place_of_base notes.bases sorted.bases is.bases (λ l n. at_most_one is.bases (shifts_once last left l) n)
         (each _ notes.bases (λ p n at. (number_within is.bases (shifts_once last left n.base) n (p, at) refl).0)))
-        (RiseBehind-sorted place_of_write notes.writes sorted.writes is.writes (λ l n. at_most_one is.writes (rises_once last left l) n)
-        (each _ notes.writes (λ p n at. (number_within is.writes (rises_once last left 0) n (p, at) refl).0)))));
+        (RiseBehind-sorted place_of_write notes.writes sorted.writes is.writes writes_apart
+        (each _ notes.writes (λ p n at. (number_within is.writes (writes_once last left) n (p, at) refl).0)))
+        (RiseBehind-sorted place_of_object notes.objects sorted.objects is.objects (λ l n. at_most_one is.objects (objects_once last left l) n)
+        (each _ notes.objects (λ p n at. (number_within is.objects (objects_once last left n.object) n (p, at) refl).0)))));
     as_many = many_filed;
     lines = lines_filed;
   }
 
   -- a note's label is a call's
   note_called : (n : ToldNote) → HasPlace (told_notes notes) n → IsLabel s n.label
-  note_called n st = all_at (λ (m : ToldNote). IsLabel s m.label) (told_notes notes) st.0 n (All-append (λ (m : ToldNote). IsLabel s m.label)
-      (map of_entry notes.entries) (map of_base notes.bases ++ map of_write notes.writes)
+  note_called n st =
+      let Called : ToldNote → Type 0 = λ m. IsLabel s m.label in
+      all_at Called (told_notes notes) st.0 n (All-append Called (map of_entry notes.entries) _
       (All-map _ of_entry notes.entries (each_weaker notes.entries (λ e in_it. in_it.0) (left.seen EntryNotes)))
-      (All-append (λ (m : ToldNote). IsLabel s m.label) (map of_base notes.bases) (map of_write notes.writes)
+      (All-append Called (map of_base notes.bases) _
       (All-map _ of_base notes.bases (each_weaker notes.bases (λ e in_it. in_it.0) (left.seen BaseNotes)))
-      (All-map _ of_write notes.writes (each_weaker notes.writes (λ e in_it. in_it.0) (left.seen WriteNotes))))) st.1
+      (All-append Called (map of_write notes.writes) (map of_object notes.objects)
+      (All-map _ of_write notes.writes (each_weaker notes.writes (λ e in_it. in_it.0) (left.seen WriteNotes)))
+      (All-map _ of_object notes.objects (each_weaker notes.objects (λ e in_it. in_it.0) (left.seen ObjectNotes)))))) st.1
 
   -- law: receipts are of calls of the script, in their calls' spans
   pub receipts_inside : (c : Label) → AllByRecursion (λ y. IsLabel s c × ((logs c).moves.0 ≤ y.place) × (y.place < (logs c).moves.1)) (logs c).notes

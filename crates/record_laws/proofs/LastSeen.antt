@@ -1,6 +1,6 @@
 -- What the last passes know at the end of a run: of which timers, bases, counters and objects entries are, and that each of them was noted once.
 use Rattle.run_history.specs.Receipts as receipts
-use Rattle.std.proofs.Common.{◌≡◌, ℕ, ◌<◌, ◌≤◌, zero, suc, Some, List, [], ◌∷◌, filter, length, map, arith, refl, sym, ap, ◌∙◌, subst}
+use Rattle.std.proofs.Common.{◌≡◌, ℕ, ◌<◌, ◌≤◌, zero, suc, Some, List, [], ◌∷◌, filter, length, map, take, arith, refl, sym, ap, ◌∙◌, subst}
 use Rattle.std.specs.List.{slice_get}
 use Rattle.std.proofs.Math.Logic.{⊎_elim}
 use Rattle.std.proofs.lemmas.Bool.{and_right, cases_lt, lt-leb, and_parts, eqb-true}
@@ -26,6 +26,7 @@ use Rattle.lane_notes.specs.Notes.{NotesOf}
 use Rattle.lane_notes.specs.Sorted.{Place, place_of_base, place_of_entry, place_of_object, place_of_write, IsSortedFrom}
 use Rattle.lane_notes.specs.declared.notes.BaseNote.{BaseNote}
 use Rattle.lane_notes.specs.declared.notes.EntryNote.{EntryNote}
+use Rattle.lane_notes.specs.declared.notes.ObjectNote.{ObjectNote}
 use Rattle.lane_notes.proofs.Rising.{is_at}
 use Rattle.lane_notes.proofs.Standing.{HasPlace, map_stands_in, stands_in_filter, stands_in_map, stands_permuted, stood_before, filter_stands_in}
 use Rattle.record_text.specs.declared.record.Label.{Label}
@@ -37,13 +38,13 @@ use Rattle.run_history.proofs.Labels.{label_itself, same_label}
 use Rattle.run_history.proofs.Laid.{counts_more}
 use Rattle.run_history.proofs.Lists.{all_at, at_left, each}
 use Rattle.run_history.proofs.Owners.{count_is, entries_at}
-use Rattle.run_history.specs.Witnesses.{BasesList, CountersList, Owner, Shown, TimersList, owner_of, owner_of_entry}
-use Rattle.lane_world.proofs.Kept.{ToldNote, base_note_place, note_place, of_base, of_entry, of_write, own_notes, told_in, told_notes}
+use Rattle.run_history.specs.Witnesses.{BasesList, CountersList, OfRise, Owner, Shown, TimersList, owner_of, owner_of_entry}
+use Rattle.lane_world.proofs.Kept.{ToldNote, base_note_place, note_place, of_base, of_entry, of_object, of_write, own_notes, told_in, told_notes}
 use Rattle.lane_world.proofs.Left.{AreLastOf, AreLeft}
 use Rattle.lane_world.specs.Worlds.{WorldOf}
 use Rattle.lane_world.specs.declared.WorldPass.{WorldPass}
 use Rattle.run_history.proofs.Shown.{entry_place}
-use Rattle.record_laws.proofs.Numbered.{AreEachOnce, count-map, nobody, as_many, lines_are, none_long, once_from}
+use Rattle.record_laws.proofs.Numbered.{AreEachOnce, count-map, nobody, as_many, lines_are, none_long, once_from, within_from}
 use Rattle.lane_notes.specs.Records.{base_line, noted_base_lines, noted_object_lines, noted_timer_lines, record_from, numbered_from}
 use Rattle.record_text.specs.declared.record.Answer.{Answer}
 use Rattle.run_history.specs.Histories.{lines_of_base, lines_of_timer}
@@ -102,13 +103,17 @@ filter-map make p (x ∷ xs) =
 
 -- law: the notes that pass a test are those of each kind
 pub told_parts : (p : ToldNote → Bool) (notes : NotesOf) → filter p (told_notes notes)
-    ≡ filter p (map of_entry notes.entries) ++ (filter p (map of_base notes.bases) ++ filter p (map of_write notes.writes))
-told_parts p notes = filter-append p (map of_entry notes.entries) (map of_base notes.bases ++ map of_write notes.writes)
-    ∙ ap (λ xs. filter p (map of_entry notes.entries) ++ xs) (filter-append p (map of_base notes.bases) (map of_write notes.writes))
+    ≡ filter p (map of_entry notes.entries)
+    ++ (filter p (map of_base notes.bases) ++ (filter p (map of_write notes.writes) ++ filter p (map of_object notes.objects)))
+told_parts p notes =
+    let rises = map of_write notes.writes ++ map of_object notes.objects in
+    filter-append p (map of_entry notes.entries) (map of_base notes.bases ++ rises)
+    ∙ ap (λ xs. filter p (map of_entry notes.entries) ++ xs) (filter-append p (map of_base notes.bases) rises
+    ∙ ap (λ xs. filter p (map of_base notes.bases) ++ xs) (filter-append p (map of_write notes.writes) (map of_object notes.objects)))
 
--- law: three parts that are the same as others make the same list
-pub same_parts : {X : Type 0} {a b c d e f : List X} → a ≡ b → c ≡ d → e ≡ f → a ++ (c ++ e) ≡ b ++ (d ++ f)
-same_parts one two three = λ i. one i ++ (two i ++ three i)
+-- law: four parts that are the same as others make the same list
+pub same_parts : {X : Type 0} {a b c d e f g h : List X} → a ≡ b → c ≡ d → e ≡ f → g ≡ h → a ++ (c ++ (e ++ g)) ≡ b ++ (d ++ (f ++ h))
+same_parts one two three four = λ i. one i ++ (two i ++ (three i ++ four i))
 
 module _ {s : Script} {q : WorldPass} {notes : NotesOf} {logs : Label → CallLog} (left : AreLeft s q notes logs) where
   abbrev own : Label → List ToldNote
@@ -118,7 +123,8 @@ module _ {s : Script} {q : WorldPass} {notes : NotesOf} {logs : Label → CallLo
   own_told c =
       let mine = λ (n : ToldNote). is_label c n.label in
       sym (told_parts mine notes
-      ∙ same_parts (filter-map of_entry mine notes.entries) (filter-map of_base mine notes.bases) (filter-map of_write mine notes.writes))
+      ∙ same_parts (filter-map of_entry mine notes.entries) (filter-map of_base mine notes.bases) (filter-map of_write mine notes.writes)
+      (filter-map of_object mine notes.objects))
 
   told_so : (c : Label) → IsPermutation (map receipt (logs c).notes) (map told_in (own c))
   told_so c = subst (λ ts. IsPermutation (map receipt (logs c).notes) (map told_in ts)) (own_told c) (left.tell c).receipts
@@ -144,17 +150,26 @@ module _ {s : Script} {q : WorldPass} {notes : NotesOf} {logs : Label → CallLo
   pub note_made : (n : ToldNote) (h : HasReceipt logs n) → IsMade q.timers.known.seen (noted_at h.place n)
   note_made n h = all_at (IsMade q.timers.known.seen) (logs n.label).notes h.index (noted_at h.place n) (left.stand n.label).made h.there
 
-  -- a timer's note, and a base's, among all
+  -- a timer's note, a base's, and an object's, among all
   pub entry_stands : (e : EntryNote) → HasPlace notes.entries e → HasPlace (told_notes notes) (of_entry e)
   entry_stands e st = let o = stands_in_map of_entry notes.entries e st in
-      (o.0, at_left (map of_entry notes.entries) (map of_base notes.bases ++ map of_write notes.writes) o.0 _ o.1)
+      (o.0, at_left (map of_entry notes.entries) (map of_base notes.bases ++ (map of_write notes.writes ++ map of_object notes.objects)) o.0 _ o.1)
 
   pub base_stands : (e : BaseNote) → HasPlace notes.bases e → HasPlace (told_notes notes) (of_base e)
   base_stands e st = let o = stands_in_map of_base notes.bases e st in (
     length (map of_entry notes.entries) + o.0,
-    at_behind (map of_entry notes.entries) (map of_base notes.bases ++ map of_write notes.writes) o.0 _
-        (at_left (map of_base notes.bases) (map of_write notes.writes) o.0 _ o.1),
+    at_behind (map of_entry notes.entries) (map of_base notes.bases ++ (map of_write notes.writes ++ map of_object notes.objects)) o.0 _
+        (at_left (map of_base notes.bases) (map of_write notes.writes ++ map of_object notes.objects) o.0 _ o.1),
   )
+
+  pub object_stands : (e : ObjectNote) → HasPlace notes.objects e → HasPlace (told_notes notes) (of_object e)
+  object_stands e st =
+      let o = stands_in_map of_object notes.objects e st in
+      let rises = map of_write notes.writes ++ map of_object notes.objects in (
+        length (map of_entry notes.entries) + (length (map of_base notes.bases) + (length (map of_write notes.writes) + o.0)),
+        at_behind (map of_entry notes.entries) (map of_base notes.bases ++ rises) _ _ (at_behind (map of_base notes.bases) rises _ _
+            (at_behind (map of_write notes.writes) (map of_object notes.objects) o.0 _ o.1)),
+      )
 
 -- ---- what the last passes have seen
 
@@ -180,11 +195,11 @@ base_at many b n (x ∷ bs) =
     ∙ ap (λ k. one_if ((x.base == b) && (x.number == n)) + k) (base_at many b n bs)
 
 module _ {s : Script} {x : WorldOf} {q : WorldPass} (last : AreLastOf s x q) where
-  -- whether a list is there; of counters the one of the clock's writes is
+  -- whether a list is there; of counters those of the clock's writes and of each object's entries are
   abbrev pub IsThere : Owner → Type 0
   IsThere (TimersList t) = t < length s.timers
   IsThere (BasesList b) = b < s.bases
-  IsThere (CountersList k) = k ≡ 0
+  IsThere (CountersList k) = k < length s.timers + 1
 
   many_timers : length x.timers.about.timers ≡ length s.timers
   many_timers = ap (λ (o : Opening). length o.timers) last.world.timers ∙ length-map (declareds_of s) _ ∙ length-map s.timers declared_as
@@ -192,18 +207,23 @@ module _ {s : Script} {x : WorldOf} {q : WorldPass} (last : AreLastOf s x q) whe
   many_bases : x.timers.about.bases ≡ s.bases
   many_bases = ap (λ (o : Opening). o.bases) last.world.timers
 
-  one_counter : x.timers.about.counters ≡ 1
-  one_counter = ap (λ (o : Opening). o.counters) last.world.timers
+  many_counters : x.timers.about.counters ≡ length s.timers + 1
+  many_counters = ap (λ (o : Opening). o.counters) last.world.timers
 
-  -- a rise that was seen is that of the counter that is there
-  rose_there : (p k : ℕ) → slice_get q.timers.known.seen p ≡ Some (entries.Rise k) → k ≡ 0
-  rose_there p zero at = refl
-  rose_there p (suc k) at =
+  -- where a rise was seen its counter has risen more often than before it
+  rose_more : (p k : ℕ) → slice_get q.timers.known.seen p ≡ Some (entries.Rise k)
+      → rises_of k (take p q.timers.known.seen) < rises_of k q.timers.known.seen
+  rose_more p k at =
       let seen = q.timers.known.seen in
-      let never : rises_of (suc k) seen ≡ 0 = last.passes.timers.knows.counters (suc k) (subst (λ n. n ≤ suc k) (sym one_counter) (omega arith)) in
-      let more = counts_more seen p (length seen) (CountersList (suc k)) (entries.Rise (suc k)) at refl
-      (slice_get_within seen p (entries.Rise (suc k)) at) in
-      absurd (omega (arith, more, ap (rises_of (suc k)) (take_all (length seen) seen (omega arith)), never))
+      let more = counts_more seen p (length seen) (CountersList k) (entries.Rise k) at refl (slice_get_within seen p (entries.Rise k) at) in
+      omega (arith, more, ap (rises_of k) (take_all (length seen) seen (omega arith)))
+
+  -- a rise that was seen is that of a counter that is there
+  rose_there : (p k : ℕ) → slice_get q.timers.known.seen p ≡ Some (entries.Rise k) → k < length s.timers + 1
+  rose_there p k at = ⊎_elim (λ (less : k < length s.timers + 1). less)
+      (λ (past : length s.timers + 1 ≤ k).
+      let never = last.passes.timers.knows.counters k (subst (λ n. n ≤ k) (sym many_counters) past) in absurd (omega (arith, rose_more p k at, never)))
+      (cases_lt k (length s.timers + 1))
 
   -- the list of an entry that was seen is there
   there_within : (p : ℕ) (e : SystemEntry) → slice_get q.timers.known.seen p ≡ Some e → IsThere (owner_of_entry e)
@@ -281,10 +301,51 @@ module _ {s : Script} {x : WorldOf} {q : WorldPass} (last : AreLastOf s x q) whe
     pub writes_once : AreEachOnce place_of_write 0 (length (writes q.clock.knows)) notes.writes
     writes_once = once_from _ left.places.clock ((last.passes.known.all_entries last.last.clock).once 0)
 
-    -- law: so each rise of each counter is: the first one rose at the clock's writes, and no other rose
-    pub rises_once : (k : ℕ) → AreEachOnce place_of_write k (receipts.count (CountersList k) q.timers.known.seen) notes.writes
-    rises_once zero = subst (λ n. AreEachOnce place_of_write 0 n notes.writes) (sym last.told) writes_once
-    rises_once (suc k) = none_noted_past place_of_write (suc k) notes.writes (CountersList (suc k)) (λ is. absurd (omega (arith, is))) (λ e st is. sym is)
+    -- law: so each rise of their counter is
+    pub write_rises_once : AreEachOnce place_of_write 0 (receipts.count (CountersList 0) q.timers.known.seen) notes.writes
+    write_rises_once = subst (λ n. AreEachOnce place_of_write 0 n notes.writes) (sym last.told) writes_once
+
+    -- of each entry of an object a rise was seen
+    object_rose : (i n : ℕ) → n ≡ length (seen_of q.objects i) → n ≤ rises_of (suc i) q.timers.known.seen
+    object_rose i zero is = omega arith
+    object_rose i (suc n) is =
+        let many = length (seen_of q.objects i) in
+        let own = filter (is_at place_of_object i many) notes.objects in
+        let one : length own ≡ 1 = (objects_once i).each many ∙ within_from many many (omega (arith, is)) (omega arith) in
+        let note = filter_stands_in (is_at place_of_object i many) notes.objects (head own one).0 (0, (head own one).1) in
+        let e = (head own one).0 in
+        let parts = and_parts _ _ note.1 in
+        let on : e.object ≡ i = eqb-true e.object i parts.0 in
+        let has = has_receipt left (of_object e) (object_stands left e note.0) in
+        let made = subst (λ k. IsMade q.timers.known.seen (record { place = has.place; number = e.number; shown = OfRise (suc k) })) on
+        (note_made left (of_object e) has) in
+        let rise : slice_get q.timers.known.seen has.place ≡ Some (entries.Rise (suc i)) = made.there ∙ ap Some (its_rise made.step (suc i) made.owner) in
+        omega (arith, is, rose_more has.place (suc i) rise, made.number, eqb-true e.number many parts.1)
+      where
+        head : (xs : List ObjectNote) → length xs ≡ 1 → (y : ObjectNote) × (slice_get xs 0 ≡ Some y)
+        head [] is = absurd (omega (arith, is))
+        head (y ∷ ys) is = (y, refl)
+
+        its_rise : (y : SystemEntry) (k : ℕ) → owner_of_entry y ≡ CountersList k → y ≡ entries.Rise k
+        its_rise (entries.Timer y) k is = absurd (cc)
+        its_rise (entries.Base y) k is = absurd (cc)
+        its_rise (entries.Rise j) k is = cc
+
+    -- law: the counter of an object's entries has risen as often as it has entries
+    pub rises_counted : (i : ℕ) → rises_of (suc i) q.timers.known.seen ≡ length (seen_of q.objects i)
+    rises_counted i = ⊎_elim
+        (λ (less : i < length s.timers).
+        let few = subst (λ k. rises_of k q.timers.known.seen ≤ length (seen_of q.objects i)) (one_more i) (last.no_more i less) in
+        omega (arith, few, object_rose i (length (seen_of q.objects i)) refl))
+        (λ (past : length s.timers ≤ i). none_past (CountersList (suc i)) (λ is. omega (arith, is, past)) ∙ sym (ap length (objects_past i past)))
+        (cases_lt i (length s.timers))
+      where
+        one_more : (k : ℕ) → k + 1 ≡ suc k
+        one_more k = omega arith
+
+    -- law: so each rise of that counter is
+    pub entry_rises_once : (i : ℕ) → AreEachOnce place_of_object i (receipts.count (CountersList (suc i)) q.timers.known.seen) notes.objects
+    entry_rises_once i = subst (λ n. AreEachOnce place_of_object i n notes.objects) (sym (rises_counted i)) (objects_once i)
 
     -- law: so the record's lines of a timer, of a base and of an object are made of its sorted notes
     pub timer_lines_are : {sorted : NotesOf} → IsSortedFrom notes sorted → (answers : List (List Answer)) (t : ℕ)

@@ -47,7 +47,7 @@ once_from {place = place} {l = l} {xs = xs} mine same all = record {
   each = λ n. sym (count-map (λ x. ((place x).list, (place x).number)) (is_place l n) xs) ∙ sym (same n) ∙ all n;
 }
 
-within_from : (n many : ℕ) → 1 ≤ n → n < 1 + many → one_if (within n many) ≡ 1
+pub within_from : (n many : ℕ) → 1 ≤ n → n < 1 + many → one_if (within n many) ≡ 1
 within_from n many some most = ap one_if (and_from _ _ (lt-ltb 0 n (omega (arith, some))) (le-leb n many (omega (arith, most))))
 
 within_parts : (n many : ℕ) (b : Bool) → within n many ≡ b → 0 < one_if b → (1 ≤ n) × (n < 1 + many)

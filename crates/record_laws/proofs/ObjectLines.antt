@@ -24,13 +24,12 @@ use Rattle.run_history.specs.Objects.{IsLegalObject, lines_of_object}
 use Rattle.script_text.specs.Declarations.{kind_of, clock_of}
 use Rattle.run_history.specs.Order.{is_label}
 use Rattle.script_text.specs.declared.script.Script.{Script}
-use Rattle.run_history.specs.Fits.{AreBehind}
 use Rattle.run_history.specs.Promises.{GoesOnClock}
 use Rattle.run_history.specs.Runs.{CallLog, Ending, RoundStarts}
 use Rattle.run_history.proofs.Lists.{all_at, map_get}
 use Rattle.lane_world.specs.Runs.{AreObjectLines, ObjectMove, ShowsObjectCall}
 use Rattle.lane_world.proofs.Kept.{ObjectNotes, made_on}
-use Rattle.lane_world.proofs.Left.{AreLastOf, AreLeft, ending_of, span_of}
+use Rattle.lane_world.proofs.Left.{AreLastOf, AreLeft, ending_of}
 use Rattle.lane_world.specs.Worlds.{WorldOf, decl_as}
 use Rattle.lane_world.specs.declared.WorldPass.{WorldPass}
 use Rattle.counted_row.specs.Meaning.{Leads}
@@ -39,54 +38,39 @@ use Rattle.timer_fd.specs.States.{fd_opening}
 use Rattle.record_text.specs.declared.record.ClockLine.{ClockLine}
 use Rattle.record_text.specs.declared.record.RunRecord.{RunRecord}
 use Rattle.script_text.specs.declared.script.Kind.{Kind}
-use Rattle.lane_notes.proofs.Shelves.{add_later, add_none}
 use Rattle.record_laws.proofs.ClockLines.{clock_goes_on}
 use Rattle.record_laws.proofs.LastSeen.{many_objects, objects_once, object_lines_are, objects_past}
 use Rattle.lane_world.proofs.ObjectSeen.{fd_kind, leads_from, legal, posix_kind}
-use Rattle.record_laws.proofs.OwnLines.{at_line, InSpan, lines_long, own_lines, ShowNotes, told_of}
+use Rattle.record_laws.proofs.OwnLines.{at_line, lines_long, own_lines, ShowNotes, told_of}
 
 -- ---- the entries of an object
 
--- law: lines that each show the entry at their place, with the spans that a run has of them
-lines_from : (clock : List ClockLine) (spans : ℕ → ℕ × ℕ) (k : ℕ) (hs : List ObjectMove) (lines : List ObjectLine) → length lines ≡ length hs
+-- law: lines that each show the entry at their place
+lines_from : (clock : List ClockLine) (hs : List ObjectMove) (lines : List ObjectLine) → length lines ≡ length hs
     → ((j : ℕ) (h : ObjectMove) (line : ObjectLine) → slice_get hs j ≡ Some h → slice_get lines j ≡ Some line
-    → ShowsObjectCall clock h.call.call h.reply line.entry × (spans (k + j) ≡ (h.call.from, h.call.to)))
-    → AreObjectLines clock spans k hs lines
-lines_from clock spans k [] [] long at = tt
-lines_from clock spans k [] (line ∷ lines) long at = absurd (omega (arith, long))
-lines_from clock spans k (h ∷ hs) [] long at = absurd (omega (arith, long))
-lines_from clock spans k (h ∷ hs) (line ∷ lines) long at =
-    let first = at 0 h line refl refl in
-    let rest = lines_from clock spans (k + 1) hs lines (omega (arith, long)) (λ j g l at_h at_l.
-    let later = at (suc j) g l at_h at_l in (later.0, ap spans (add_later k j) ∙ later.1)) in
-    (first.0, ap spans (add_none k) ∙ first.1, rest)
-
--- spans of calls that lead on follow one another
-behind_leads : (clock : List ClockLine) (spans : ℕ → ℕ × ℕ) (k : ℕ) (from to : ObjectCell) (hs : List ObjectMove) (lines : List ObjectLine)
-    → Leads cell_meaning from hs to → AreObjectLines clock spans k hs lines → AreBehind spans k from.last lines
-behind_leads clock spans k from to [] [] leads are = tt
-behind_leads clock spans k from to [] (line ∷ lines) leads are = absurd are
-behind_leads clock spans k from to (h ∷ hs) [] leads are = absurd are
-behind_leads clock spans k from to (h ∷ hs) (line ∷ lines) leads are =
-    subst (λ (p : ℕ × ℕ). (from.last ≤ p.0) × (p.0 ≤ p.1) × AreBehind spans (k + 1) p.1 lines) (sym are.1)
-    (leads.0.behind, leads.0.forwards, behind_leads clock spans (k + 1) (cell_meaning.next from h.call) to hs lines leads.2 are.2)
+    → ShowsObjectCall clock h.call.call h.reply line.entry) → AreObjectLines clock hs lines
+lines_from clock [] [] long at = tt
+lines_from clock [] (line ∷ lines) long at = absurd (omega (arith, long))
+lines_from clock (h ∷ hs) [] long at = absurd (omega (arith, long))
+lines_from clock (h ∷ hs) (line ∷ lines) long at =
+    (at 0 h line refl refl, lines_from clock hs lines (omega (arith, long)) (λ j g l at_h at_l. at (suc j) g l at_h at_l))
 
 -- a timer by itself has no calls
-raw_none : (clock : List ClockLine) (spans : ℕ → ℕ × ℕ) (to : ObjectCell) (hs : List ObjectMove) (lines : List ObjectLine)
-    → Leads cell_meaning (record { object = objects.Raw; last = 0 }) hs to → AreObjectLines clock spans 1 hs lines → lines ≡ []
-raw_none clock spans to [] [] leads are = refl
-raw_none clock spans to [] (line ∷ lines) leads are = absurd are
-raw_none clock spans to (h ∷ hs) lines leads are = absurd leads.0.allowed
+raw_none : (clock : List ClockLine) (to : ObjectCell) (hs : List ObjectMove) (lines : List ObjectLine)
+    → Leads cell_meaning (record { object = objects.Raw; last = 0 }) hs to → AreObjectLines clock hs lines → lines ≡ []
+raw_none clock to [] [] leads are = refl
+raw_none clock to [] (line ∷ lines) leads are = absurd are
+raw_none clock to (h ∷ hs) lines leads are = absurd leads.0.allowed
 
 -- lines that show all entries of a declared object are a history that it gives
-legal_lines : (s : Script) (r : RunRecord) (i : ℕ) (hs : List ObjectMove) (cell : ObjectCell) (spans : ℕ → ℕ × ℕ)
-    → AreObjectLines r.clock spans 1 hs (lines_of_object r i) → (k : Kind) → Leads cell_meaning (opened_cell s.limit (decl_as k (clock_of s i))) hs cell
+legal_lines : (s : Script) (r : RunRecord) (i : ℕ) (hs : List ObjectMove) (cell : ObjectCell)
+    → AreObjectLines r.clock hs (lines_of_object r i) → (k : Kind) → Leads cell_meaning (opened_cell s.limit (decl_as k (clock_of s i))) hs cell
     → IsLegalObject s r i k
-legal_lines s r i hs cell spans are (kinds.Raw context callback) leads = raw_none r.clock spans cell hs (lines_of_object r i) leads are
-legal_lines s r i hs cell spans are (kinds.Posix base) leads =
-    legal posix_kind r.clock spans 1 (posix_opening (clock_of s i) base s.limit) 0 cell hs (lines_of_object r i) leads are
-legal_lines s r i hs cell spans are (kinds.Fd base) leads =
-    legal fd_kind r.clock spans 1 (fd_opening (clock_of s i) base s.limit) 0 cell hs (lines_of_object r i) leads are
+legal_lines s r i hs cell are (kinds.Raw context callback) leads = raw_none r.clock cell hs (lines_of_object r i) leads are
+legal_lines s r i hs cell are (kinds.Posix base) leads =
+    legal posix_kind r.clock (posix_opening (clock_of s i) base s.limit) 0 cell hs (lines_of_object r i) leads are
+legal_lines s r i hs cell are (kinds.Fd base) leads =
+    legal fd_kind r.clock (fd_opening (clock_of s i) base s.limit) 0 cell hs (lines_of_object r i) leads are
 
 -- the entries that were seen of an object lead on from where its declaration opens it
 object_leads : {s : Script} {x : WorldOf} {q : WorldPass} → AreLastOf s x q → (i : ℕ)
@@ -121,23 +105,16 @@ module _ {s : Script} {x : WorldOf} {q : WorldPass} {notes sorted : NotesOf} {lo
   pub object_lines_long : (i : ℕ) → length (lines_of_object r i) ≡ length (seen_of q.objects i)
   object_lines_long i = lines_long is.objects (objects_once last left i) (shown i)
 
-  -- a line's entry was seen at its place, in its call's span
+  -- a line's entry was seen at its place
   abbrev Shows : ℕ → Label × ObjectEntry → ℕ → Type 0
-  Shows i y j = InSpan s (λ c. (logs c).objects i) y.0 j × ((step : ObjectMove) × (slice_get (seen_of q.objects i) j ≡ Some step)
-      × ((f : Ending) → GoesOnClock (writes q.clock.knows) f → ShowsObjectCall f.run.clock step.call.call step.reply y.1))
+  Shows i y j = (step : ObjectMove) × (slice_get (seen_of q.objects i) j ≡ Some step)
+      × ((f : Ending) → GoesOnClock (writes q.clock.knows) f → ShowsObjectCall f.run.clock step.call.call step.reply y.1)
 
   shows_at : (i j : ℕ) (line : ObjectLine) → slice_get (lines_of_object r i) j ≡ Some line → Shows i (line.label, line.entry) j
   shows_at i = at_line is.objects (objects_once last left i) (shown i) (Shows i) (λ n st of.
-      let its = all_at _ notes.objects st.0 n (left.seen ObjectNotes) st.1 in
-      let shows : Shows n.object (n.label, n.entry) its.1.before = ((its.0, its.1.inside.0, its.1.inside.1), (its.1.step, its.1.there, its.1.shows)) in
-      (its.1.before, its.1.number, subst (λ k. Shows k (n.label, n.entry) its.1.before) of shows))
-
-  -- law: each is of a call of the script, in the call's span
-  pub object_in_span : (i n : ℕ) (c : Label) → slice_get (map (λ line. line.label) (lines_of_object r i)) n ≡ Some c
-      → InSpan s (λ d. (logs d).objects i) c n
-  object_in_span i n c at =
-      let m = map_get (λ (line : ObjectLine). line.label) (lines_of_object r i) n c at in
-      subst (λ d. InSpan s (λ l. (logs l).objects i) d n) m.2 (shows_at i n m.0 m.1).0
+      let its = (all_at _ notes.objects st.0 n (left.seen ObjectNotes) st.1).1 in
+      let shows : Shows n.object (n.label, n.entry) its.before = (its.step, its.there, its.shows) in
+      (its.before, its.number, subst (λ k. Shows k (n.label, n.entry) its.before) of shows))
 
   -- law: those of a call are the entries that it made
   pub object_own : (c : Label) (i : ℕ) → own (λ line. line.label) (λ line. line.entry) c 1 (lines_of_object r i) ≡ made i (logs c).trace.actions
@@ -151,17 +128,14 @@ module _ {s : Script} {x : WorldOf} {q : WorldPass} {notes sorted : NotesOf} {lo
     abbrev e : Ending
     e = ending_of r q logs starts
 
-    -- law: they show the entries, with their spans
-    pub object_lines_show : (i : ℕ) → AreObjectLines r.clock (e.spans i) 1 (seen_of q.objects i) (lines_of_object r i)
-    object_lines_show i = lines_from r.clock (e.spans i) 1 (seen_of q.objects i) (lines_of_object r i) (object_lines_long i) (λ j h line at_h at_l.
-        let its = (shows_at i j line at_l).1 in
-        let shows = subst (λ (g : ObjectMove). ShowsObjectCall r.clock g.call.call g.reply line.entry) (same_Some its.0 h (sym its.1 ∙ at_h))
-        (its.2 e (clock_goes_on last left is e refl)) in
-        (shows, ap (λ n. span_of (slice_get (seen_of q.objects i) n)) {y = j} (omega arith) ∙ ap span_of at_h))
+    -- law: they show the entries
+    pub object_lines_show : (i : ℕ) → AreObjectLines r.clock (seen_of q.objects i) (lines_of_object r i)
+    object_lines_show i = lines_from r.clock (seen_of q.objects i) (lines_of_object r i) (object_lines_long i) (λ j h line at_h at_l.
+        let its = shows_at i j line at_l in
+        subst (λ (g : ObjectMove). ShowsObjectCall r.clock g.call.call g.reply line.entry) (same_Some its.0 h (sym its.1 ∙ at_h))
+        (its.2 e (clock_goes_on last left is e refl)))
 
-    -- law: each object's lines are a history that such an object gives, and the spans of its entries follow one another
-    pub object_histories : (i : ℕ) → IsLegalObject s r i (kind_of s i) × AreBehind (e.spans i) 1 0 (lines_of_object r i)
+    -- law: each object's lines are a history that such an object gives
+    pub object_histories : (i : ℕ) → IsLegalObject s r i (kind_of s i)
     object_histories i =
-        let c = object_leads last i in
-        let behind = behind_leads r.clock (e.spans i) 1 _ c.0 (seen_of q.objects i) (lines_of_object r i) c.1 (object_lines_show i) in
-        (legal_lines s r i (seen_of q.objects i) c.0 (e.spans i) (object_lines_show i) (kind_of s i) c.1, behind)
+        let c = object_leads last i in legal_lines s r i (seen_of q.objects i) c.0 (object_lines_show i) (kind_of s i) c.1
