@@ -1,6 +1,6 @@
 -- One timer in the order of all: its list is a history, it is at each moment as after a number of its own entries, and a moment of a call is a point of the
 -- call in that list.
-use Rattle.std.proofs.Common.{◌≡◌, ◌<◌, ◌≤◌, ◌⊎◌, ℕ, ◌+◌, zero, suc, true, false, List, [], ◌∷◌, ◌++◌, Some, length, map, take, drop, get_or, arith, refl, sym, ap, ◌∙◌, subst, inl, inr}
+use Rattle.std.proofs.Common.{◌≡◌, ◌<◌, ◌≤◌, ◌⊎◌, ℕ, ◌+◌, zero, suc, false, List, [], ◌∷◌, ◌++◌, Some, length, map, take, drop, get_or, arith, refl, sym, ap, ◌∙◌, subst, inl, inr}
 use Rattle.std.specs.List.{AllByRecursion, slice_get}
 use Rattle.std.proofs.Math.Logic.{⊎_elim}
 use Rattle.std.proofs.lemmas.Bool.{cases_lt}
@@ -23,11 +23,11 @@ use Rattle.seq_timer.specs.Events.{map_reading}
 use Rattle.record_text.specs.declared.record.Entry.{Entry as ShownEntry}
 use Rattle.record_text.specs.declared.record.Label.{Label}
 use Rattle.record_text.specs.declared.record.TimerLine.{TimerLine}
-use Rattle.run_history.specs.Actions.{Action, also, entered, own}
+use Rattle.run_history.specs.Actions.{Action, entered, own}
 use Rattle.run_history.specs.Histories.{history_from, history_of, lines_of_timer, reading_at, timer_after, timer_labels}
 use Rattle.script_text.specs.Declarations.{declared_as, declared_of, terms_of, declareds_of}
 use Rattle.run_history.specs.Order.{is_before, IsInOrder, made_by}
-use Rattle.run_history.specs.Witnesses.{Witness, entries_in, entry_of_move, entry_of_shown, IsOneHistory, is_owner, labels, line_of_timer, lines_at, Move, moves_from, moves_on, OfTimer, owner_of, Shown, TimersList, timer_along}
+use Rattle.run_history.specs.Witnesses.{Witness, entries_in, entry_of_move, entry_of_shown, IsOneHistory, labels, line_of_timer, lines_at, Move, moves_from, moves_on, OfTimer, owner_of, Shown, TimersList, timer_along}
 use Rattle.fit_laws.specs.EachTimer.{IsOwnPoint, WasSo}
 use Rattle.run_history.specs.Traces.{all_entered, own_moves}
 use Rattle.run_history.specs.Truths.{IsMoment, Saw}
