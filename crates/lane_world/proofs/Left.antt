@@ -33,12 +33,16 @@ pub record AreLeft (s : Script) (q : WorldPass) (notes : NotesOf) (logs : Label 
   pub places : Tallies (length s.timers) q notes
 
 -- these are the last passes of the script's world, and what they know is true
-pub record AreLastOf (s : Script) (x : WorldOf) (q : WorldPass) : Type 0 where
+pub record AreLastPasses (s : Script) (x : WorldOf) (q : WorldPass) : Type 0 where
   pub range : IsInRange s
   pub world : IsWorldOf s x
   pub whole : IsWhole x
   pub passes : ArePassesOf x q
   pub last : AreLast q
+
+-- and the clock was settled, and each object looked at
+pub record AreLastOf (s : Script) (x : WorldOf) (q : WorldPass) : Type 0 where
+  pub of : AreLastPasses s x q
   -- of the counter for the clock's writes the timers' pass was told of just as many rises as the clock took writes
   pub told : rises_of 0 q.timers.known.seen ≡ length (writes q.clock.knows)
   -- and of those for objects' entries of no more than the objects have

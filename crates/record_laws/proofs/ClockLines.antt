@@ -89,7 +89,7 @@ module _ {s : Script} {x : WorldOf} {q : WorldPass} {notes sorted : NotesOf} {lo
 
   -- law: the clock takes them in turn, and each shows the reading after it
   pub clock_accepted : AreWrites (at_stamp 0) clock_lines
-  clock_accepted = writes_from clock_lines (at_stamp 0) (subst (AreAccepted (at_stamp 0)) (sym clock_writes) last.passes.known.legal)
+  clock_accepted = writes_from clock_lines (at_stamp 0) (subst (AreAccepted (at_stamp 0)) (sym clock_writes) last.of.passes.known.legal)
       (λ k line at. subst (λ ws. ShowsReading line (clock_after (at_stamp 0) (take (suc k) ws))) (sym clock_writes) (shows_at k line at).2)
 
   -- law: each is of a call of the script, in the call's span

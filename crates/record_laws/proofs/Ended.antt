@@ -66,8 +66,8 @@ module _ {s : Script} {x : WorldOf} {q : WorldPass} {notes sorted : NotesOf} {lo
     pub is_ending : IsEnding s e
     is_ending = record {
       history = subst (λ n. AreSystemSteps s.bases n (first_system (openings (declareds_of s) (terms_of s))) q.timers.known.seen)
-          (length-map (declareds_of s) _) (subst (λ (o : Opening). AreSystemSteps o.bases (length o.timers) (first_system o.timers) q.timers.known.seen) last.world.timers
-          last.passes.timers.knows.history);
+          (length-map (declareds_of s) _) (subst (λ (o : Opening). AreSystemSteps o.bases (length o.timers) (first_system o.timers) q.timers.known.seen) last.of.world.timers
+          last.of.passes.timers.knows.history);
       sorted = filed_notes last left is answers;
       filed = are_filed last left is answers;
       entries = λ c. (left.stand c).shows e follows;

@@ -44,6 +44,7 @@ use Rattle.lane_world.proofs.Left.{AreLastOf, AreLeft}
 use Rattle.lane_world.specs.Worlds.{WorldOf}
 use Rattle.lane_world.specs.declared.WorldPass.{WorldPass}
 use Rattle.run_history.proofs.Shown.{entry_place}
+use Rattle.record_laws.proofs.SeenThere.{bases_many, IsThere, none_past, objects_past, rose_more, there_within, timers_many}
 use Rattle.record_laws.proofs.Numbered.{AreEachOnce, count-map, nobody, as_many, lines_are, none_long, once_from, within_from}
 use Rattle.lane_notes.specs.Records.{base_line, noted_base_lines, noted_object_lines, noted_timer_lines, record_from, numbered_from}
 use Rattle.record_text.specs.declared.record.Answer.{Answer}
@@ -51,24 +52,7 @@ use Rattle.run_history.specs.Histories.{lines_of_base, lines_of_timer}
 use Rattle.script_text.specs.Declarations.{declared_as, declareds_of}
 use Rattle.run_history.specs.Objects.{lines_of_object}
 
--- ---- entries and receipts
-
--- an entry of a timer or of a base is of one that is there
-abbrev pub IsWithin : ℕ → ℕ → SystemEntry → Type 0
-IsWithin bases many (entries.Timer e) = e.timer < many
-IsWithin bases many (entries.Base c) = c.base < bases
-IsWithin bases many (entries.Rise k) = Unit
-
-within_step : (bases many : ℕ) (w : System) (x : SystemEntry) → MayCome bases many w x → IsWithin bases many x
-within_step bases many w (entries.Timer e) step = step.within
-within_step bases many w (entries.Base c) step = step.within
-within_step bases many w (entries.Rise k) step = tt
-
-entry_within : (bases many : ℕ) (w : System) (es : List SystemEntry) (p : ℕ) (e : SystemEntry) → AreSystemSteps bases many w es
-    → slice_get es p ≡ Some e → IsWithin bases many e
-entry_within bases many w [] p e steps at = absurd (cc)
-entry_within bases many w (y ∷ es) zero e steps at = subst (IsWithin bases many) (same_Some y e at) (within_step bases many w y steps.0)
-entry_within bases many w (y ∷ es) (suc p) e steps at = entry_within bases many (after_one w y) es p e steps.1 at
+-- ---- notes and receipts
 
 -- an entry's note as the receipt of it, with so many entries before it
 abbrev pub noted_at : ℕ → ToldNote → PlacedEntry
@@ -195,73 +179,26 @@ base_at many b n (x ∷ bs) =
     ∙ ap (λ k. one_if ((x.base == b) && (x.number == n)) + k) (base_at many b n bs)
 
 module _ {s : Script} {x : WorldOf} {q : WorldPass} (last : AreLastOf s x q) where
-  -- whether a list is there; of counters those of the clock's writes and of each object's entries are
-  abbrev pub IsThere : Owner → Type 0
-  IsThere (TimersList t) = t < length s.timers
-  IsThere (BasesList b) = b < s.bases
-  IsThere (CountersList k) = k < length s.timers + 1
-
   many_timers : length x.timers.about.timers ≡ length s.timers
-  many_timers = ap (λ (o : Opening). length o.timers) last.world.timers ∙ length-map (declareds_of s) _ ∙ length-map s.timers declared_as
+  many_timers = timers_many last.of
 
   many_bases : x.timers.about.bases ≡ s.bases
-  many_bases = ap (λ (o : Opening). o.bases) last.world.timers
-
-  many_counters : x.timers.about.counters ≡ length s.timers + 1
-  many_counters = ap (λ (o : Opening). o.counters) last.world.timers
-
-  -- where a rise was seen its counter has risen more often than before it
-  rose_more : (p k : ℕ) → slice_get q.timers.known.seen p ≡ Some (entries.Rise k)
-      → rises_of k (take p q.timers.known.seen) < rises_of k q.timers.known.seen
-  rose_more p k at =
-      let seen = q.timers.known.seen in
-      let more = counts_more seen p (length seen) (CountersList k) (entries.Rise k) at refl (slice_get_within seen p (entries.Rise k) at) in
-      omega (arith, more, ap (rises_of k) (take_all (length seen) seen (omega arith)))
-
-  -- a rise that was seen is that of a counter that is there
-  rose_there : (p k : ℕ) → slice_get q.timers.known.seen p ≡ Some (entries.Rise k) → k < length s.timers + 1
-  rose_there p k at = ⊎_elim (λ (less : k < length s.timers + 1). less)
-      (λ (past : length s.timers + 1 ≤ k).
-      let never = last.passes.timers.knows.counters k (subst (λ n. n ≤ k) (sym many_counters) past) in absurd (omega (arith, rose_more p k at, never)))
-      (cases_lt k (length s.timers + 1))
-
-  -- the list of an entry that was seen is there
-  there_within : (p : ℕ) (e : SystemEntry) → slice_get q.timers.known.seen p ≡ Some e → IsThere (owner_of_entry e)
-  there_within p e at = here e at (subst (λ n. IsWithin n (length s.timers) e) many_bases (subst (λ n. IsWithin x.timers.about.bases n e) many_timers
-      (entry_within _ _ _ q.timers.known.seen p e last.passes.timers.knows.history at)))
-    where
-      here : (e : SystemEntry) → slice_get q.timers.known.seen p ≡ Some e → IsWithin s.bases (length s.timers) e → IsThere (owner_of_entry e)
-      here (entries.Timer e) at in_it = in_it
-      here (entries.Base c) at in_it = in_it
-      here (entries.Rise k) at in_it = rose_there p k at
-
-  pub many_objects : length q.objects.knows.opening ≡ length s.timers
-  many_objects = ap length last.passes.objects.row.made ∙ length-map x.objects.decls _ ∙ ap length last.world.decls ∙ length-map s.timers _
-
-  -- law: no entries were seen of an object that isn't there
-  pub objects_past : (i : ℕ) → length s.timers ≤ i → seen_of q.objects i ≡ []
-  objects_past i past = get_or_past q.objects.knows.pass.seen i [] (subst (λ n. n ≤ i) (sym (last.passes.objects.knows.wide ∙ many_objects)) past)
-
-  -- law: nor of a timer, a base or a counter that isn't there
-  pub none_past : (o : Owner) → (IsThere o → ⊥) → receipts.count o q.timers.known.seen ≡ 0
-  none_past o past = count_is o q.timers.known.seen ∙ ap length (nobody (entries_at o q.timers.known.seen) (λ e st.
-      let at = entry_place o st.0 e q.timers.known.seen st.1 in
-      past (subst IsThere at.owner (there_within at.place e at.there))))
+  many_bases = bases_many last.of
 
   module _ {notes : NotesOf} {logs : Label → CallLog} (left : AreLeft s q notes logs) where
     -- law: a note is of a timer, a base or a counter that is there
-    pub note_within : (n : ToldNote) → HasPlace (told_notes notes) n → IsThere (owner_of n.shown)
+    pub note_within : (n : ToldNote) → HasPlace (told_notes notes) n → IsThere s (owner_of n.shown)
     note_within n st = let made = note_made left n (has_receipt left n st) in
-        subst IsThere made.owner (there_within _ made.step made.there)
+        subst (IsThere s) made.owner (there_within last.of _ made.step made.there)
 
     -- where a list isn't there no number of it is noted
-    none_noted_past : {X : Type 0} (place : X → Place) (l : ℕ) (xs : List X) (o : Owner) → (IsThere o → ⊥)
-        → ((e : X) → HasPlace xs e → (place e).list ≡ l → IsThere o) → AreEachOnce place l (receipts.count o q.timers.known.seen) xs
+    none_noted_past : {X : Type 0} (place : X → Place) (l : ℕ) (xs : List X) (o : Owner) → (IsThere s o → ⊥)
+        → ((e : X) → HasPlace xs e → (place e).list ≡ l → IsThere s o) → AreEachOnce place l (receipts.count o q.timers.known.seen) xs
     none_noted_past place l xs o past there = record {
       each = λ n. ap length (nobody (filter (is_at place l n) xs) (λ e st.
           let f = filter_stands_in (is_at place l n) xs e st in
           past (there e f.0 (eqb-true (place e).list l (and_parts _ _ f.1).0))))
-          ∙ sym (ap (λ k. one_if (within n k)) (none_past o past) ∙ no_number n);
+          ∙ sym (ap (λ k. one_if (within n k)) (none_past last.of o past) ∙ no_number n);
     }
 
     -- law: each entry of each timer is noted once
@@ -270,7 +207,7 @@ module _ {s : Script} {x : WorldOf} {q : WorldPass} (last : AreLastOf s x q) whe
         (λ (less : t < length s.timers). once_from q.timers.known.mine
         (λ n. let none = none_at (base_note_place (length s.timers)) t n notes.bases (each _ notes.bases (λ p b at is. omega (arith, is, less))) in
         omega (arith, left.places.timers t n, none))
-        (λ n. (last.passes.timers.knows.whole last.last.timers).once t n (subst (λ m. t < m) (sym many_timers) less)))
+        (λ n. (last.of.passes.timers.knows.whole last.of.last.timers).once t n (subst (λ m. t < m) (sym many_timers) less)))
         (λ (past : length s.timers ≤ t). none_noted_past place_of_entry t notes.entries (TimersList t) (λ less. omega (arith, less, past))
         (λ e st is. subst (λ u. u < length s.timers) is (note_within (of_entry e) (entry_stands left e st))))
         (cases_lt t (length s.timers))
@@ -286,7 +223,7 @@ module _ {s : Script} {x : WorldOf} {q : WorldPass} (last : AreLastOf s x q) whe
             none_at note_place (length s.timers + b) n notes.entries (each _ notes.entries (λ p e at is.
                 let there = note_within (of_entry e) (entry_stands left e (p, at)) in omega (arith, is, there))),
             subst (λ m. count (is_place (m + b) n) q.timers.known.mine ≡ one_if (within n (length (shifts_of b q.timers.known.seen)))) many_timers
-                ((last.passes.timers.knows.shifts last.last.timers) b n (subst (λ m. b < m) (sym many_bases) less)),
+                ((last.of.passes.timers.knows.shifts last.of.last.timers) b n (subst (λ m. b < m) (sym many_bases) less)),
           );
         })
         (λ (past : s.bases ≤ b). none_noted_past place_of_base b notes.bases (BasesList b) (λ less. omega (arith, less, past))
@@ -295,11 +232,11 @@ module _ {s : Script} {x : WorldOf} {q : WorldPass} (last : AreLastOf s x q) whe
 
     -- law: each entry of each object is
     pub objects_once : (i : ℕ) → AreEachOnce place_of_object i (length (seen_of q.objects i)) notes.objects
-    objects_once i = once_from _ (left.places.objects i) ((last.passes.objects.knows.all_entries last.last.objects).once i)
+    objects_once i = once_from _ (left.places.objects i) ((last.of.passes.objects.knows.all_entries last.of.last.objects).once i)
 
     -- law: each write of the clock is
     pub writes_once : AreEachOnce place_of_write 0 (length (writes q.clock.knows)) notes.writes
-    writes_once = once_from _ left.places.clock ((last.passes.known.all_entries last.last.clock).once 0)
+    writes_once = once_from _ left.places.clock ((last.of.passes.known.all_entries last.of.last.clock).once 0)
 
     -- law: so each rise of their counter is
     pub write_rises_once : AreEachOnce place_of_write 0 (receipts.count (CountersList 0) q.timers.known.seen) notes.writes
@@ -320,7 +257,7 @@ module _ {s : Script} {x : WorldOf} {q : WorldPass} (last : AreLastOf s x q) whe
         let made = subst (λ k. IsMade q.timers.known.seen (record { place = has.place; number = e.number; shown = OfRise (suc k) })) on
         (note_made left (of_object e) has) in
         let rise : slice_get q.timers.known.seen has.place ≡ Some (entries.Rise (suc i)) = made.there ∙ ap Some (its_rise made.step (suc i) made.owner) in
-        omega (arith, is, rose_more has.place (suc i) rise, made.number, eqb-true e.number many parts.1)
+        omega (arith, is, rose_more last.of has.place (suc i) rise, made.number, eqb-true e.number many parts.1)
       where
         head : (xs : List ObjectNote) → length xs ≡ 1 → (y : ObjectNote) × (slice_get xs 0 ≡ Some y)
         head [] is = absurd (omega (arith, is))
@@ -337,7 +274,7 @@ module _ {s : Script} {x : WorldOf} {q : WorldPass} (last : AreLastOf s x q) whe
         (λ (less : i < length s.timers).
         let few = subst (λ k. rises_of k q.timers.known.seen ≤ length (seen_of q.objects i)) (one_more i) (last.no_more i less) in
         omega (arith, few, object_rose i (length (seen_of q.objects i)) refl))
-        (λ (past : length s.timers ≤ i). none_past (CountersList (suc i)) (λ is. omega (arith, is, past)) ∙ sym (ap length (objects_past i past)))
+        (λ (past : length s.timers ≤ i). none_past last.of (CountersList (suc i)) (λ is. omega (arith, is, past)) ∙ sym (ap length (objects_past last.of i past)))
         (cases_lt i (length s.timers))
       where
         one_more : (k : ℕ) → k + 1 ≡ suc k
@@ -351,14 +288,14 @@ module _ {s : Script} {x : WorldOf} {q : WorldPass} (last : AreLastOf s x q) whe
     pub timer_lines_are : {sorted : NotesOf} → IsSortedFrom notes sorted → (answers : List (List Answer)) (t : ℕ)
         → lines_of_timer (record_from s.version sorted s.bases (length s.timers) answers) t ≡ noted_timer_lines t sorted.entries sorted.looks
     timer_lines_are {sorted = sorted} is answers t = lines_are (λ u. noted_timer_lines u sorted.entries sorted.looks) (length s.timers) t
-        (λ past. ap (numbered_from _ 1) (none_long _ (as_many is.entries (entries_once t) ∙ none_past (TimersList t) (λ less. omega (arith, less, past)))))
+        (λ past. ap (numbered_from _ 1) (none_long _ (as_many is.entries (entries_once t) ∙ none_past last.of (TimersList t) (λ less. omega (arith, less, past)))))
 
     pub base_lines_are : {sorted : NotesOf} → IsSortedFrom notes sorted → (answers : List (List Answer)) (b : ℕ)
         → lines_of_base (record_from s.version sorted s.bases (length s.timers) answers) b ≡ noted_base_lines b sorted.bases
     base_lines_are {sorted = sorted} is answers b = lines_are (λ c. noted_base_lines c sorted.bases) s.bases b
-        (λ past. ap (map base_line) (none_long _ (as_many is.bases (shifts_once b) ∙ none_past (BasesList b) (λ less. omega (arith, less, past)))))
+        (λ past. ap (map base_line) (none_long _ (as_many is.bases (shifts_once b) ∙ none_past last.of (BasesList b) (λ less. omega (arith, less, past)))))
 
     pub object_lines_are : {sorted : NotesOf} → IsSortedFrom notes sorted → (answers : List (List Answer)) (i : ℕ)
         → lines_of_object (record_from s.version sorted s.bases (length s.timers) answers) i ≡ noted_object_lines i sorted.objects sorted.skips
     object_lines_are {sorted = sorted} is answers i = lines_are (λ j. noted_object_lines j sorted.objects sorted.skips) (length s.timers) i
-        (λ past. ap (numbered_from _ 1) (none_long _ (as_many is.objects (objects_once i) ∙ ap length (objects_past i past))))
+        (λ past. ap (numbered_from _ 1) (none_long _ (as_many is.objects (objects_once i) ∙ ap length (objects_past last.of i past))))

@@ -1,6 +1,7 @@
 pub mod BaseLines
 pub mod Numbered
 pub mod OwnLines
+pub mod SeenThere
 pub mod LastSeen
 pub mod FiledNotes
 pub mod ClockLines

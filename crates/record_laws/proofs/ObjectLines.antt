@@ -39,7 +39,8 @@ use Rattle.record_text.specs.declared.record.ClockLine.{ClockLine}
 use Rattle.record_text.specs.declared.record.RunRecord.{RunRecord}
 use Rattle.script_text.specs.declared.script.Kind.{Kind}
 use Rattle.record_laws.proofs.ClockLines.{clock_goes_on}
-use Rattle.record_laws.proofs.LastSeen.{many_objects, objects_once, object_lines_are, objects_past}
+use Rattle.record_laws.proofs.LastSeen.{objects_once, object_lines_are}
+use Rattle.record_laws.proofs.SeenThere.{many_objects, objects_past}
 use Rattle.lane_world.proofs.ObjectSeen.{fd_kind, leads_from, legal, posix_kind}
 use Rattle.record_laws.proofs.OwnLines.{at_line, lines_long, own_lines, ShowNotes, told_of}
 
@@ -77,14 +78,14 @@ object_leads : {s : Script} {x : WorldOf} {q : WorldPass} → AreLastOf s x q �
     → (cell : ObjectCell) × Leads cell_meaning (opened_cell s.limit (decl_as (kind_of s i) (clock_of s i))) (seen_of q.objects i) cell
 object_leads {s = s} {x = x} {q = q} last i = ⊎_elim
     (λ (there : i < length s.timers).
-    let c = last.passes.objects.knows.legal i (subst (λ n. i < n) (sym (many_objects last)) there) in (
+    let c = last.of.passes.objects.knows.legal i (subst (λ n. i < n) (sym (many_objects last.of)) there) in (
       c.0,
-      leads_from s x last.world i (seen_of q.objects i) c.0
-          (subst (λ o. StateAfter cell_meaning o i (seen_of q.objects i) c.0) last.passes.objects.row.made c.1) (kind_of s i) refl,
+      leads_from s x last.of.world i (seen_of q.objects i) c.0
+          (subst (λ o. StateAfter cell_meaning o i (seen_of q.objects i) c.0) last.of.passes.objects.row.made c.1) (kind_of s i) refl,
     ))
     (λ (past : length s.timers ≤ i).
     let opened = opened_cell s.limit (decl_as (kind_of s i) (clock_of s i)) in
-    (opened, subst (λ hs. Leads cell_meaning opened hs opened) (sym (objects_past last i past)) refl))
+    (opened, subst (λ hs. Leads cell_meaning opened hs opened) (sym (objects_past last.of i past)) refl))
     (cases_lt i (length s.timers))
 
 -- ---- the record's lines

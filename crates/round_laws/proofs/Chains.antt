@@ -16,7 +16,7 @@ pub record ListOf : Type 0 where
   pub rises : {a b : Seen} → IsNoLess a b → seen a ≤ seen b
   pub of_log : (p q : WorldPass) (notes : List PlacedEntry) (trace : Trace) → span (log_of p q notes trace) ≡ (seen (seen_by p), seen (seen_by q))
 
--- all timers' entries
+-- all entries
 abbrev pub moves_list : ListOf
 moves_list = record { seen = λ n. n.moves; span = λ g. g.moves; rises = λ less. less.moves; of_log = λ p q notes trace. refl }
 
@@ -24,22 +24,17 @@ moves_list = record { seen = λ n. n.moves; span = λ g. g.moves; rises = λ les
 abbrev pub clock_list : ListOf
 clock_list = record { seen = λ n. n.clock; span = λ g. g.clock; rises = λ less. less.clock; of_log = λ p q notes trace. refl }
 
--- the entries of an object
-abbrev pub object_list : ℕ → ListOf
-object_list i = record { seen = λ n. n.objects i; span = λ g. g.objects i; rises = λ less. less.objects i; of_log = λ p q notes trace. refl }
-
 -- ---- no less was seen
 
 -- the same
 pub no_less_same : {a : Seen} → IsNoLess a a
-no_less_same = record { clock = omega arith; moves = omega arith; objects = λ i. omega arith }
+no_less_same = record { clock = omega arith; moves = omega arith }
 
 -- twice no less
 pub no_less_trans : {a b c : Seen} → IsNoLess a b → IsNoLess b c → IsNoLess a c
 no_less_trans one two = record {
   clock = omega (arith, one.clock, two.clock);
   moves = omega (arith, one.moves, two.moves);
-  objects = λ i. omega (arith, one.objects i, two.objects i);
 }
 
 -- ---- where rounds began

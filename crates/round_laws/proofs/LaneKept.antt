@@ -9,7 +9,6 @@ use Rattle.run_history.specs.Runs.{witness_of}
 use Rattle.record_text.specs.declared.record.Answer.{Answer}
 use Rattle.record_text.specs.declared.record.Label.{Label}
 use Rattle.run_history.specs.Actions.{wrote}
-use Rattle.run_history.specs.Told.{object_steps_on}
 use Rattle.run_history.specs.Order.{CallInRound}
 use Rattle.script_text.specs.declared.script.Call.{Call}
 use Rattle.script_text.specs.declared.script.Script.{Script}
@@ -38,13 +37,10 @@ fits_behind w c call a less before after no_less fits = record {
   begins = fits.begins;
   ends = fits.ends;
   truth = fits.truth;
-  expiries = fits.expiries;
   seen = fits.seen;
   clock_steps = falls_lower less.clock before.clock ((w.traces c).at ∷ map (λ x. x.0) (wrote (w.traces c).actions)) after.clock no_less.clock
       fits.clock_steps;
   move_steps = (omega (arith, no_less.moves, fits.move_steps.0), fits.move_steps.1);
-  object_steps = λ i. falls_lower (less.objects i) (before.objects i) (object_steps_on i call a (w.traces c).actions) (after.objects i)
-      (no_less.objects i) (fits.object_steps i);
 }
 
 -- law: so does its reading

@@ -22,7 +22,7 @@ use Rattle.lane_world.proofs.Left.{AreByRounds, AreLeft}
 use Rattle.lane_world.specs.Rounds.{LeftOf, MakesRounds, none_left}
 use Rattle.lane_world.specs.Worlds.{AreFirst, IsWhole, IsWorldOf, WorldOf}
 use Rattle.lane_world.specs.declared.WorldPass.{WorldPass}
-use Rattle.round_laws.proofs.Chains.{clock_list, LiesIn, ListOf, moves_list, object_list, start_of}
+use Rattle.round_laws.proofs.Chains.{clock_list, LiesIn, ListOf, moves_list, start_of}
 use Rattle.round_laws.proofs.LaneRound.{LaneSoFar, calls_in, Stands, DoneCall, answers_in}
 use Rattle.round_laws.proofs.LanesTaken.{AreLeftSoFar}
 use Rattle.round_laws.proofs.NotesJoined.{own_notes-none}
@@ -34,7 +34,7 @@ use Rattle.round_laws.proofs.LaneKept.{KeepsEach}
 abbrev pub no_call : DoneCall
 no_call = record {
   at = record { round = 0; call = calls.Cancel 0 };
-  log = record { notes = []; trace = record { at = 0; fired = []; moved = []; actions = []; first = 0; last = 0 }; moves = (0, 0); clock = (0, 0); objects = λ i. (0, 0) };
+  log = record { notes = []; trace = record { at = 0; fired = []; moved = []; actions = []; first = 0; last = 0 }; moves = (0, 0); clock = (0, 0) };
   answer = answers.NoSignal;
 }
 
@@ -128,21 +128,15 @@ module _ {s : Script} {past : List Seen} {q : WorldPass} {left : LeftOf} (of : �
 
   -- what had been seen of each list when each round began
   abbrev all_starts : RoundStarts
-  all_starts = record {
-    moves = start_of moves_list past (seen_by q);
-    clock = start_of clock_list past (seen_by q);
-    objects = λ i. start_of (object_list i) past (seen_by q);
-  }
+  all_starts = record { moves = start_of moves_list past (seen_by q); clock = start_of clock_list past (seen_by q) }
 
   -- law: then calls stand by rounds, and fit
   by_rounds : AreByRounds s q log_in all_starts left.answers
   by_rounds = record {
     moves = λ r. ledger_on moves_list;
     clock = λ r. ledger_on clock_list;
-    objects = λ r i. ledger_on (object_list i);
     moves_most = λ c is. (lies_of moves_list c is).most;
     clock_most = λ c is. (lies_of clock_list c is).most;
-    objects_most = λ i c is. (lies_of (object_list i) c is).most;
     lanes = so_far.lanes;
     calls = λ e follows has joined lane.
         let done = (of lane).done in

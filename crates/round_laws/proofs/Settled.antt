@@ -1,52 +1,82 @@
--- What lanes have left, by passes that have settled the clock since.
-use Rattle.std.proofs.Common.{List, arith, ap, ◌∙◌}
+-- What lanes have left, by passes that have settled the clock and looked at each object since.
+use Rattle.std.proofs.Common.{◌≡◌, List, arith, refl, ap, ◌∙◌}
 use Rattle.lane_notes.specs.Notes.{NotesOf}
 use Rattle.pass_names.specs.Counts.{count}
 use Rattle.pass_names.specs.Passes.{is_place}
 use Rattle.pass_names.proofs.Passes.{begins_length}
+use Rattle.timer_objects.specs.Known.{seen_of}
+use Rattle.clock_cell.specs.Views.{writes}
 use Rattle.record_text.specs.declared.record.Answer.{Answer}
 use Rattle.record_text.specs.declared.record.Label.{Label}
 use Rattle.run_history.specs.Runs.{CallLog, RoundStarts}
 use Rattle.script_text.specs.declared.script.Script.{Script}
-use Rattle.timer_objects.specs.Known.{seen_of}
 use Rattle.lane_world.proofs.Kept.{label_of, list_of}
 use Rattle.lane_world.proofs.Left.{AreByRounds, AreLeft}
 use Rattle.lane_world.proofs.PartLists.{each_weaker}
 use Rattle.lane_world.proofs.SeenMore.{begins_same, follows_less, seen_later, SeesMore, stand_later}
-use Rattle.lane_world.specs.Runs.{Settles}
+use Rattle.lane_world.specs.Runs.{LooksAtAll, Settles}
+use Rattle.lane_world.specs.Worlds.{WorldOf}
 use Rattle.lane_world.specs.declared.WorldPass.{WorldPass}
 
-more : {p q : WorldPass} → Settles p q → SeesMore p q
-more settles = record {
-  timers = settles.timers.seen;
-  clock = settles.clock.seen.each 0;
-  objects = λ i. begins_same (ap (λ o. seen_of o i) settles.objects);
+-- passes that have only seen more since
+pub record OnlySees (p q : WorldPass) : Type 0 where
+  pub more : SeesMore p q
+  pub timers : q.timers.known.mine ≡ p.timers.known.mine
+  pub objects : q.objects.knows.pass.mine ≡ p.objects.knows.pass.mine
+  pub clock : q.clock.knows.pass.mine ≡ p.clock.knows.pass.mine
+
+-- law: as when the clock was settled
+pub only_settles : {p q : WorldPass} → Settles p q → OnlySees p q
+only_settles settles = record {
+  more = record {
+    timers = settles.timers.seen;
+    clock = settles.clock.seen.each 0;
+    objects = λ i. begins_same (ap (λ o. seen_of o i) settles.objects);
+  };
+  timers = settles.timers.mine;
+  objects = ap (λ o. o.knows.pass.mine) settles.objects;
+  clock = settles.clock.mine;
+}
+
+-- passes that have looked at each object, that of the timers as it was before
+abbrev pub before_looks : WorldPass → WorldPass → WorldPass
+before_looks p q = record q { timers = p.timers }
+
+-- law: as when each object was looked at
+pub only_looks : {x : WorldOf} {p q : WorldPass} → LooksAtAll x p q → OnlySees p (before_looks p q)
+only_looks looks = record {
+  more = record {
+    timers = begins_same refl;
+    clock = begins_same (ap (λ c. writes c.knows) looks.clock);
+    objects = λ i. looks.objects.seen.each i;
+  };
+  timers = refl;
+  objects = looks.objects.mine;
+  clock = ap (λ c. c.knows.pass.mine) looks.clock;
 }
 
 -- law: nothing else was made since
-pub left_settled : {s : Script} {p q : WorldPass} {notes : NotesOf} {logs : Label → CallLog} → Settles p q → AreLeft s p notes logs → AreLeft s q notes logs
-left_settled {notes = notes} {logs = logs} settles left = record {
+pub left_later : {s : Script} {p q : WorldPass} {notes : NotesOf} {logs : Label → CallLog} → OnlySees p q → AreLeft s p notes logs → AreLeft s q notes logs
+left_later {notes = notes} {logs = logs} sees left = record {
   tell = left.tell;
-  stand = λ c. stand_later (more settles) (left.stand c);
-  seen = λ k. each_weaker (list_of k notes) (λ n is. (is.0, seen_later k (logs (label_of k n)) n (more settles) is.1)) (left.seen k);
+  stand = λ c. stand_later sees.more (left.stand c);
+  seen = λ k. each_weaker (list_of k notes) (λ n is. (is.0, seen_later k (logs (label_of k n)) n sees.more is.1)) (left.seen k);
   few = left.few;
   places = record {
-    timers = λ i n. ap (count (is_place i n)) settles.timers.mine ∙ left.places.timers i n;
-    objects = λ i n. ap (λ o. count (is_place i n) o.knows.pass.mine) settles.objects ∙ left.places.objects i n;
-    clock = λ n. ap (count (is_place 0 n)) settles.clock.mine ∙ left.places.clock n;
+    timers = λ i n. ap (count (is_place i n)) sees.timers ∙ left.places.timers i n;
+    objects = λ i n. ap (count (is_place i n)) sees.objects ∙ left.places.objects i n;
+    clock = λ n. ap (count (is_place 0 n)) sees.clock ∙ left.places.clock n;
   };
 }
 
 -- law: and calls stand by rounds as before
-pub rounds_settled : {s : Script} {p q : WorldPass} {logs : Label → CallLog} {starts : RoundStarts} {answers : List (List Answer)} → Settles p q
+pub rounds_later : {s : Script} {p q : WorldPass} {logs : Label → CallLog} {starts : RoundStarts} {answers : List (List Answer)} → OnlySees p q
     → AreByRounds s p logs starts answers → AreByRounds s q logs starts answers
-rounds_settled settles rounds = let sees = more settles in record {
+rounds_later sees rounds = record {
   moves = rounds.moves;
   clock = rounds.clock;
-  objects = rounds.objects;
-  moves_most = λ c is. omega (arith, rounds.moves_most c is, begins_length sees.timers);
-  clock_most = λ c is. omega (arith, rounds.clock_most c is, begins_length sees.clock);
-  objects_most = λ i c is. omega (arith, rounds.objects_most i c is, begins_length (sees.objects i));
+  moves_most = λ c is. omega (arith, rounds.moves_most c is, begins_length sees.more.timers);
+  clock_most = λ c is. omega (arith, rounds.clock_most c is, begins_length sees.more.clock);
   lanes = rounds.lanes;
-  calls = λ e follows has joined lane. rounds.calls e (follows_less sees follows) has joined lane;
+  calls = λ e follows has joined lane. rounds.calls e (follows_less sees.more follows) has joined lane;
 }
