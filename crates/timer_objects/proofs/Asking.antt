@@ -11,6 +11,7 @@ use Rattle.counted_row.specs.declared.view.Locked.{Locked}
 use Rattle.counted_row.specs.Views.{IsPassOfRow, Locks}
 use Rattle.timer_objects.specs.declared.cell.ObjectCell.{ObjectCell}
 use Rattle.timer_objects.specs.declared.cell.Span.{Span}
+use Rattle.timer_objects.specs.declared.cell.SpannedCall.{SpannedCall}
 use Rattle.timer_objects.specs.declared.log.ObjectReceipt.{ObjectReceipt}
 use Rattle.timer_objects.specs.declared.object.Decl.{Decl}
 use Rattle.timer_objects.specs.declared.object.ObjectReply.{ObjectReply}
@@ -23,13 +24,14 @@ use Rattle.timer_objects.specs.declared.wanting.Ended.TheVariants as ends
 use Rattle.timer_objects.specs.Steps.{IsObjectOf, ObjectAllows}
 use Rattle.timer_objects.specs.Cells.{cell_meaning, spanned}
 use Rattle.timer_objects.specs.Known.{Enters, HoldsObject, IsObjectsPass, MayEnter, ObjectsOf, ObjectsPass, Suits, decl_at, receipt_of, row_of}
-use Rattle.timer_objects.specs.Calls.{BearsStart, Caller, HasWaited, RearmingMade, SettimeTells, settime_call, wanted_by}
+use Rattle.timer_objects.specs.Calls.{BearsStart, Caller, HasWaited, RearmingMade, RearmsFor, SettimeTells, settime_call, wanted_by}
+use Rattle.timer_objects.specs.Turns.{HasTurn}
 use Rattle.timer_objects.specs.Valid.{IsSettimeReply}
 use Rattle.timer_objects.specs.Rearming.{Ends, EndsAt, FoundAs, IsAskedOf, KeepsNames, MakesEntry, Sets, call_asked, settime_with, start_asked}
 use Rattle.timer_objects.proofs.Bearing.{allows, bears, replies_to}
-use Rattle.timer_objects.proofs.Entering.{enters_call}
+use Rattle.timer_objects.proofs.Entering.{commits, enters_call, stamp_before}
 use Rattle.timer_objects.proofs.Restarting.{spans}
-use Rattle.timer_objects.proofs.Retrying.{enters_after, full_after, rearms_after, rearms_names}
+use Rattle.timer_objects.proofs.Retrying.{enters_after, full_after, rearms_names, turn_after, turn_names}
 use Rattle.timer_objects.proofs.Settings.{arms_bears, set_phase, settime_allowed, settime_grants, settime_replies}
 use Rattle.timer_objects.proofs.SettimeMade.{anew_end, anew_spans, made_after, made_by, made_names}
 
@@ -68,12 +70,16 @@ module _ (x : ObjectsOf) (o : Opening) (v w : KnownOfTimers) (m : ObjectsPass) (
   }
 
   module _ (p : ObjectsPass) (locks : Locks cell_meaning p m id h) (q : ObjectsPass) (olog olog' : List ObjectReceipt) (reply : ObjectReply)
-      (isq : IsObjectsPass x q) (suits : Suits x o) (within : id < length x.decls) where
+      (isq : IsObjectsPass x q) (suits : Suits x o) (within : id < length x.decls) (u z : KnownOfTimers) (turn : HasTurn id h.stamp u v w z) where
     abbrev begun : Caller
-    begun = record { timers = v; objects = p; log = log; object_log = olog }
+    begun = record { timers = u; objects = p; log = log; object_log = olog }
 
     abbrev done : Caller
-    done = record { timers = w; objects = q; log = log'; object_log = olog' }
+    done = record { timers = z; objects = q; log = log'; object_log = olog' }
+
+    -- its turn, by the number of entries before its own
+    turn_at : {call : SpannedCall} (e : Enters m q h call reply) → HasTurn id (length (commits x p m q id h call reply locks row isq e).adds.before) u v w z
+    turn_at {call} e = subst (λ n. HasTurn id n u v w z) (sym (stamp_before x p m q id h call reply locks row isq e)) turn
 
     pub makes : (asked : EntryCall) → IsAskedOf d.kind asked → Sets o v w id asked h.state d.base arm span log log'
         → Enters m q h (spanned (call_asked d.kind asked arm) span) reply
@@ -90,6 +96,9 @@ module _ (x : ObjectsOf) (o : Opening) (v w : KnownOfTimers) (m : ObjectsPass) (
                   span = span;
                   reply = reply;
                   enters = enters_call x p m q id h (spanned (settime_call d.kind c) span) reply locks row isq e begun done refl refl room noted;
+                  begun = v;
+                  worked = w;
+                  turn = turn_at e;
                   disarmed = sets.disarmed;
                   cancel_log = sets.cancel_log;
                   so_far = sets.so_far;
@@ -111,6 +120,9 @@ module _ (x : ObjectsOf) (o : Opening) (v w : KnownOfTimers) (m : ObjectsPass) (
           arm = arm;
           span = span;
           enters = enters_call x p m q id h _ reply locks row isq e begun done refl refl room noted;
+          begun = v;
+          worked = w;
+          turn = turn_at e;
           rearms = sets;
           bears = bears o v w id h.state.last d.base reading arm span log log' r h.state.object sets;
         },
@@ -145,7 +157,11 @@ rearming_after x o a b c id r reading reply waits m = record {
   arm = m.arm;
   span = m.span;
   enters = enters_after waits m.enters;
-  rearms = rearms_after o a.timers b.timers c.timers id _ _ reading m.arm m.span a.log b.log c.log _ waits.timers waits.log m.rearms;
+  begun = m.begun;
+  worked = m.worked;
+  turn = turn_after waits.timers m.turn;
+  rearms = subst (λ l. RearmsFor o m.begun m.worked id m.enters.commits.state.last (wanted_by r m.enters.commits.state.object reading) (decl_at x id).base
+      reading m.arm m.span l c.log) waits.log m.rearms;
   bears = m.bears;
 }
 
@@ -165,5 +181,6 @@ ends_names x o old new id (entry_calls.Settime s) (ends.Made n reply) made =
     made_names x o old new id _ _ _ _ made.0.0.0 (made.0.1 made.0.0.0 made.0.0.1)
 ends_names x o old new id (entry_calls.Rearming r reading) (ends.Made n reply) made =
     let m = made.0.0 in
-    let names = rearms_names o old.timers new.timers id _ _ reading m.arm m.span _ _ _ m.rearms in
-    record { timers = names.0; claims = names.1; objects = m.enters.commits.adds.id }
+    let names = rearms_names o m.begun m.worked id _ _ reading m.arm m.span _ _ _ m.rearms in
+    let kept = turn_names m.turn names.0 names.1 in
+    record { timers = kept.0; claims = kept.1; objects = m.enters.commits.adds.id }

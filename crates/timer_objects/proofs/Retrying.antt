@@ -19,9 +19,14 @@ use Rattle.timer_objects.specs.declared.log.ObjectReceipt.{ObjectReceipt}
 use Rattle.timer_objects.specs.declared.object.ObjectReply.{ObjectReply}
 use Rattle.timer_objects.specs.Cells.{cell_meaning}
 use Rattle.timer_objects.specs.Known.{IsObjectsPass, ObjectsOf, ObjectsPass, row_of, seen_of}
-use Rattle.timer_objects.specs.Arming.{Starts}
 use Rattle.timer_objects.specs.Calls.{Caller, EntersCall, FindsFull, HasWaited, RearmsFor}
+use Rattle.timer_objects.specs.Turns.{HasTurn}
 use Rattle.timer_objects.specs.Waiting.{HasToWait}
+
+-- a turn of an object behind looks
+abbrev pub turn_after : {id n : ℕ} {u v begun worked w : KnownOfTimers} → LooksOn u v → HasTurn id n v begun worked w → HasTurn id n u begun worked w
+turn_after {id} {n} {u} {v} {begun} {worked} {w} looks t =
+    record { looks = looks_trans u v begun looks t.looks; found = t.found; ends = t.ends; enters = t.enters }
 
 module _ {a b c : Caller} where
   -- an entry of an object behind looks
@@ -42,23 +47,9 @@ module _ {a b c : Caller} where
     reads = reads_after waits.objects found.reads;
     full = found.full;
     stamp = found.stamp;
+    told = found.told;
     log = found.log ∙ waits.log;
     object_log = found.object_log ∙ waits.object_log;
-  }
-
-module _ (o : Opening) (u v w : KnownOfTimers) (t last base : ℕ) (reading : ClockReading) (arm : Arm) (span : Span) (log log' log'' : List Receipt) where
-  pub rearms_after : (wanted : Option Wanted) → LooksOn u v → log' ≡ log → RearmsFor o v w t last wanted base reading arm span log' log''
-      → RearmsFor o u w t last wanted base reading arm span log log''
-  rearms_after None looks same rearms =
-      let q = rearms.1 in
-      (rearms.0, record { looks = looks_trans u v w looks q.looks; from = q.from; to = q.to }, rearms.2 ∙ same)
-  rearms_after (Some wanted) looks same rearms = record {
-    begin = rearms.begin;
-    looks = looks_trans u v rearms.begin looks rearms.looks;
-    from = rearms.from;
-    behind = rearms.behind;
-    starts = subst (λ l. Starts o rearms.begin w t wanted base reading arm l log'') same rearms.starts;
-    to = rearms.to;
   }
 
 -- a turn that was given up while the object was held
@@ -85,6 +76,11 @@ waits_held x p m q id h locks here after idle is looks same same_objects =
     }
 
 -- ---- names
+
+-- a turn that left them in between leaves the pass's name and claims
+pub turn_names : {id n : ℕ} {old begun worked new : KnownOfTimers} → HasTurn id n old begun worked new → worked.id ≡ begun.id
+    → worked.claims ≡ begun.claims → (new.id ≡ old.id) × (new.claims ≡ old.claims)
+turn_names t same claims = (t.ends.id ∙ (same ∙ t.looks.id), t.ends.claims ∙ (claims ∙ t.looks.claims))
 
 pub rearms_names : (o : Opening) (v w : KnownOfTimers) (t last base : ℕ) (reading : ClockReading) (arm : Arm) (span : Span) (log log' : List Receipt)
     (wanted : Option Wanted) → RearmsFor o v w t last wanted base reading arm span log log' → (w.id ≡ v.id) × (w.claims ≡ v.claims)

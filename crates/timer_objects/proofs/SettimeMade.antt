@@ -1,5 +1,5 @@
 -- A settime that was made: its span, turns before it that only looked, and the names of passes.
-use Rattle.std.proofs.Common.{arith, ap, ◌≡◌, ◌∙◌, ℕ, ◌≤◌, List, ◌++◌}
+use Rattle.std.proofs.Common.{arith, ap, subst, ◌≡◌, ◌∙◌, ℕ, ◌≤◌, List, ◌++◌}
 use Rattle.std.specs.Prelude.{Option, Some, None}
 use Rattle.ktime.specs.Readings.{ClockReading}
 use Rattle.pass_names.proofs.Passes.{begins_trans}
@@ -15,12 +15,12 @@ use Rattle.timer_fd.specs.declared.answers.SettimeAnswer.TheVariants as settings
 use Rattle.timer_objects.specs.declared.cell.Span.{Span}
 use Rattle.timer_objects.specs.Known.{ObjectsOf}
 use Rattle.base_row.specs.Logs.{receipts_of}
-use Rattle.timer_objects.specs.Arming.{ArmsFor, stamp_seen}
+use Rattle.timer_objects.specs.Arming.{ArmsFor, Disarms, stamp_seen}
 use Rattle.timer_objects.specs.Calls.{Caller, HasWaited, SetsTimer, SettimeMade}
 use Rattle.timer_objects.specs.Rearming.{KeepsNames, SetsAnew}
-use Rattle.timer_objects.proofs.Retrying.{enters_after, full_after}
+use Rattle.timer_objects.proofs.Retrying.{enters_after, full_after, turn_after, turn_names}
 use Rattle.timer_objects.proofs.Settings.{IsGranted, armed_end, arms_goes_on, disarmed_end}
-use Rattle.timer_objects.proofs.Starting.{cancels_after}
+
 
 pub made_by : (x : ObjectsOf) (o : Opening) (old new : Caller) (id flags value interval : ℕ) (reading : ClockReading) (a : SettimeAnswer) → IsGranted a
     → SetsTimer x o old new id flags value interval reading a → SettimeMade x o old new id flags value interval reading a
@@ -56,18 +56,13 @@ made_after x o first old new id flags value interval reading a waits made = at a
       span = s.span;
       reply = s.reply;
       enters = enters_after waits s.enters;
+      begun = s.begun;
+      worked = s.worked;
+      turn = turn_after waits.timers s.turn;
       disarmed = s.disarmed;
       cancel_log = s.cancel_log;
       so_far = s.so_far;
-      disarms = record {
-        answer = s.disarms.answer;
-        cancelled = cancels_after o first.timers old.timers s.disarmed id s.disarms.answer waits.timers s.disarms.cancelled;
-        ended = s.disarms.ended;
-        from = s.disarms.from;
-        behind = s.disarms.behind;
-        to = s.disarms.to;
-        receipts = s.disarms.receipts ∙ ap (λ l. l ++ receipts_of id s.so_far.from (cancel_entries s.disarms.answer)) waits.log;
-      };
+      disarms = subst (λ l. Disarms o s.begun s.disarmed id s.enters.commits.state.last s.so_far l s.cancel_log) waits.log s.disarms;
       arms = s.arms;
       from = s.from;
       to = s.to;
@@ -93,9 +88,10 @@ arms_names o v w t base reading arm log log' (Some wanted) a = (a.starts.made.id
 sets_names : (x : ObjectsOf) (o : Opening) (old new : Caller) (id flags value interval : ℕ) (reading : ClockReading) (a : SettimeAnswer)
     → SetsTimer x o old new id flags value interval reading a → KeepsNames old new
 sets_names x o old new id flags value interval reading a s =
-    let names = arms_names o s.disarmed new.timers id _ reading s.arm s.cancel_log new.log _ s.arms in
+    let names = arms_names o s.disarmed s.worked id _ reading s.arm s.cancel_log new.log _ s.arms in
     let cancelled = s.disarms.cancelled in
-    record { timers = names.0 ∙ cancelled.made.id; claims = names.1 ∙ cancelled.claims; objects = s.enters.commits.adds.id }
+    let kept = turn_names s.turn (names.0 ∙ cancelled.made.id) (names.1 ∙ cancelled.claims) in
+    record { timers = kept.0; claims = kept.1; objects = s.enters.commits.adds.id }
 
 pub made_names : (x : ObjectsOf) (o : Opening) (old new : Caller) (id flags value interval : ℕ) (reading : ClockReading) (a : SettimeAnswer)
     → SettimeMade x o old new id flags value interval reading a → KeepsNames old new

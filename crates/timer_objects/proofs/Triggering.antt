@@ -1,6 +1,7 @@
 -- A trigger, from the clauses of the lock of its object and of its end.
 use Rattle.std.proofs.Common.{◌≡◌, ℕ, ◌+◌, ◌<◌, List, [], ◌∷◌, ◌++◌, length, ap, ◌∙◌, subst}
 use Rattle.pass_names.specs.Passes.{Adds}
+use Rattle.hr_timers.specs.Known.{KnownOfTimers}
 use Rattle.counted_row.specs.declared.view.Locked.{Locked}
 use Rattle.counted_row.specs.Views.{IsPassOfRow, Locks}
 use Rattle.counted_row.proofs.Calls.{commits_of}
@@ -12,6 +13,7 @@ use Rattle.timer_objects.specs.Steps.{object_answer}
 use Rattle.timer_objects.specs.Cells.{cell_meaning}
 use Rattle.timer_objects.specs.Known.{Enters, IsObjectsPass, ObjectsOf, ObjectsPass, receipt_of, row_of, seen_of}
 use Rattle.timer_objects.specs.Triggers.{EntersTrigger}
+use Rattle.timer_objects.specs.Turns.{HasTurn}
 
 module _ (x : ObjectsOf) (p m q : ObjectsPass) (id : ℕ) (h : Locked ObjectCell) (call : SpannedCall) (log log' : List ObjectReceipt)
     (locks : Locks cell_meaning p m id h) (here : IsPassOfRow (row_of x) m) (after : IsObjectsPass x q) where
@@ -20,13 +22,15 @@ module _ (x : ObjectsOf) (p m q : ObjectsPass) (id : ℕ) (h : Locked ObjectCell
   counted = locks.now.stamp ∙ ap (λ i. length (seen_of m i)) locks.index
 
   pub entered : (answer : ObjectReply) → Enters m q h call answer → h.stamp < x.limit → log' ≡ log ++ receipt_of h call ∷ []
-      → EntersTrigger x p q log log' id call
-  entered answer enters room noted =
+      → (v begun w : KnownOfTimers) → HasTurn id h.stamp v begun begun w → EntersTrigger x p q log log' v w id call
+  entered answer enters room noted v begun w turn =
       let told = subst (λ r. Adds m.knows.pass q.knows.pass h.index (record { call = call; reply = r } ∷ [])) enters.reply enters.adds in
       record {
         commits = commits_of locks here after.row told enters.knows after.knows;
         may = enters.may;
         room = subst (λ n. n < x.limit) counted room;
+        begun = begun;
+        turn = subst (λ n. HasTurn id n v begun begun w) counted turn;
         receipt = noted ∙ (λ i. log ++ record {
           object = locks.index i;
           number = counted i + 1;

@@ -1,5 +1,7 @@
 use Rattle.std.specs.Prelude.{◌≡◌, None, []}
+use Rattle.pass_names.specs.SharedHistory.{LooksOn}
 use Rattle.counted_row.specs.Views.{IsPassOfRow, Sees}
+use Rattle.hr_timers.specs.Known.{IsPassOf}
 use Rattle.timer_objects.specs.Known.{row_of}
 use Rattle.timer_objects.proofs.trigger.hold.Given as goal
 
@@ -7,8 +9,10 @@ abbrev pub invariant-loop : goal.invariant-loop
 invariant-loop g l = record {
   can : (goal.iterator-loop g).can_next l.iterator';
   ends : (goal.iterator-loop g).is_finite l.iterator';
-  row : IsPassOfRow (row_of l.fn.objects) l.pass;
-  idle : l.pass.knows.held ≡ None;
-  unclaimed : l.pass.knows.claims ≡ [];
-  sees : Sees l.fn.pass l.pass;
+  pass : IsPassOf l.fn.timers l.pass;
+  looks : LooksOn l.fn.pass.known l.pass.known;
+  row : IsPassOfRow (row_of l.fn.objects) l.objects_pass;
+  idle : l.objects_pass.knows.held ≡ None;
+  unclaimed : l.objects_pass.knows.claims ≡ [];
+  sees : Sees l.fn.objects_pass l.objects_pass;
 }

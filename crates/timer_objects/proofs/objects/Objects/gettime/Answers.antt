@@ -3,7 +3,8 @@ use Rattle.timer_objects.proofs.objects.Objects.gettime.Goals as goal
 
 pub returns-in-Posix-object-clause-gets : goal.returns-in-Posix-object-clause-gets
 returns-in-Posix-object-clause-gets g c =
-    let finds = c.look_at-object.ensures.finds in
+    let seen = c.look_at-object.ensures in
+    let finds = seen.finds in
     let state = sym c.in-Posix-object.is ∙ finds.state in
     rw (← c.in-Posix.ensures) (
       c.in-Posix-object.timer,
@@ -11,7 +12,8 @@ returns-in-Posix-object-clause-gets g c =
         reads = finds.reads;
         state = state;
         stamp = finds.stamp;
-        timers = refl;
+        timers = seen.looks;
+        told = seen.told;
         log = refl;
         object_log = refl;
       },

@@ -15,6 +15,7 @@ returns-in-Some-clause-reads g c =
     let new = caller_of made.pass made.objects_pass made.log made.object_log in
     let reading = c.read-reading.result in
     subst (λ (r : ClockReading). EndsRead x o old new c.args.id r c.in-Some.ended) c.read-reading.ensures.reading
-    (ends_read x o old new c.args.id reading c.in-Some.ended c.lock-held.result.state
+    (ends_read x o old new c.args.id reading c.in-Some.ended c.lock_in_turn-held.result.state
     (subst (λ (s : ObjectCell). HasSome reading s.object) c.state.ensures (c.if-not-has_some.ensures refl))
-    (c.in-Some.ensures.ends c.args.objects_pass.now (record { is = c.requires.may.of_objects; locks = c.lock-held.ensures.locks })))
+    (c.in-Some.ensures.ends c.args.pass.now c.args.objects_pass.now
+    (record { looks = c.lock_in_turn-held.ensures.looks; is = c.requires.may.of_objects; locks = c.lock_in_turn-held.ensures.locks })))

@@ -3,5 +3,18 @@ use Rattle.timer_objects.proofs.objects.Objects.readable.Goals as goal
 
 pub returns-clause-looks : goal.returns-clause-looks
 returns-clause-looks g c =
-    let finds = c.look_at-object.ensures.finds in
-    (c.in-Fd.timer, record { reads = finds.reads; state = sym c.in-Fd.is ∙ finds.state; stamp = finds.stamp; timers = refl; log = refl; object_log = refl }, c.readable.ensures)
+    let seen = c.look_at-object.ensures in
+    let finds = seen.finds in
+    (
+      c.in-Fd.timer,
+      record {
+        reads = finds.reads;
+        state = sym c.in-Fd.is ∙ finds.state;
+        stamp = finds.stamp;
+        timers = seen.looks;
+        told = seen.told;
+        log = refl;
+        object_log = refl;
+      },
+      c.readable.ensures,
+    )
