@@ -1,6 +1,7 @@
 pub mod Logged
 pub mod Making
 pub mod Mains
+pub mod Looking
 pub mod Objects
 pub mod Calls
 pub mod Keeping

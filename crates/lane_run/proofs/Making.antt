@@ -20,7 +20,7 @@ use Rattle.script_text.specs.Scripts.{IsInRange, IsKindInRange}
 use Rattle.base_row.specs.declared.view.Opening.{Opening}
 use Rattle.seq_timer.specs.Steps.{opening}
 use Rattle.lane_world.specs.Worlds.{IsWhole, IsWorldOf, WorldOf, callback_of, decl_as, decl_of}
-use Rattle.lane_run.proofs.Greatest.{bases_few}
+use Rattle.lane_run.proofs.Greatest.{bases_few, timers_few}
 use Rattle.std.proofs.lemmas.List.{length-map}
 
 -- what is declared over a timer is on its clock, and on a base that is there
@@ -75,11 +75,13 @@ whole_of s x range is =
         bases = λ i h.
             let less = bases_suit s.timers i raw (omega (arith, range.bases.0)) range.kinds (subst (λ n. i < n) (ap length is.decls) h) in
             omega (arith, less, bases, ap (λ ds. (get_or ds i raw).base) is.decls);
+        counters = omega (arith, ap (λ (o : Opening). o.counters) is.timers, many);
       };
       callbacks = ap length is.callbacks ∙ length-map s.timers (λ d. callback_of d.kind) ∙ sym many;
       bases = omega (arith, bases, ap bases_of is.callbacks, callbacks_suit s.bases s.timers range.kinds);
       few = omega (arith, bases, range.bases.1, bases_few s.version);
       counts = omega (arith, ap (λ (o : Opening). o.counters) is.timers);
+      small = omega (arith, many, range.timers, timers_few s.version);
     }
   where
     raw : Decl

@@ -4,16 +4,18 @@ use Rattle.std.specs.Prelude.{IfOk, Ok, Result}
 use Rattle.std.specs.declared.alloc.AllocError.{AllocError}
 use Rattle.lane_run.proofs.Mains.{main_last}
 use Rattle.lane_world.specs.Rounds.{IsMain}
-use Rattle.std.proofs.Common.{length, sym, subst, ◌≡◌, ℕ, refl}
+use Rattle.std.proofs.Common.{length, sym, subst, ◌≡◌, ◌<◌, ℕ, refl, ap, ◌∙◌}
+use Rattle.std.proofs.lemmas.List.{length-map}
+use Rattle.clock_cell.specs.Views.{writes}
 use Rattle.lane_notes.specs.Records.{record_from}
 use Rattle.record_text.specs.declared.record.RunRecord.{RunRecord}
 use Rattle.run_history.specs.Fits.{Fits}
 use Rattle.run_history.proofs.Run.{run_fits, shows}
 use Rattle.script_text.specs.Scripts.{IsInRange}
 use Rattle.script_text.specs.declared.script.Script.{Script}
-use Rattle.lane_world.proofs.Left.{AreLastOf, ending_of}
+use Rattle.lane_world.proofs.Left.{AreLastOf, AreLastPasses, ending_of}
 use Rattle.lane_world.specs.Runs.{MakesRun, ShowsAllSeen}
-use Rattle.lane_world.specs.Worlds.{AreFirst, IsWorldOf, WorldOf}
+use Rattle.lane_world.specs.Worlds.{AreFirst, decl_of, IsWorldOf, WorldOf}
 use Rattle.lane_world.specs.declared.WorldPass.{WorldPass}
 use Rattle.record_laws.proofs.ClockLines.{clock_writes}
 use Rattle.record_laws.proofs.Ended.{is_ending, is_run}
@@ -27,7 +29,7 @@ use Rattle.run_history.specs.Fits.{reads_clock}
 use Rattle.call_laws.proofs.Turns.{next_begun, turn_plain, turn_read}
 use Rattle.std.proofs.lemmas.Bool.{true≢false}
 use Rattle.script_text.specs.declared.script.Call.{Call}
-use Rattle.round_laws.proofs.Settled.{left_settled, rounds_settled}
+use Rattle.round_laws.proofs.Settled.{before_looks, left_later, only_looks, only_settles, rounds_later}
 use Rattle.std.proofs.Common.{true}
 use Rattle.lane_world.proofs.Kept.{IsNextCall, KeepsCall, KeepsTurn}
 use Rattle.call_laws.proofs.Expired.{keeps_expire}
@@ -45,6 +47,7 @@ use Rattle.script_text.specs.declared.script.Kind.TheVariants as kinds
 use Rattle.lane_world.proofs.Declared.{declared_over, over_of}
 use Rattle.round_laws.proofs.LaneKept.{KeepsEach}
 use Rattle.record_laws.proofs.BaseLines.{shows_shifts}
+use Rattle.record_laws.proofs.SeenThere.{same_entries, same_shifts}
 use Rattle.call_laws.proofs.OffLine.{keeps_offline, keeps_online}
 
 -- ---- each call
@@ -116,18 +119,33 @@ run_recorded s x p r q range world first main ok makes =
     let run : MakesRun x s p r q = subst (λ (k : Result RunRecord AllocError). IfOk k (λ y. MakesRun x s p y q)) ok makes in
     let whole = whole_of s x range world in
     let made = left_by_rounds s x p run.before run.left (keeps_call s x) world range whole first run.rounds in
-    let left = left_settled run.settles made.2 in
-    let rounds = rounds_settled run.settles made.3 in
-    let of : AreLastOf s x q = record { range = range; world = world; whole = whole; passes = main.pass; last = main_last main; told = run.settles.all } in
+    let w = before_looks run.settled q in
+    let settled = only_settles run.settles in
+    let looked = only_looks run.looks in
+    let left = left_later looked (left_later settled made.2) in
+    let rounds = rounds_later looked (rounds_later settled made.3) in
+    let ended : AreLastPasses s x q = record { range = range; world = world; whole = whole; passes = main.pass; last = main_last main } in
+    let still : AreLastPasses s x w = record {
+      range = range;
+      world = world;
+      whole = whole;
+      passes = record main.pass { timers = run.of.pass.timers };
+      last = record (main_last main) { timers = (main_last run.of).timers; unclaimed = (main_last run.of).unclaimed };
+    } in
+    let of : AreLastOf s x w = record {
+      of = still;
+      told = run.settles.all ∙ ap (λ c. length (writes c.knows)) (sym run.looks.clock);
+      no_more = λ i less. run.looks.no_more i (subst (λ n. i < n) (sym (ap length world.decls ∙ length-map s.timers decl_of)) less);
+    } in
     let record_is = record_from s.version run.shows.sorted s.bases (length s.timers) run.left.answers in
-    let e = ending_of record_is q made.0 made.1 in
+    let e = ending_of record_is w made.0 made.1 in
+    let ends = is_ending of left run.shows.in_order run.left.answers made.1 rounds in
     subst (λ y. IsWholeRecord s y q) (sym run.shows.shows) (record {
       fits = run_fits s record_is (is_run of left run.shows.in_order run.left.answers made.1 rounds);
       shows = record {
         clock = clock_writes of left run.shows.in_order;
-        timers = shows s e (is_ending of left run.shows.in_order run.left.answers made.1 rounds);
-        bases = shows_shifts s e (is_ending of left run.shows.in_order run.left.answers made.1 rounds);
-        spans = e.spans;
+        timers = λ t. shows s e ends t ∙ sym (same_entries still ended run.looks.timers.seen run.looks.timers.mine t);
+        bases = λ b. shows_shifts s e ends b ∙ sym (same_shifts still ended run.looks.timers.seen run.looks.timers.mine b);
         objects = object_lines_show of left run.shows.in_order run.left.answers made.1;
       };
     })

@@ -33,12 +33,12 @@ struct Gated<'a, 'b, 'g, G> {
 }
 
 impl<G: Gate> Handler for Gated<'_, '_, '_, G> {
-    ghost use Rattle.std.specs.Prelude.{length};
+    ghost use Rattle.std.specs.Prelude.{◌+◌, length};
     ghost use Rattle.timer_objects.specs.Callbacks.{bases_of};
     ghost use Rattle.timer_objects.specs.Firings.{ready_of};
     ghost use Rattle.lane_world.specs.Expiries.{FiresLent};
 
-    ghost meaning = { record { did = λ o h h' v w c reading restart. FiresLent o h.firing.ghost_name h'.firing.ghost_name h.firing.now h'.firing.now v w c reading restart; ready = λ h. ready_of h.firing.now; timers = λ h. length h.firing.now.objects.now.decls; bases = λ h. bases_of h.firing.now.callbacks.now } };
+    ghost meaning = { record { did = λ o h h' v w c reading restart. FiresLent o h.firing.ghost_name h'.firing.ghost_name h.firing.now h'.firing.now v w c reading restart; ready = λ h. ready_of h.firing.now; timers = λ h. length h.firing.now.objects.now.decls; bases = λ h. bases_of h.firing.now.callbacks.now; counters = λ h. length h.firing.now.objects.now.decls + 1 } };
 
     fn fire<R: Wait>(
         &mut self,

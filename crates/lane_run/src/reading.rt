@@ -1,9 +1,9 @@
-//! The one reading of a call, and the end of a run's clock.
+//! The one reading of a call, and what is read at the end of a run.
 ghost use Rattle.std.specs.Prelude.{◌≡◌, length, []};
 ghost use Rattle.clock_cell.specs.Views.{seen_reading, writes};
 ghost use Rattle.lane_world.specs.Called.{LeavesLane, ReadsFirst, lane_of};
 ghost use Rattle.lane_world.specs.Rounds.{IsMain};
-ghost use Rattle.lane_world.specs.Runs.{Settles};
+ghost use Rattle.lane_world.specs.Runs.{LooksAtAll, Settles};
 ghost use Rattle.lane_world.specs.Worlds.{ArePassesOf};
 
 use crate::world::World;
@@ -42,4 +42,18 @@ pub(crate) fn settle<R: Wait>(rt: &R, world: &World, main: &mut WorldPass)
         &world.clock,
         &mut main.clock,
     );
+}
+
+/// Looks at each object at the end of a run: by then the timers' first pass was told of no more entries of an object than it has.
+pub(crate) fn look_at_all<R: Wait>(rt: &R, world: &World, main: &mut WorldPass)
+    requires main { IsMain world.now main.old [] }
+    ensures main { IsMain world.now main.new [] }
+    ensures looks { LooksAtAll world.now main.old main.new }
+{
+    let many = world.objects.len() as u32;
+    for id in 0..many {
+        world
+            .objects
+            .look_at(rt, &world.timers, &mut main.timers, &mut main.objects, id);
+    }
 }

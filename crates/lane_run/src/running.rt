@@ -7,7 +7,7 @@ ghost use Rattle.run_history.specs.Fits.{Fits};
 ghost use Rattle.lane_world.specs.Worlds.{AreFirst, AreLast, ArePassesOf, IsWorldOf};
 
 use crate::gate::Gate;
-use crate::reading::settle;
+use crate::reading::{look_at_all, settle};
 use crate::rounds::{Left, make_round};
 use crate::world::World;
 use lane_notes::{Notes, record_of};
@@ -80,6 +80,7 @@ fn make_rounds<R: Threads + Wait + Sync, G: Gate>(
         }
     }
     settle(rt, world, &mut main);
+    look_at_all(rt, world, &mut main);
     (main, record_left(alloc, script, left))
 }
 

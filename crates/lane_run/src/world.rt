@@ -1,5 +1,5 @@
 //! What a script's calls are made on: its timers, its objects and the clock, with the first passes.
-ghost use Rattle.std.specs.Prelude.{◌≡◌, ◌≤◌, ◌<◌, [], IfOk, OnOk, length, map};
+ghost use Rattle.std.specs.Prelude.{◌≡◌, ◌≤◌, ◌<◌, ◌+◌, [], IfOk, OnOk, length, map};
 ghost use Rattle.pass_names.specs.Passes.{HasEach};
 ghost use Rattle.pass_names.specs.SharedHistory.{first_known};
 ghost use Rattle.base_row.specs.Calls.{opening_with};
@@ -144,7 +144,7 @@ impl World {
 /// How many entries past its limit may move a timer off a base that goes off line, in version 2 of the script.
 const REACH: u64 = 1024;
 
-/// The timers of a script, declared so, with one counter, for the clock's writes. In version 2 their bases may go off line.
+/// The timers of a script, declared so, with a counter for the clock's writes and one for each object's entries. In version 2 their bases may go off line.
 fn make_timers(
     alloc: Global,
     script: &Script,
@@ -153,7 +153,7 @@ fn make_timers(
     requires range { IsInRange script.now }
     requires few { length timers.now ≡ length script.now.timers }
     ensures pass { IfOk result (λ r. IsPassOf r.0 r.1) }
-    ensures about { IfOk result (λ r. r.0.about ≡ opening_with script.now.bases timers.now (terms_of script.now) 1) }
+    ensures about { IfOk result (λ r. r.0.about ≡ opening_with script.now.bases timers.now (terms_of script.now) (length script.now.timers + 1)) }
     ensures first { IfOk result (λ r. r.1.known ≡ first_known) }
 {
     let terms = match script.version {
@@ -163,7 +163,8 @@ fn make_timers(
             reach: REACH,
         },
     };
-    Timers::make_counting(alloc, script.bases, timers, terms, 1)
+    let counters = timers.len() as u32 + 1;
+    Timers::make_counting(alloc, script.bases, timers, terms, counters)
 }
 
 /// As what timers are declared.

@@ -1,5 +1,5 @@
 -- A script's world, and what passes of it know.
-use Rattle.std.specs.Prelude.{ℕ, ◌≡◌, ◌≤◌, ◌<◌, ◌≢◌, ◌+◌, List, [], length, map}
+use Rattle.std.specs.Prelude.{ℕ, ◌≡◌, ◌≤◌, ◌<◌, ◌≢◌, ◌+◌, ◌^◌, List, [], length, map}
 use Rattle.ktime.specs.declared.clock_id.ClockId.{ClockId}
 use Rattle.atomic_table.specs.Seated.{TableId}
 use Rattle.pass_names.specs.Names.{AnswersFor, IsLast}
@@ -74,6 +74,7 @@ pub record IsWhole (x : WorldOf) : Type 0 where
   pub few : x.timers.about.bases ≤ 64
   -- the timers have a counter for the clock's writes
   pub counts : 0 < x.timers.about.counters
+  pub small : length x.objects.decls < 2 ^ 32
 
 -- ---- passes
 

@@ -15,6 +15,8 @@ use Rattle.run_history.proofs.Shown.{entry_place}
 use Rattle.run_history.specs.Witnesses.{BasesList, CountersList, Owner, TimersList, owner_of_entry}
 use Rattle.script_text.specs.Declarations.{declared_as, declareds_of}
 use Rattle.script_text.specs.declared.script.Script.{Script}
+use Rattle.std.proofs.Common.{◌⊎◌, inl, inr}
+use Rattle.seq_timer.proofs.Systems.{entries_of-append, shifts_of-append}
 use Rattle.seq_timer.specs.Systems.{after_one, AreSystemSteps, entries_of, MayCome, rises_of, shifts_of, System}
 use Rattle.seq_timer.specs.declared.system.SystemEntry.{SystemEntry}
 use Rattle.seq_timer.specs.declared.system.SystemEntry.TheVariants as entries
@@ -93,3 +95,47 @@ module _ {s : Script} {x : WorldOf} {q : WorldPass} (last : AreLastPasses s x q)
   none_past o past = count_is o q.timers.known.seen ∙ ap length (nobody (entries_at o q.timers.known.seen) (λ e st.
       let at = entry_place o st.0 e q.timers.known.seen st.1 in
       past (subst (IsThere s) at.owner (there_within at.place e at.there))))
+
+-- ---- what was seen later
+
+-- two numbers below which the same numbers lie are the same
+same_bound : (a b : ℕ) → a ≤ b → ((n : ℕ) → one_if (within n a) ≡ one_if (within n b)) → b ≡ a
+same_bound a b le same = ⊎_elim
+    (λ (less : a < b).
+    let none : one_if (within b a) ≡ 0 = ap one_if (and_right _ _ (lt-leb b a less)) in
+    absurd (omega (arith, none, same b, within_from b b (omega (arith, less)) (omega arith))))
+    (λ (more : b ≤ a). omega (arith, le, more))
+    (cases_lt a b)
+
+-- law: last passes that have only seen more have seen no more entries of timers and bases
+module _ {s : Script} {x : WorldOf} {p q : WorldPass} (one : AreLastPasses s x p) (two : AreLastPasses s x q)
+    (on : Begins p.timers.known.seen q.timers.known.seen) (mine : q.timers.known.mine ≡ p.timers.known.mine) where
+  as_many_seen : (o : Owner) → (IsThere s o → (n : ℕ) → one_if (within n (receipts.count o p.timers.known.seen))
+      ≡ one_if (within n (receipts.count o q.timers.known.seen))) → (IsThere s o ⊎ (IsThere s o → ⊥)) → receipts.count o on.rest ≡ 0
+  as_many_seen o same there =
+      let a = receipts.count o p.timers.known.seen in
+      let b = receipts.count o q.timers.known.seen in
+      let whole : b ≡ a + receipts.count o on.rest = ap (receipts.count o) on.whole ∙ count-append o p.timers.known.seen on.rest in
+      let bound : b ≡ a = ⊎_elim (λ is. same_bound a b (omega (arith, whole)) (same is)) (λ not. none_past two o not ∙ sym (none_past one o not)) there in
+      omega (arith, whole, bound)
+
+  pub same_entries : (t : ℕ) → entries_of t q.timers.known.seen ≡ entries_of t p.timers.known.seen
+  same_entries t =
+      let none = none_long (entries_of t on.rest) (as_many_seen (TimersList t) (λ is n.
+      let there = subst (λ m. t < m) (sym (timers_many one)) is in
+      sym ((one.passes.timers.knows.whole one.last.timers).once t n there) ∙ sym (ap (count (is_place t n)) mine)
+      ∙ (two.passes.timers.knows.whole two.last.timers).once t n there) (⊎_elim (λ (less : t < length s.timers). inl less)
+      (λ (past : length s.timers ≤ t). inr (λ less. omega (arith, less, past))) (cases_lt t (length s.timers)))) in
+      ap (entries_of t) on.whole ∙ entries_of-append t p.timers.known.seen on.rest ∙ ap (λ es. entries_of t p.timers.known.seen ++ es) none
+      ∙ append-nil (entries_of t p.timers.known.seen)
+
+  pub same_shifts : (b : ℕ) → shifts_of b q.timers.known.seen ≡ shifts_of b p.timers.known.seen
+  same_shifts b =
+      let none = none_long (shifts_of b on.rest) (as_many_seen (BasesList b) (λ is n.
+      let there = subst (λ m. b < m) (sym (bases_many one)) is in
+      let place = length x.timers.about.timers + b in
+      sym (one.passes.timers.knows.shifts one.last.timers b n there) ∙ sym (ap (count (is_place place n)) mine)
+      ∙ two.passes.timers.knows.shifts two.last.timers b n there)
+      (⊎_elim (λ (less : b < s.bases). inl less) (λ (past : s.bases ≤ b). inr (λ less. omega (arith, less, past))) (cases_lt b s.bases))) in
+      ap (shifts_of b) on.whole ∙ shifts_of-append b p.timers.known.seen on.rest ∙ ap (λ es. shifts_of b p.timers.known.seen ++ es) none
+      ∙ append-nil (shifts_of b p.timers.known.seen)

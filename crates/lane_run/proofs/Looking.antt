@@ -1,0 +1,79 @@
+-- The first passes, looking at one object after another.
+use Rattle.std.proofs.Common.{◌≡◌, ◌<◌, ◌≤◌, ℕ, ◌+◌, [], length, arith, refl, sym, ap, ◌∙◌, subst, ⊎_elim}
+use Rattle.std.proofs.lemmas.Bool.{cases_lt}
+use Rattle.clock_cell.specs.Views.{IsPassOfClock, KnowsClock}
+use Rattle.hr_timers.specs.Known.{IsPassOf}
+use Rattle.pass_names.specs.Passes.{Looks}
+use Rattle.pass_names.specs.SharedHistory.{LooksOn}
+use Rattle.pass_names.proofs.Passes.{begins_length, begins_refl, begins_trans}
+use Rattle.run_history.specs.Witnesses.{CountersList}
+use Rattle.timer_objects.specs.Known.{IsObjectsPass, seen_of}
+use Rattle.timer_objects.specs.Rearming.{FindsObject}
+use Rattle.timer_objects.specs.Turns.{entries_counter, entries_told}
+use Rattle.timer_objects.specs.declared.object.Object.{Object}
+use Rattle.lane_world.proofs.SeenMore.{begins_same, count_begins}
+use Rattle.lane_world.specs.Rounds.{IsMain}
+use Rattle.lane_world.specs.Runs.{LooksAtAll}
+use Rattle.lane_world.specs.Worlds.{WorldOf}
+use Rattle.lane_world.specs.declared.WorldPass.{WorldPass}
+use Rattle.lane_run.proofs.Mains.{main_ran}
+
+-- so many objects were looked at, and nothing else was done
+pub record LookedAt (x : WorldOf) (p q : WorldPass) (many : ℕ) : Type 0 where
+  pub main : IsMain x q []
+  pub timers : LooksOn p.timers.known q.timers.known
+  pub objects : Looks p.objects.knows.pass q.objects.knows.pass
+  pub opening : q.objects.knows.opening ≡ p.objects.knows.opening
+  pub clock : q.clock ≡ p.clock
+  pub no_more : (i : ℕ) → i < many → entries_told i p.timers.known ≤ length (seen_of q.objects i)
+
+-- law: none
+pub looked_none : {x : WorldOf} {p : WorldPass} → IsMain x p [] → LookedAt x p p 0
+looked_none {p = p} main = record {
+  main = main;
+  timers = record { seen = begins_refl p.timers.known.seen; mine = refl; id = refl; claims = refl };
+  objects = record { seen = record { each = λ i. begins_same refl }; mine = refl; id = refl };
+  opening = refl;
+  clock = refl;
+  no_more = λ i less. absurd (omega (arith, less));
+}
+
+-- law: one more
+pub looked_more : {x : WorldOf} {p q r : WorldPass} {id : ℕ} {object : Object} {n : ℕ} → LookedAt x p q id → IsPassOf x.timers r.timers
+    → IsObjectsPass x.objects r.objects → r.clock ≡ q.clock → LooksOn q.timers.known r.timers.known → FindsObject q.objects r.objects id object n
+    → entries_told id r.timers.known ≡ n → r.objects.knows.pass.id ≡ q.objects.knows.pass.id → LookedAt x p r (id + 1)
+looked_more {x = x} {p = p} {q = q} {r = r} {id = id} {n = n} before timers objects clock looks finds told name = record {
+  main = main_ran [] [] (record {
+    timers = timers;
+    objects = objects;
+    clock = subst (IsPassOfClock x.clock) (sym clock) before.main.pass.clock;
+    known = subst (λ c. KnowsClock c.knows) (sym clock) before.main.pass.known;
+    heard = ap (λ c. c.knows.heard) clock ∙ before.main.pass.heard;
+  }) (record { timers = looks.id; claims = looks.claims; objects = name; clock = ap (λ c. c.knows.pass.id) clock }) refl (λ k d less. absurd (omega (arith, less)))
+      before.main;
+  timers = record {
+    seen = begins_trans before.timers.seen looks.seen;
+    mine = looks.mine ∙ before.timers.mine;
+    id = looks.id ∙ before.timers.id;
+    claims = looks.claims ∙ before.timers.claims;
+  };
+  objects = record {
+    seen = record { each = λ i. begins_trans (before.objects.seen.each i) (finds.reads.pass.seen.each i) };
+    mine = finds.reads.pass.mine ∙ before.objects.mine;
+    id = finds.reads.pass.id ∙ before.objects.id;
+  };
+  opening = finds.reads.opening ∙ before.opening;
+  clock = clock ∙ before.clock;
+  no_more = λ i less. ⊎_elim
+      (λ (lower : i < id). omega (arith, before.no_more i lower, begins_length (finds.reads.pass.seen.each i)))
+      (λ (same : id ≤ i).
+      let is : id ≡ i = omega (arith, less, same) in
+      subst (λ j. entries_told j p.timers.known ≤ length (seen_of r.objects j)) is (omega (
+        arith,
+        count_begins (CountersList (entries_counter id)) before.timers.seen,
+        count_begins (CountersList (entries_counter id)) looks.seen,
+        told,
+        finds.stamp,
+      )))
+      (cases_lt i id);
+}
