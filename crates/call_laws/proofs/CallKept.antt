@@ -40,6 +40,9 @@ use Rattle.lane_world.proofs.Kept.{told_notes}
 use Rattle.std.proofs.lemmas.Simd.{map-map}
 use Rattle.std.proofs.lemmas.List.{append-nil, take_all, map-append}
 use Rattle.lane_notes.specs.declared.notes.WriteNote.{WriteNote}
+use Rattle.lane_notes.specs.declared.notes.BaseNote.{BaseNote}
+use Rattle.lane_notes.specs.declared.notes.EntryNote.{EntryNote}
+use Rattle.lane_notes.specs.declared.notes.ObjectNote.{ObjectNote}
 use Rattle.timer_objects.specs.Known.{ObjectsPass}
 use Rattle.call_laws.proofs.Entering.{EntersNotes, own_places, place_told}
 use Rattle.run_history.specs.Objects.{present}
@@ -85,21 +88,21 @@ places_in : (s : Script) (notes : NotesOf)
     → present (map (place_told s) (entries_told notes)) ≡ map note_place notes.entries ++ map (base_note_place (length s.timers)) notes.bases
 places_in s notes =
     let place = λ (n : ToldNote). place_told s (told_in n) in
-    let parts : {X : Type 0} (xs ys : List ToldNote) → present (map place (xs ++ ys)) ≡ present (map place xs) ++ present (map place ys) =
+    let parts : (xs ys : List ToldNote) → present (map place (xs ++ ys)) ≡ present (map place xs) ++ present (map place ys) =
     λ xs ys. ap present (map-append place xs ys) ∙ present-append (map place xs) (map place ys) in
-    let of : {X : Type 0} (make : X → ToldNote) (xs : List X) → present (map place (map make xs)) ≡ present (map (λ x. place (make x)) xs) =
-    λ make xs. ap present (map-map place make xs) in
+    let of : (X : Type 0) (make : X → ToldNote) (xs : List X) → present (map place (map make xs)) ≡ present (map (λ x. place (make x)) xs) =
+    λ X make xs. ap present (map-map place make xs) in
     let rises = map of_write notes.writes ++ map of_object notes.objects in
-    let none : present (map place rises) ≡ [] = parts {X = ToldNote} (map of_write notes.writes) (map of_object notes.objects)
-    ∙ ap (λ ps. ps ++ present (map place (map of_object notes.objects))) (of of_write notes.writes ∙ none_there (λ n. place (of_write n)) (λ n. refl) notes.writes)
-    ∙ of of_object notes.objects ∙ none_there (λ n. place (of_object n)) (λ n. refl) notes.objects in
+    let none : present (map place rises) ≡ [] = parts (map of_write notes.writes) (map of_object notes.objects)
+    ∙ ap (λ ps. ps ++ present (map place (map of_object notes.objects))) (of WriteNote of_write notes.writes ∙ none_there (λ n. place (of_write n)) (λ n. refl) notes.writes)
+    ∙ of ObjectNote of_object notes.objects ∙ none_there (λ n. place (of_object n)) (λ n. refl) notes.objects in
     ap present (map-map (place_told s) told_in (told_notes notes))
-    ∙ parts {X = ToldNote} (map of_entry notes.entries) (map of_base notes.bases ++ rises)
+    ∙ parts (map of_entry notes.entries) (map of_base notes.bases ++ rises)
     ∙ ap (λ ps. ps ++ present (map place (map of_base notes.bases ++ rises)))
-    (of of_entry notes.entries ∙ each_there (λ n. place (of_entry n)) note_place (λ n. refl) notes.entries)
-    ∙ ap (λ ps. map note_place notes.entries ++ ps) (parts {X = ToldNote} (map of_base notes.bases) rises
+    (of EntryNote of_entry notes.entries ∙ each_there (λ n. place (of_entry n)) note_place (λ n. refl) notes.entries)
+    ∙ ap (λ ps. map note_place notes.entries ++ ps) (parts (map of_base notes.bases) rises
     ∙ ap (λ ps. present (map place (map of_base notes.bases)) ++ ps) none ∙ append-nil (present (map place (map of_base notes.bases)))
-    ∙ of of_base notes.bases ∙ each_there (λ n. place (of_base n)) (base_note_place (length s.timers)) (λ n. refl) notes.bases)
+    ∙ of BaseNote of_base notes.bases ∙ each_there (λ n. place (of_base n)) (base_note_place (length s.timers)) (λ n. refl) notes.bases)
 
 -- law: the places of a call's receipts are those of its notes, which tell the same in another order
 pub places_told : (s : Script) (mine new : List (ℕ × ℕ)) (notes : List PlacedEntry) (added : NotesOf) → new ≡ mine ++ own_places s notes

@@ -90,7 +90,7 @@ noted_entries label (Entered timer number entry ∷ ds) none = IsPermutation-con
 noted_entries label (Wrote number write ∷ ds) none = absurd (cc)
 noted_entries label (Shifted base number event ∷ ds) none =
     let rest = noted_by label ds in
-    let this = record { label = label; number = number; shown = OfBase base event } in
+    let this : ToldNote = record { label = label; number = number; shown = OfBase base event } in
     let others = map of_base rest.bases ++ (map of_write rest.writes ++ map of_object rest.objects) in
     let split = map-append told_in (map of_entry rest.entries) in
     in_middle (told_in this) (all_entered ds) (map told_in (map of_entry rest.entries)) (map told_in others) _
@@ -98,7 +98,7 @@ noted_entries label (Shifted base number event ∷ ds) none =
 noted_entries label (Looked timer number reply ∷ ds) none = noted_entries label ds none
 noted_entries label (Made i number entry ∷ ds) none =
     let rest = noted_by label ds in
-    let this = record { label = label; number = number; shown = OfRise (suc i) } in
+    let this : ToldNote = record { label = label; number = number; shown = OfRise (suc i) } in
     let es = map of_entry rest.entries in
     let bs = map of_base rest.bases in
     let ws = map of_write rest.writes in

@@ -65,15 +65,15 @@ pub record RearmPart (s : Script) (x : WorldOf) (l : LaneOf) (t : ℕ) (v w : Kn
 
 -- law: a start that is wanted where the timer has expired, or none, is a part of the call
 pub rearm_part : {s : Script} {x : WorldOf} {l : LaneOf} {call : Call} (next : IsNextCall s x l call) (t : ℕ) (reading : ClockReading) {v w : KnownOfTimers}
-    {base : ℕ} {span : Span} {log : List Receipt} (last : ℕ) (wanted : Option Wanted) (arm : Arm) → ((its : Wanted) → wanted ≡ Some its → IsTimely its)
+    {base : ℕ} (span : Span) {log : List Receipt} (last : ℕ) (wanted : Option Wanted) (arm : Arm) → ((its : Wanted) → wanted ≡ Some its → IsTimely its)
     → LooksOn l.pass.timers.known v → RearmsFor x.timers.about v w t last wanted base reading arm span [] log → RearmPart s x l t v w base reading arm log
-rearm_part {s = s} {x = x} {l = l} next t reading {v = v} {w = w} {base = base} {log = log} last None arm timely found r =
+rearm_part {s = s} {x = x} {l = l} next t reading {v = v} {w = w} {base = base} span {log = log} last None arm timely found r =
     let looks = r.1.looks in
     let does = start_none next t reading {cancel = None} [] (begins_trans found.seen looks.seen) (looks.mine ∙ found.mine) ([], part_none (begins_same refl) refl)
     modes.Keep 0 refl r.2 in
     subst (λ a. RearmPart s x l t v w base reading a log) (sym r.0)
     (record { begin = w; behind = looks.seen; ns = 0; timely = omega arith; does = does })
-rearm_part {s = s} {x = x} {l = l} next t reading {v = v} {w = w} {base = base} {log = log} last (Some wanted) arm timely found r =
+rearm_part {s = s} {x = x} {l = l} next t reading {v = v} {w = w} {base = base} span {log = log} last (Some wanted) arm timely found r =
     let its = timely wanted refl in
     record {
       begin = r.begin;

@@ -89,7 +89,7 @@ module _ {s : Script} {x : WorldOf} {l m : LaneOf} {call : Call} (next : IsNextC
   part : RearmPart s x l timer made.begun made.worked (decl_at x.objects timer).base c.reading made.arm c.log
   part =
       let object = made.enters.commits.state.object in
-      rearm_part next timer c.reading made.enters.commits.state.last (wanted_by r object c.reading) made.arm (wanted_timely r object c.reading)
+      rearm_part next timer c.reading made.span made.enters.commits.state.last (wanted_by r object c.reading) made.arm (wanted_timely r object c.reading)
       made.turn.looks made.rearms
 
   rearmed : {e : Ending} → Follows m.pass e → IsJoined s e

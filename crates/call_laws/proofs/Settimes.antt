@@ -64,7 +64,7 @@ module _ {s : Script} {x : WorldOf} {l : LaneOf} (m : LaneOf) {timer flags : ℕ
 
   -- the moment at which the timer was found
   abbrev begin : KnownOfTimers
-  begin = let v = l.pass.timers.known in record v { seen = set.disarms.cancelled.at }
+  begin = let v = set.begun in record v { seen = set.disarms.cancelled.at }
 
   disarmed : (cancel : Option (ℕ × ℕ)) × TimersPart s l reading begin set.disarmed (cancels timer cancel) set.cancel_log
       × (cancel ≡ None → IsIdle (timer_then x.timers.about begin.seen timer))
@@ -77,7 +77,7 @@ module _ {s : Script} {x : WorldOf} {l : LaneOf} (m : LaneOf) {timer flags : ℕ
       (d.receipts ∙ ap (λ k. receipts_of timer k (cancel_entries d.answer)) d.from)
 
   part : TimerPart s x l timer begin w (mode_by flags) (time_of value) (decl_at x.objects timer).base reading set.arm disarmed.0 log
-  part = settime_start next timer reading set.cancel_log (begins_trans set.turn.looks.seen set.disarms.cancelled.made.from) refl disarmed.1 flags
+  part = settime_start next timer reading set.cancel_log (begins_trans set.turn.looks.seen set.disarms.cancelled.made.from) set.turn.looks.mine disarmed.1 flags
       (time_of value) set.arm set.arms
 
   -- it was found while the call had the object
@@ -125,6 +125,7 @@ module _ {s : Script} {x : WorldOf} {l : LaneOf} (m : LaneOf) {timer flags : ℕ
 
   -- law: the lane keeps it
   pub keeps_set : KeepsCall s l (calls.Settime timer flags value interval) (settime_told a) m
+  unfolding is_set
   keeps_set = subst (λ b. KeepsCall s l (calls.Settime timer flags value interval) b m) (sym noted.answers)
       (keeps_made m next set.enters set.turn part after reads notes noted.noted (answer_of_settime noted.told)
       (λ e follows joined kept low.

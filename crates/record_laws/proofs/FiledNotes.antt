@@ -10,7 +10,8 @@ use Rattle.std.proofs.lemmas.List.{length-map}
 use Rattle.seq_timer.specs.declared.system.SystemEntry.{SystemEntry}
 use Rattle.std.specs.List.Sorted.{IsPermutation}
 use Rattle.std.proofs.Common.{◌⊎◌, ◌++◌, Bool, inl, inr, ⊎_elim}
-use Rattle.std.proofs.lemmas.Bool.{eqb-true}
+use Rattle.std.proofs.lemmas.Bool.Decides.{nat_tests}
+use Rattle.std.proofs.lemmas.Bool.{and_left, cond-false, eqb-true, ne_eqb}
 use Rattle.std.proofs.lemmas.List.{append-nil}
 use Rattle.std.proofs.lemmas.List.Sorted.{IsPermutation-append, IsPermutation-map}
 use Rattle.record_text.proofs.Lists.{All-append}
@@ -22,8 +23,8 @@ use Rattle.lane_notes.specs.declared.notes.EntryNote.{EntryNote}
 use Rattle.lane_notes.specs.declared.notes.ObjectNote.{ObjectNote}
 use Rattle.lane_notes.specs.declared.notes.WriteNote.{WriteNote}
 use Rattle.lane_notes.proofs.Lists.{noted_lines-shown}
-use Rattle.lane_notes.proofs.Rising.{AtMostOne, is_at, RiseBehind, RiseBehind-sorted}
-use Rattle.lane_notes.proofs.Standing.{HasPlace, stands_permuted, stood_before}
+use Rattle.lane_notes.proofs.Rising.{is_at, RiseBehind, RiseBehind-sorted}
+use Rattle.lane_notes.proofs.Standing.{AtMostOne, HasPlace, stands_permuted, stood_before}
 use Rattle.record_text.specs.declared.record.Answer.{Answer}
 use Rattle.record_text.specs.declared.record.Label.{Label}
 use Rattle.run_history.specs.Actions.{also}
@@ -170,21 +171,26 @@ of_write_told : (ns : NotesOf) → map line_told (filter (is_on (CountersList 0)
 of_write_told ns =
     let o = CountersList 0 in
     ap (map line_told) (told_parts (is_on o) ns ∙ same_parts (none_on of_entry o (λ x. refl) ns.entries) (none_on of_base o (λ x. refl) ns.bases) refl
-    (none_on of_object o (λ x. refl) ns.objects) ∙ append-nil (filter (is_on o) (map of_write ns.writes)))
+    (none_on of_object o (λ x. ne_eqb (suc x.object) 0 (λ is. omega (arith, is))) ns.objects) ∙ append-nil (filter (is_on o) (map of_write ns.writes)))
     ∙ lines_on of_write place_of_write o 0 _ (λ e. refl) (λ e is. refl) ns.writes
+
+next_test : (j i : ℕ) → nat_eq (suc j) (suc i) ≡ nat_eq j i
+next_test j i = grind (arith, nat_tests)
 
 of_object_told : (i : ℕ) (ns : NotesOf) → map line_told (filter (is_on (CountersList (suc i))) (told_notes ns))
     ≡ map (λ n. record { label = n.label; shown = OfRise (suc i) }) (filter (is_of_list place_of_object i) ns.objects)
 of_object_told i ns =
     let o = CountersList (suc i) in
     ap (map line_told) (told_parts (is_on o) ns ∙ same_parts (none_on of_entry o (λ x. refl) ns.entries) (none_on of_base o (λ x. refl) ns.bases)
-    (none_on of_write o (λ x. refl) ns.writes) refl) ∙ lines_on of_object place_of_object o i _ (λ e. refl)
+    (none_on of_write o (λ x. ne_eqb 0 (suc i) (λ is. omega (arith, is))) ns.writes) refl)
+    ∙ lines_on of_object place_of_object o i _ (λ e. next_test e.object i)
     (λ e is. ap (λ j. record { label = e.label; shown = OfRise (suc j) }) is) ns.objects
 
 -- writes are of the clock's one list
 none_elsewhere : (k n : ℕ) (ws : List WriteNote) → filter (is_at place_of_write (suc k) n) ws ≡ []
 none_elsewhere k n [] = refl
-none_elsewhere k n (w ∷ ws) = none_elsewhere k n ws
+none_elsewhere k n (w ∷ ws) =
+    cond-false (is_at place_of_write (suc k) n w) _ _ (and_left _ _ (ne_eqb 0 (suc k) (λ is. omega (arith, is)))) ∙ none_elsewhere k n ws
 
 -- ---- the record's lines
 
