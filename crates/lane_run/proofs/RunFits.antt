@@ -112,11 +112,10 @@ pub record IsWholeRecord (s : Script) (r : RunRecord) (q : WorldPass) : Type 0 w
   pub fits : Fits s r
   pub shows : ShowsAllSeen r q
 
--- law: so is the record of a run from the first passes on
-pub run_recorded : (s : Script) (x : WorldOf) (p : WorldPass) (r : RunRecord) (q : WorldPass) → IsInRange s → IsWorldOf s x → AreFirst x p
-    → IsMain x q [] → {made : Result RunRecord AllocError} → made ≡ Ok r → IfOk made (λ k. MakesRun x s p k q) → IsWholeRecord s r q
-run_recorded s x p r q range world first main ok makes =
-    let run : MakesRun x s p r q = subst (λ (k : Result RunRecord AllocError). IfOk k (λ y. MakesRun x s p y q)) ok makes in
+-- so is the record of a run from the first passes on
+of_run : (s : Script) (x : WorldOf) (p : WorldPass) (r : RunRecord) (q : WorldPass) → IsInRange s → IsWorldOf s x → AreFirst x p → IsMain x q []
+    → MakesRun x s p r q → IsWholeRecord s r q
+of_run s x p r q range world first main run =
     let whole = whole_of s x range world in
     let made = left_by_rounds s x p run.before run.left (keeps_call s x) world range whole first run.rounds in
     let w = before_looks run.settled q in
@@ -149,3 +148,9 @@ run_recorded s x p r q range world first main ok makes =
         objects = object_lines_show of left run.shows.in_order run.left.answers made.1;
       };
     })
+
+-- law: so is the record of a run that wanted no memory
+pub run_recorded : (s : Script) (x : WorldOf) (p : WorldPass) (r : RunRecord) (q : WorldPass) → IsInRange s → IsWorldOf s x → AreFirst x p
+    → IsMain x q [] → {made : Result RunRecord AllocError} → made ≡ Ok r → IfOk made (λ k. MakesRun x s p k q) → IsWholeRecord s r q
+run_recorded s x p r q range world first main ok makes =
+    of_run s x p r q range world first main (subst (λ (k : Result RunRecord AllocError). IfOk k (λ y. MakesRun x s p y q)) ok makes)
