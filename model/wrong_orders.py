@@ -1,4 +1,4 @@
-"""Nine records that no order of all moves explains, each beside one of the same script that fits. In both each list by itself is a right history, and each call
+"""Ten records that no order of all moves explains, each beside one of the same script that fits. In both each list by itself is a right history, and each call
 did what its words say: what is wrong shows only where the lists are put beside each other."""
 from typing import NamedTuple, Tuple
 
@@ -70,6 +70,16 @@ PAIRS = [
             "call 0 0 old 0 0", "call 1 0 peek 1 0 1 0 0", "call 1 1 left 50 0 0 1",
         ),
         (("call 1 1 left 50 0 0 1", "call 1 1 left 0 0 0 0"),),
+        ("0 0", "1 0", "1 1"),
+    ),
+    Pair(
+        "an object is seen armed, and its timer is idle and not yet started behind that",
+        script(["posix 0 monotonic 0"], ["0 settime 0 0 0 50 0 0", "1 gettime 0", "1 peek 0"]),
+        record(
+            "timer 0 1 0 0 start rel 50 0 0 0 monotonic 50 0", "object 0 1 0 0 settime 0 50 0 0 1 old 0 0",
+            "call 0 0 old 0 0", "call 1 0 left 50 0 0 1", "call 1 1 peek 1 0 1 0 0",
+        ),
+        (("call 1 1 peek 1 0 1 0 0", "call 1 1 peek 0 0 0 0 0"),),
         ("0 0", "1 0", "1 1"),
     ),
     Pair(
