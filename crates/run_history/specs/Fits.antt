@@ -8,7 +8,6 @@ use Rattle.script_text.specs.declared.script.Call.TheVariants as calls
 use Rattle.script_text.specs.declared.script.Script.{Script}
 use Rattle.record_text.specs.declared.record.Label.{Label}
 use Rattle.record_text.specs.declared.record.Answer.{Answer}
-use Rattle.record_text.specs.declared.record.ObjectLine.{ObjectLine}
 use Rattle.record_text.specs.declared.record.RunRecord.{RunRecord}
 use Rattle.run_history.specs.Order.{AreUnder, CallInRound, calls_of, is_lower, IsInOrder, IsLabel, IsPoint, NeverFall}
 use Rattle.run_history.specs.Histories.{answers_of, AreWrites, clock_labels, lines_of_timer}
@@ -18,7 +17,7 @@ use Rattle.run_history.specs.Actions.{wrote}
 use Rattle.run_history.specs.Witnesses.{Witness, IsOneHistory, labels, writes_along}
 use Rattle.run_history.specs.Traces.{HasTraced}
 use Rattle.run_history.specs.Calls.{AllKeepExpiries, AllMoved, Does}
-use Rattle.run_history.specs.Truths.{AreTrue, IsClaimSpan, IsMoment, AnswerHolds, WasFront, WasOffLine}
+use Rattle.run_history.specs.Truths.{AreTrue, IsMoment, AnswerHolds, WasFront, WasOffLine}
 
 -- how many of the clock's writes, and of all entries and the writes among them, a lane has seen
 pub record Seen : Type 0 where

@@ -12,7 +12,7 @@ use Rattle.run_history.specs.Objects.{IsLegalObject, lines_of_object}
 use Rattle.run_history.specs.Order.{AreUnder, calls_of, IsLabel}
 use Rattle.script_text.specs.declared.script.Script.{Script}
 use Rattle.run_history.specs.Witnesses.{Witness, entries_in, IsOneHistory, labels, Trace}
-use Rattle.run_history.specs.Fits.{AreBehind, AreSkipsUnder, FitsLane, unseen}
+use Rattle.run_history.specs.Fits.{AreSkipsUnder, FitsLane, unseen}
 use Rattle.run_history.specs.Receipts.{AreAll, AreFiled, Filed, PlacedEntry, ShowsEntry, weave}
 use Rattle.run_history.specs.Rounds.{IsLaid, IsLedger, Spans}
 

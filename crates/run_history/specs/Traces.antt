@@ -23,8 +23,8 @@ abbrev pub own_moves : Label → List Move → List (ℕ × Shown)
 own_moves c [] = []
 own_moves c (m ∷ ms) = also (is_label c m.label) (m.before + 1, m.shown) (own_moves c ms)
 
--- the record has these things under the label, and no others; the entries of timers, bases and objects, and the writes, in this very order; the refused expiries
--- of one call under one entry have no order among themselves
+-- the record has these things under the label, and no others; the entries of timers, bases and objects, and the writes, in this very order; the refused
+-- expiries of one call under one entry have no order among themselves
 pub record HasTraced (w : Witness) (c : Label) (actions : List Action) : Type 0 where
   pub clock : own (λ line. line.label) (λ line. line.write) c 1 w.run.clock ≡ wrote actions
   pub moves : own_moves c w.moves ≡ all_entered actions

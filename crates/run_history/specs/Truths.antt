@@ -204,9 +204,9 @@ AnswerHolds w first last c reading actions (calls.Offline base heir budget) (ans
 AnswerHolds w first last c reading actions (calls.Offline base heir budget) (answers.Already stamp) =
     StandsAt w base stamp last × IsSome (standing_along w last base).heir
 AnswerHolds w first last c reading actions (calls.Offline base heir budget) (answers.HeirOffline stamp) =
-    StandsAt w heir stamp last × IsSome (standing_along w last heir).heir
+    StandsAt w heir stamp last × IsSome (standing_along w last heir).heir × ((standing_along w last base).heir ≡ None)
 AnswerHolds w first last c reading actions (calls.Offline base heir budget) (answers.BaseSpent stamp) =
-    StandsAt w base stamp last × ((standing_along w last base).heir ≡ None) × (last_standing ≤ stamp)
+    StandsAt w base stamp last × ((standing_along w last base).heir ≡ None) × (last_standing ≤ stamp) × ((standing_along w last heir).heir ≡ None)
 AnswerHolds w first last c reading actions (calls.Online base) (answers.Already stamp) =
     StandsAt w base stamp last × ((standing_along w last base).heir ≡ None)
 AnswerHolds w first last c reading actions call answer = Unit
