@@ -151,8 +151,8 @@ start_reading request reading number asked reply a one = by_outs a.outs one
 pub hasty_doesnt_fit : Fits awaited_script hasty_record → ⊥
 hasty_doesnt_fit fits =
     let o = opened awaited_script hasty_record fits in
-    let w = witness_with awaited_script hasty_record o.0 o.1 o.2 in
-    let f = o.3 in
+    let w = witness_with awaited_script hasty_record o.0 o.1 in
+    let f = o.2 in
     let run = (f.calls 0).2.1 in
     let look = (f.calls 1).1.0 in
     let write = (f.calls 1).2.1.0 in
@@ -168,8 +168,8 @@ hasty_doesnt_fit fits =
 pub foreseen_doesnt_fit : Fits started_script foreseen_record → ⊥
 foreseen_doesnt_fit fits =
     let o = opened started_script foreseen_record fits in
-    let w = witness_with started_script foreseen_record o.0 o.1 o.2 in
-    let f = o.3 in
+    let w = witness_with started_script foreseen_record o.0 o.1 in
+    let f = o.2 in
     let started = (f.calls 0).1 in
     let look = (f.calls 1).1.0 in
     let write = (f.calls 1).2.1.0 in
@@ -186,8 +186,8 @@ foreseen_doesnt_fit fits =
 pub stale_doesnt_fit : Fits nothing_script stale_record → ⊥
 stale_doesnt_fit fits =
     let o = opened nothing_script stale_record fits in
-    let w = witness_with nothing_script stale_record o.0 o.1 o.2 in
-    let f = o.3 in
+    let w = witness_with nothing_script stale_record o.0 o.1 in
+    let f = o.2 in
     let started = (f.calls 0).2.1 in
     let look = (f.calls 1).1.0 in
     let run = (f.calls 1).2.1 in

@@ -60,20 +60,18 @@ abbrev pub fired : ℕ → ℕ → List Action → ℕ → Bool → Fired
 fired claim generation body finish restart =
     record { timer = 0; claim = claim; generation = generation; body = body; finish = finish; restart = restart; restarted = restarts.No }
 
--- the witness of a script and a record, where entries of lists follow one another so, each lane's calls did these things, and objects' entries have
--- such spans
-abbrev pub witness_along : Script → RunRecord → List Owner → List (List Trace) → (ℕ → ℕ → ℕ × ℕ) → Witness
-witness_along s r order traces spans = record {
+-- the witness of a script and a record, where entries of lists follow one another so, and each lane's calls did these things
+abbrev pub witness_along : Script → RunRecord → List Owner → List (List Trace) → Witness
+witness_along s r order traces = record {
   script = s;
   run = r;
   moves = moves_by r [] order;
   traces = λ c. get_or (get_or traces c.lane []) c.call (did 0 [] 0 0);
-  spans = spans;
 }
 
 -- the same, where all entries are timers'
-abbrev pub witness_by : Script → RunRecord → List ℕ → List (List Trace) → (ℕ → ℕ → ℕ × ℕ) → Witness
-witness_by s r order traces spans = witness_along s r (map TimersList order) traces spans
+abbrev pub witness_by : Script → RunRecord → List ℕ → List (List Trace) → Witness
+witness_by s r order traces = witness_along s r (map TimersList order) traces
 
 -- a start with one entry, of this number, which puts the timer on a base with these expiries
 abbrev pub armed_as : ℕ → ℕ → ℕ → ℕ → Arming
@@ -95,9 +93,6 @@ two a b = (a, b)
 
 pub three : {A B C : Type 0} → A → B → C → A × B × C
 three a b c = (a, b, c)
-
-pub next : {P Q : ℕ → Type 0} (n : ℕ) → P n → Q n → (k : ℕ) × P k × Q k
-next n p q = (n, p, q)
 
 -- a start that makes one entry, on the base that is asked for, is made so
 pub stays : {Reached : ℕ → ℕ → Type 0} {limit base : ℕ} {a : Arming} → nat_le a.number limit ≡ true → a.outs ≡ [] → base ≡ a.asked
