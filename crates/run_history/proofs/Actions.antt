@@ -1,5 +1,5 @@
 -- What a call did, of one list, in two parts.
-use Rattle.std.proofs.Common.{◌≡◌, ℕ, true, false, nat_eq, List, [], ◌∷◌, ◌++◌, refl, ap}
+use Rattle.std.proofs.Common.{◌≡◌, ℕ, suc, true, false, nat_eq, List, [], ◌∷◌, ◌++◌, refl, ap}
 use Rattle.run_history.specs.Actions.{Action, also, Entered, Looked, Made, made, Shifted, Skipped, Wrote}
 use Rattle.run_history.specs.Traces.{all_entered}
 use Rattle.run_history.specs.Witnesses.{OfBase, OfRise, OfTimer}
@@ -9,7 +9,7 @@ all_entered-append [] es = refl
 all_entered-append (Wrote number write ∷ ds) es = ap (λ xs. (number, OfRise 0) ∷ xs) (all_entered-append ds es)
 all_entered-append (Entered timer number entry ∷ ds) es = ap (λ xs. (number, OfTimer timer entry) ∷ xs) (all_entered-append ds es)
 all_entered-append (Looked timer number reply ∷ ds) es = all_entered-append ds es
-all_entered-append (Made i number entry ∷ ds) es = all_entered-append ds es
+all_entered-append (Made i number entry ∷ ds) es = ap (λ xs. (number, OfRise (suc i)) ∷ xs) (all_entered-append ds es)
 all_entered-append (Skipped i number generation ∷ ds) es = all_entered-append ds es
 all_entered-append (Shifted base number event ∷ ds) es = ap (λ xs. (number, OfBase base event) ∷ xs) (all_entered-append ds es)
 

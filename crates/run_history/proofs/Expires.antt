@@ -1,5 +1,5 @@
 -- Expiry runs, by what their pass had seen at each of its calls: before and after each claim, after each callback, after each finish.
-use Rattle.std.proofs.Common.{◌≡◌, ◌<◌, ◌≤◌, ℕ, List, [], ◌∷◌, ◌++◌, Some, length, map, arith, refl, sym, ap, ◌∙◌, subst}
+use Rattle.std.proofs.Common.{◌≡◌, ◌<◌, ◌≤◌, ℕ, suc, List, [], ◌∷◌, ◌++◌, Some, length, map, arith, refl, sym, ap, ◌∙◌, subst}
 use Rattle.std.specs.List.{AllByRecursion}
 use Rattle.std.specs.Prelude.{flat_map}
 use Rattle.std.proofs.Math.Logic.{⊎_elim}
@@ -28,15 +28,15 @@ use Rattle.script_text.specs.declared.script.Callback.{Callback}
 use Rattle.script_text.specs.declared.script.Kind.TheVariants as kinds
 use Rattle.script_text.specs.declared.script.Kind.{Kind}
 use Rattle.run_history.specs.Calls.{Does, fires, IsBody, IsCallback, IsExpiryRun, IsTrigger}
-use Rattle.run_history.specs.Witnesses.{Witness, Fired, OfTimer, timer_along, Trace}
+use Rattle.run_history.specs.Witnesses.{Fired, OfRise, OfTimer, Shown, Trace, Witness, entries_in, timer_along}
 use Rattle.run_history.specs.Fits.{FitsCall, Seen}
 use Rattle.run_history.specs.Receipts.{PlacedEntry, receipt}
 use Rattle.run_history.specs.Rounds.{Spans}
 use Rattle.run_history.specs.Traces.{all_entered}
-use Rattle.run_history.specs.Truths.{AreTrue, IsClaimSpan, IsDone, IsMoment, AnswerHolds, Saw, SawFull, WasOffLine}
+use Rattle.run_history.specs.Truths.{AnswerHolds, AreTrue, IsDone, IsMoment, Saw, SawFull, StoodBefore, WasOffLine}
 use Rattle.run_history.proofs.Actions.{all_entered-append}
 use Rattle.run_history.proofs.Kept.{call_made_whole, IsKept, moment_of, Stops}
-use Rattle.run_history.proofs.Known.{AreMade, made-append, made_wider, none_made, stops_between}
+use Rattle.run_history.proofs.Known.{AreMade, made-append, made_stood, made_wider, none_made, stops_between}
 use Rattle.run_history.proofs.OthersMade.{start_true}
 use Rattle.run_history.proofs.Reached.{body_wider, was_wider}
 
@@ -73,17 +73,16 @@ finish_of f = record { event = events.Finish f.restart; reply = replies.Finish f
 abbrev pub with_claim : ℕ → ℕ → Fired → List Action → List Action
 with_claim base at f before = before ++ Entered f.timer f.claim (claim_of base at f) ∷ []
 
--- what a callback was told holds: a look, of the timer as it was when the pass had seen so many entries; a refused expiry, of the object, whose history
--- was full
-abbrev pub ReplyHolds : Witness → Label → List Action → ℕ → List Action → Type 0
-ReplyHolds w c before acted (Looked timer number look ∷ []) = Saw w timer number (observed look) acted × IsBelowLimit w.script.limit number look
-ReplyHolds w c before acted (Skipped i number generation ∷ []) = SawFull w c before i number
-ReplyHolds w c before acted ds = Unit
+-- what a callback was told holds when the pass had seen so many entries: a look, of the timer as it was then; a refused expiry, of the object, whose
+-- history was full
+abbrev pub ReplyHolds : Witness → ℕ → List Action → Type 0
+ReplyHolds w acted (Looked timer number look ∷ []) = Saw w timer number (observed look) acted × IsBelowLimit w.script.limit number look
+ReplyHolds w acted (Skipped i number generation ∷ []) = SawFull w i number acted
+ReplyHolds w acted ds = Unit
 
 -- one callback of an expiry run, from one number of entries that its pass had seen to another
-pub record Ran (w : Witness) (c : Label) (order : List SystemEntry) (context : Context) (base at : ℕ) (before : List Action) (f : Fired)
-    (from to : ℕ) : Type 0 where
-  -- that number after the claim, and where the callback's look held or after the callback
+pub record Ran (w : Witness) (order : List SystemEntry) (context : Context) (base at : ℕ) (f : Fired) (from to : ℕ) : Type 0 where
+  -- that number after the claim, and where what the callback was told held or after the callback
   pub claimed : ℕ
   pub acted : ℕ
   -- the claim's receipt, the callback's, the finish's
@@ -99,24 +98,27 @@ pub record Ran (w : Witness) (c : Label) (order : List SystemEntry) (context : C
   pub body_is : map receipt body ≡ all_entered f.body
   pub finish_made : AreMade order acted to (finish ∷ [])
   pub finish_is : receipt finish ≡ (f.finish, OfTimer f.timer (finish_of f))
-  -- the timer is of the run's context; the callback is as the timer declares it, by bases that were off line meanwhile; what it was told holds, and an
-  -- expiry's span is the claim
+  -- the timer is of the run's context; the callback is as the timer declares it, by bases that were off line meanwhile; and what it was told holds
   pub own : (declared_of w.script f.timer).context ≡ context
   pub kind : IsBody (WasOffLine w from to) w.script.limit (kind_of w.script f.timer) at f
-  pub holds : ReplyHolds w c (with_claim base at f before) acted f.body
-  pub span : IsClaimSpan w f f.body
+  pub holds : ReplyHolds w acted f.body
 
 -- its receipts
-abbrev pub notes_of : {w : Witness} {c : Label} {order : List SystemEntry} {context : Context} {base at : ℕ} {before : List Action} {f : Fired} {from to : ℕ}
-    → Ran w c order context base at before f from to → List PlacedEntry
+abbrev pub notes_of : {w : Witness} {order : List SystemEntry} {context : Context} {base at : ℕ} {f : Fired} {from to : ℕ}
+    → Ran w order context base at f from to → List PlacedEntry
 notes_of ran = ran.claim ∷ ran.body ++ ran.finish ∷ []
 
 no_notes : (xs : List PlacedEntry) → map receipt xs ≡ [] → xs ≡ []
 no_notes [] is = refl
 no_notes (x ∷ xs) is = absurd (cc)
 
-module _ {w : Witness} {c : Label} {order : List SystemEntry} {context : Context} {base at : ℕ} {before : List Action} {f : Fired} {from to : ℕ}
-    (ran : Ran w c order context base at before f from to) where
+one_note : (xs : List PlacedEntry) (e : ℕ × Shown) → map receipt xs ≡ e ∷ [] → (x : PlacedEntry) × (xs ≡ x ∷ []) × (receipt x ≡ e)
+one_note [] e is = absurd (cc)
+one_note (x ∷ []) e is = (x, refl, cc)
+one_note (x ∷ y ∷ xs) e is = absurd (cc)
+
+module _ {w : Witness} {order : List SystemEntry} {context : Context} {base at : ℕ} {f : Fired} {from to : ℕ}
+    (ran : Ran w order context base at f from to) where
   forward : from ≤ to
   forward = omega (arith, ran.rise, ran.goes_on, ran.ends)
 
@@ -138,10 +140,10 @@ abbrev pub AreMoments : Witness → Label → List PlacedEntry → ℕ → ℕ �
 AreMoments w c notes low high = (early : List Action) (n : ℕ) → low ≤ n → n ≤ high → Stops c notes early n → IsMoment w c early n
 
 -- a callback among a call's receipts, those before it and those behind
-module _ {w : Witness} {c : Label} {order : List SystemEntry} {context : Context} {base at : ℕ} {before : List Action} {f : Fired} {from to : ℕ}
-    (ran : Ran w c order context base at before f from to) (low high : ℕ) (all early late : List PlacedEntry) (split : all ≡ early ++ (notes_of ran ++ late))
-    (one : AreMade order low from early) (two : AreMade order to high late) (are : map receipt early ≡ all_entered before) (under : low ≤ from)
-    (over : to ≤ high) (moments : AreMoments w c all low high) where
+module _ {w : Witness} {order : List SystemEntry} {context : Context} {base at : ℕ} {f : Fired} {from to : ℕ} (entries : entries_in w ≡ order) (c : Label)
+    (before : List Action) (ran : Ran w order context base at f from to) (low high : ℕ) (all early late : List PlacedEntry)
+    (split : all ≡ early ++ (notes_of ran ++ late)) (one : AreMade order low from early) (two : AreMade order to high late)
+    (are : map receipt early ≡ all_entered before) (under : low ≤ from) (over : to ≤ high) (moments : AreMoments w c all low high) where
   forward_claimed : low ≤ ran.claimed
   forward_claimed = omega (arith, under, ran.rise)
 
@@ -166,10 +168,23 @@ module _ {w : Witness} {c : Label} {order : List SystemEntry} {context : Context
       (stops_between c order low n high (early ++ ran.claim ∷ []) (rest ++ late) (with_claim base at f before) first
       (made-append order n to high rest late made two more over) entered))
 
-  moment_claimed : IsMoment w c (with_claim base at f before) ran.claimed
-  moment_claimed =
-      moment_behind ran.claimed (ran.body ++ ran.finish ∷ []) (omega arith) (omega (arith, ran.goes_on, ran.ends))
-      (made-append order ran.claimed ran.acted to ran.body (ran.finish ∷ []) ran.body_made ran.finish_made ran.goes_on ran.ends) split
+  -- the moment before an object's entry, which had just those before it then
+  moment_made : (i number : ℕ) → all_entered f.body ≡ (number, OfRise (suc i)) ∷ []
+      → (n : ℕ) × (from ≤ n) × (n ≤ ran.acted) × IsMoment w c (with_claim base at f before) n × StoodBefore w i number n
+  moment_made i number is =
+      let note = one_note ran.body (number, OfRise (suc i)) (ran.body_is ∙ is) in
+      let p = note.0.place in
+      let made : AreMade order ran.claimed ran.acted (note.0 ∷ []) = subst (AreMade order ran.claimed ran.acted) note.1 ran.body_made in
+      let alone : AreMade order p ran.acted (note.0 ∷ []) = record { rise = (omega arith, tt); below = made.below; made = made.made } in
+      let rest : AreMade order p to (ran.body ++ ran.finish ∷ []) =
+      subst (λ b. AreMade order p to (b ++ ran.finish ∷ [])) (sym note.1)
+      (made-append order p ran.acted to (note.0 ∷ []) (ran.finish ∷ []) alone ran.finish_made (omega (arith, made.below.0)) ran.ends) in (
+        p,
+        omega (arith, ran.rise, made.rise.0),
+        omega (arith, made.below.0),
+        moment_behind p (ran.body ++ ran.finish ∷ []) made.rise.0 (omega (arith, made.below.0, ran.ends)) rest split,
+        made_stood w order i number note.0 entries made.made.0 note.2,
+      )
 
   -- a callback that made no entry left the call where the claim had put it
   moment_acted : [] ≡ all_entered f.body → IsMoment w c (with_claim base at f before) ran.acted
@@ -187,9 +202,9 @@ module _ {w : Witness} {c : Label} {order : List SystemEntry} {context : Context
       onward : from ≤ ran.acted
       onward = omega (arith, ran.rise, ran.goes_on)
 
-      by_body : (ds : List Action) → f.body ≡ ds → (ReplyHolds w c since ran.acted ds → AreTrue w c first from since ds ran.acted)
+      by_body : (ds : List Action) → f.body ≡ ds → (ReplyHolds w ran.acted ds → AreTrue w c first from since ds ran.acted)
           → AreTrue w c first from since f.body ran.acted
-      by_body ds is go = subst (λ xs. AreTrue w c first from since xs ran.acted) (sym is) (go (subst (ReplyHolds w c since ran.acted) is ran.holds))
+      by_body ds is go = subst (λ xs. AreTrue w c first from since xs ran.acted) (sym is) (go (subst (ReplyHolds w ran.acted) is ran.holds))
 
       looks : (timer number : ℕ) (look : CallbackReply) → f.body ≡ Looked timer number look ∷ [] → AreTrue w c first from since f.body ran.acted
       looks timer number look is = by_body (Looked timer number look ∷ []) is
@@ -214,8 +229,10 @@ module _ {w : Witness} {c : Label} {order : List SystemEntry} {context : Context
       by_trigger is =
           ⊎_elim
           (λ trigger. by_body (Made f.timer trigger.0 (object_entries.Trigger f.generation at trigger.1) ∷ []) trigger.2
-          (λ holds. (ran.claimed, ran.rise, (moment_claimed, tt, tt), ran.goes_on)))
-          (λ skipped. by_body (Skipped f.timer skipped.0 f.generation ∷ []) skipped.1 (λ holds. (from, omega arith, holds, onward))) is.0
+          (λ holds. let m = moment_made f.timer trigger.0 (ap all_entered trigger.2) in
+          (m.0, m.1, (m.3, record { true_start = tt; had = tt; stood = m.4 }), m.2)))
+          (λ skipped. by_body (Skipped f.timer skipped.0 f.generation ∷ []) skipped.1
+          (λ holds. (ran.acted, onward, (moment_acted (ap all_entered (sym skipped.1)), holds), omega arith))) is.0
 
       by_kind : (kind : Kind) → IsBody (WasOffLine w from to) w.script.limit kind at f → AreTrue w c first from since f.body ran.acted
       by_kind (kinds.Raw x callback) is = by_callback callback is
@@ -234,37 +251,32 @@ module _ {w : Witness} {c : Label} {order : List SystemEntry} {context : Context
 -- ---- the callbacks of an expiry run
 
 -- they ran in turn, each between two numbers of entries that the pass had seen, and these are their receipts
-abbrev pub HaveRun : Witness → Label → List SystemEntry → Context → ℕ → ℕ → List Action → ℕ → List Fired → List PlacedEntry → ℕ → Type 0
-HaveRun w c order context base at before from [] notes to = (notes ≡ []) × (from ≤ to)
-HaveRun w c order context base at before from (f ∷ fs) notes to =
-    (ends : ℕ) × (ran : Ran w c order context base at before f from ends) × (rest : List PlacedEntry) × (notes ≡ notes_of ran ++ rest)
-    × HaveRun w c order context base at (before ++ fires base at f) ends fs rest to
+abbrev pub HaveRun : Witness → List SystemEntry → Context → ℕ → ℕ → ℕ → List Fired → List PlacedEntry → ℕ → Type 0
+HaveRun w order context base at from [] notes to = (notes ≡ []) × (from ≤ to)
+HaveRun w order context base at from (f ∷ fs) notes to =
+    (ends : ℕ) × (ran : Ran w order context base at f from ends) × (rest : List PlacedEntry) × (notes ≡ notes_of ran ++ rest)
+    × HaveRun w order context base at ends fs rest to
 
-module _ (w : Witness) (c : Label) (order : List SystemEntry) (context : Context) (base at : ℕ) where
-  run_forward : (before : List Action) (from : ℕ) (fs : List Fired) (notes : List PlacedEntry) (to : ℕ)
-      → HaveRun w c order context base at before from fs notes to
-      → from ≤ to
-  run_forward before from [] notes to run = run.1
-  run_forward before from (f ∷ fs) notes to run = omega (arith, forward run.1, run_forward (before ++ fires base at f) run.0 fs run.2 to run.4)
+module _ (w : Witness) (order : List SystemEntry) (context : Context) (base at : ℕ) where
+  run_forward : (from : ℕ) (fs : List Fired) (notes : List PlacedEntry) (to : ℕ) → HaveRun w order context base at from fs notes to → from ≤ to
+  run_forward from [] notes to run = run.1
+  run_forward from (f ∷ fs) notes to run = omega (arith, forward run.1, run_forward run.0 fs run.2 to run.4)
 
   -- law: the receipts are made in turn, and are of what the callbacks did
-  pub run_made : (before : List Action) (from : ℕ) (fs : List Fired) (notes : List PlacedEntry) (to : ℕ)
-      → HaveRun w c order context base at before from fs notes to
+  pub run_made : (from : ℕ) (fs : List Fired) (notes : List PlacedEntry) (to : ℕ) → HaveRun w order context base at from fs notes to
       → AreMade order from to notes × (map receipt notes ≡ all_entered (flat_map (fires base at) fs))
-  run_made before from [] notes to run = subst (λ xs. AreMade order from to xs × (map receipt xs ≡ [])) (sym run.0) (none_made order from to, refl)
-  run_made before from (f ∷ fs) notes to run =
-      let rest = run_made (before ++ fires base at f) run.0 fs run.2 to run.4 in
+  run_made from [] notes to run = subst (λ xs. AreMade order from to xs × (map receipt xs ≡ [])) (sym run.0) (none_made order from to, refl)
+  run_made from (f ∷ fs) notes to run =
+      let rest = run_made run.0 fs run.2 to run.4 in
       subst (λ xs. AreMade order from to xs × (map receipt xs ≡ all_entered (flat_map (fires base at) (f ∷ fs)))) (sym run.3) (
-        made-append order from run.0 to (notes_of run.1) run.2 (made_of run.1) rest.0 (forward run.1)
-            (run_forward (before ++ fires base at f) run.0 fs run.2 to run.4),
+        made-append order from run.0 to (notes_of run.1) run.2 (made_of run.1) rest.0 (forward run.1) (run_forward run.0 fs run.2 to run.4),
         map-append receipt (notes_of run.1) run.2 ∙ ap (λ xs. xs ++ map receipt run.2) (notes_are run.1) ∙ ap (λ xs. all_entered (fires base at f) ++ xs) rest.1
             ∙ sym (all_entered-append (fires base at f) (flat_map (fires base at) fs)),
       )
 
-  -- a callback as one from an earlier number on, behind an equal list of what was done before it
-  ran_earlier : (before since : List Action) (f : Fired) (from mid to : ℕ) → since ≡ before → from ≤ mid → Ran w c order context base at since f mid to
-      → Ran w c order context base at before f from to
-  ran_earlier before since f from mid to same le ran = record {
+  -- a callback as one from an earlier number on
+  ran_earlier : (f : Fired) (from mid to : ℕ) → from ≤ mid → Ran w order context base at f mid to → Ran w order context base at f from to
+  ran_earlier f from mid to le ran = record {
     claimed = ran.claimed;
     acted = ran.acted;
     claim = ran.claim;
@@ -281,56 +293,52 @@ module _ (w : Witness) (c : Label) (order : List SystemEntry) (context : Context
     finish_is = ran.finish_is;
     own = ran.own;
     kind = body_wider (WasOffLine w mid to) (WasOffLine w from to) (was_wider w le (omega arith)) w.script.limit (kind_of w.script f.timer) at f ran.kind;
-    holds = subst (λ b. ReplyHolds w c (with_claim base at f b) ran.acted f.body) same ran.holds;
-    span = ran.span;
+    holds = ran.holds;
   }
 
   -- law: one more callback behind those that ran
-  pub run_push : (before since : List Action) (from : ℕ) (fs : List Fired) (notes : List PlacedEntry) (mid : ℕ) (f : Fired) (to : ℕ)
-      → HaveRun w c order context base at before from fs notes mid → since ≡ before ++ flat_map (fires base at) fs
-      → (ran : Ran w c order context base at since f mid to)
-      → HaveRun w c order context base at before from (fs ++ f ∷ []) (notes ++ notes_of ran) to
+  pub run_push : (from : ℕ) (fs : List Fired) (notes : List PlacedEntry) (mid : ℕ) (f : Fired) (to : ℕ) → HaveRun w order context base at from fs notes mid
+      → (ran : Ran w order context base at f mid to) → HaveRun w order context base at from (fs ++ f ∷ []) (notes ++ notes_of ran) to
   unfolding ran_earlier
-  run_push before since from [] notes mid f to run is ran = (
+  run_push from [] notes mid f to run ran = (
     to,
-    ran_earlier before since f from mid to (is ∙ append-nil before) run.1 ran,
+    ran_earlier f from mid to run.1 ran,
     [],
     ap (λ xs. xs ++ notes_of ran) run.0 ∙ sym (append-nil (notes_of ran)),
     (refl, omega arith),
   )
-  run_push before since from (g ∷ fs) notes mid f to run is ran = (
+  run_push from (g ∷ fs) notes mid f to run ran = (
     run.0,
     run.1,
     run.2 ++ notes_of ran,
     ap (λ xs. xs ++ notes_of ran) run.3 ∙ append_assoc (notes_of run.1) run.2 (notes_of ran),
-    run_push (before ++ fires base at g) since run.0 fs run.2 mid f to run.4
-        (is ∙ sym (append_assoc before (fires base at g) (flat_map (fires base at) fs))) ran,
+    run_push run.0 fs run.2 mid f to run.4 ran,
   )
 
   -- what one that has run between these numbers has, each has
   each_ran : (P : Fired → Type 0) (low high : ℕ)
-      → ((before : List Action) (f : Fired) (from to : ℕ) → low ≤ from → to ≤ high → Ran w c order context base at before f from to → P f)
-      → (before : List Action) (from : ℕ) (fs : List Fired) (notes : List PlacedEntry) (to : ℕ) → HaveRun w c order context base at before from fs notes to
-      → low ≤ from → to ≤ high → AllByRecursion P fs
-  each_ran P low high one before from [] notes to run under over = tt
-  each_ran P low high one before from (f ∷ fs) notes to run under over = (
-    one before f from run.0 under (omega (arith, run_forward (before ++ fires base at f) run.0 fs run.2 to run.4, over)) run.1,
-    each_ran P low high one (before ++ fires base at f) run.0 fs run.2 to run.4 (omega (arith, under, forward run.1)) over,
+      → ((f : Fired) (from to : ℕ) → low ≤ from → to ≤ high → Ran w order context base at f from to → P f)
+      → (from : ℕ) (fs : List Fired) (notes : List PlacedEntry) (to : ℕ) → HaveRun w order context base at from fs notes to → low ≤ from → to ≤ high
+      → AllByRecursion P fs
+  each_ran P low high one from [] notes to run under over = tt
+  each_ran P low high one from (f ∷ fs) notes to run under over = (
+    one f from run.0 under (omega (arith, run_forward run.0 fs run.2 to run.4, over)) run.1,
+    each_ran P low high one run.0 fs run.2 to run.4 (omega (arith, under, forward run.1)) over,
   )
 
-  run_true : (first low high : ℕ) (all : List PlacedEntry) → AreMoments w c all low high
-      → (before : List Action) (from : ℕ) (fs : List Fired) (notes : List PlacedEntry)
-      (to : ℕ) (early : List PlacedEntry) → HaveRun w c order context base at before from fs notes to → all ≡ early ++ notes → AreMade order low from early
+  run_true : (entries : entries_in w ≡ order) (c : Label) (first low high : ℕ) (all : List PlacedEntry) → AreMoments w c all low high
+      → (before : List Action) (from : ℕ) (fs : List Fired) (notes : List PlacedEntry) (to : ℕ) (early : List PlacedEntry)
+      → HaveRun w order context base at from fs notes to → all ≡ early ++ notes → AreMade order low from early
       → map receipt early ≡ all_entered before → low ≤ from → to ≤ high → AreTrue w c first from before (flat_map (fires base at) fs) to
-  run_true first low high all moments before from [] notes to early run is one are under over = run.1
-  run_true first low high all moments before from (f ∷ fs) notes to early run is one are under over =
-      let on = run_forward (before ++ fires base at f) run.0 fs run.2 to run.4 in
-      let rest = run_made (before ++ fires base at f) run.0 fs run.2 to run.4 in
+  run_true entries c first low high all moments before from [] notes to early run is one are under over = run.1
+  run_true entries c first low high all moments before from (f ∷ fs) notes to early run is one are under over =
+      let on = run_forward run.0 fs run.2 to run.4 in
+      let rest = run_made run.0 fs run.2 to run.4 in
       let split : all ≡ early ++ (notes_of run.1 ++ run.2) = is ∙ ap (λ xs. early ++ xs) run.3 in
       true-append w c first from run.0 to before (fires base at f) (flat_map (fires base at) fs)
-      (fire_true run.1 low high all early run.2 split one (made_wider order run.0 run.0 to high run.2 (omega arith) over rest.0) are under
-      (omega (arith, on, over)) moments first)
-      (run_true first low high all moments (before ++ fires base at f) run.0 fs run.2 to (early ++ notes_of run.1) run.4
+      (fire_true entries c before run.1 low high all early run.2 split one
+      (made_wider order run.0 run.0 to high run.2 (omega arith) over rest.0) are under (omega (arith, on, over)) moments first)
+      (run_true entries c first low high all moments (before ++ fires base at f) run.0 fs run.2 to (early ++ notes_of run.1) run.4
       (split ∙ sym (append_assoc early (notes_of run.1) run.2))
       (made-append order low from run.0 early (notes_of run.1) one (made_of run.1) under (forward run.1))
       (map-append receipt early (notes_of run.1) ∙ ap (λ xs. xs ++ map receipt (notes_of run.1)) are ∙ ap (λ xs. all_entered before ++ xs) (notes_are run.1)
@@ -343,10 +351,10 @@ module _ (w : Witness) (c : Label) (order : List SystemEntry) (context : Context
 abbrev pub expiring : ℕ → ℕ → ℕ → ℕ → List Fired → Trace
 expiring base at first last fired = record { at = at; fired = fired; moved = []; actions = flat_map (fires base at) fired; first = first; last = last }
 
-module _ {w : Witness} {moves : Spans} {c : Label} {context : Context} {base budget at first last : ℕ} {notes : List PlacedEntry} {fired : List Fired} {answer : Answer}
-    {before after : Seen} (order : List SystemEntry)
+module _ {w : Witness} {moves : Spans} {c : Label} {context : Context} {base budget at first last : ℕ} {notes : List PlacedEntry} {fired : List Fired}
+    {answer : Answer} {before after : Seen} (order : List SystemEntry) (entries : entries_in w ≡ order)
     (kept : IsKept w moves c (expiring base at first last fired) notes (calls.Expire context base budget) answer before after) (starts : first ≡ moves.first c)
-    (run : HaveRun w c order context base at [] first fired notes last) where
+    (run : HaveRun w order context base at first fired notes last) where
   expired : (IsExpiryRun (WasOffLine w first last) w.script context at base fired at (map (λ f. f.timer) fired) (flat_map (fires base at) fired)
       → Does (WasOffLine w first last) w.script at (calls.Expire context base budget) answer fired [] (flat_map (fires base at) fired))
       → AnswerHolds w first last c at (flat_map (fires base at) fired) (calls.Expire context base budget) answer
@@ -357,43 +365,37 @@ module _ {w : Witness} {moves : Spans} {c : Label} {context : Context} {base bud
         one_reading = refl;
         claimed = refl;
         done = refl;
-        contexts = each_ran w c order context base at _ first last (λ before f from to under over ran. ran.own) [] first fired notes last run (omega arith)
-            (omega arith);
-        bodies = each_ran w c order context base at (λ f. IsBody (WasOffLine w first last) w.script.limit (kind_of w.script f.timer) at f) first last
-            (λ before f from to under over ran.
+        contexts = each_ran w order context base at _ first last (λ f from to under over ran. ran.own) first fired notes last run (omega arith) (omega arith);
+        bodies = each_ran w order context base at (λ f. IsBody (WasOffLine w first last) w.script.limit (kind_of w.script f.timer) at f) first last
+            (λ f from to under over ran.
             body_wider (WasOffLine w from to) (WasOffLine w first last) (was_wider w under over) w.script.limit
-            (kind_of w.script f.timer) at f ran.kind) [] first
-            fired notes last run (omega arith) (omega arith);
+            (kind_of w.script f.timer) at f ran.kind) first fired notes last run (omega arith) (omega arith);
       }))
       (tt, tt)
-      (run_true w c order context base at first (moves.first c) last notes (moment_of kept) [] first fired notes last [] run refl
+      (run_true w order context base at entries c first (moves.first c) last notes (moment_of kept) [] first fired notes last [] run refl
       (none_made order (moves.first c) first) refl (omega (arith, starts)) (omega arith))
-      (each_ran w c order context base at _ first last (λ before f from to under over ran. ran.span) [] first fired notes last run (omega arith) (omega arith))
       seen
 
--- a run that left nothing to do
-pub expire_done : {w : Witness} {moves : Spans} {c : Label} {context : Context} {base budget at first last : ℕ} {notes : List PlacedEntry} {fired : List Fired} {before after : Seen}
-    (order : List SystemEntry)
-    → IsKept w moves c (expiring base at first last fired) notes (calls.Expire context base budget) (answers.Done at (map (λ f. f.timer) fired)) before after
-    → first ≡ moves.first c → HaveRun w c order context base at [] first fired notes last → length fired < budget → IsDone w context at base last
-    → FitsCall w c (calls.Expire context base budget) (answers.Done at (map (λ f. f.timer) fired)) before after
-expire_done order kept starts ran few done = expired order kept starts ran (λ run. (run, few)) done
+module _ {w : Witness} {moves : Spans} {c : Label} {context : Context} {base budget at first last : ℕ} {notes : List PlacedEntry} {fired : List Fired}
+    {before after : Seen} (order : List SystemEntry) (entries : entries_in w ≡ order) where
+  -- a run that left nothing to do
+  pub expire_done : IsKept w moves c (expiring base at first last fired) notes (calls.Expire context base budget)
+      (answers.Done at (map (λ f. f.timer) fired)) before after
+      → first ≡ moves.first c → HaveRun w order context base at first fired notes last → length fired < budget → IsDone w context at base last
+      → FitsCall w c (calls.Expire context base budget) (answers.Done at (map (λ f. f.timer) fired)) before after
+  expire_done kept starts ran few done = expired order entries kept starts ran (λ run. (run, few)) done
 
--- a run that ended with its budget
-pub expire_more : {w : Witness} {moves : Spans} {c : Label} {context : Context} {base budget at first last : ℕ} {notes : List PlacedEntry} {fired : List Fired} {before after : Seen}
-    (order : List SystemEntry)
-    → IsKept w moves c (expiring base at first last fired) notes (calls.Expire context base budget) (answers.More at (map (λ f. f.timer) fired)) before after
-    → first ≡ moves.first c → HaveRun w c order context base at [] first fired notes last → length fired ≡ budget
-    → FitsCall w c (calls.Expire context base budget) (answers.More at (map (λ f. f.timer) fired)) before after
-expire_more order kept starts ran all = expired order kept starts ran (λ run. (run, all)) tt
+  -- a run that ended with its budget
+  pub expire_more : IsKept w moves c (expiring base at first last fired) notes (calls.Expire context base budget)
+      (answers.More at (map (λ f. f.timer) fired)) before after
+      → first ≡ moves.first c → HaveRun w order context base at first fired notes last → length fired ≡ budget
+      → FitsCall w c (calls.Expire context base budget) (answers.More at (map (λ f. f.timer) fired)) before after
+  expire_more kept starts ran all = expired order entries kept starts ran (λ run. (run, all)) tt
 
--- a run that met a function that ran on its base
-pub expire_busy : {w : Witness} {moves : Spans} {c : Label} {context : Context} {base budget at first last timer generation : ℕ} {notes : List PlacedEntry} {fired : List Fired}
-    {before after : Seen} (order : List SystemEntry)
-    → IsKept w moves c (expiring base at first last fired) notes (calls.Expire context base budget) (answers.Busy at (map
-    (λ f. f.timer) fired) timer generation)
-    before after
-    → first ≡ moves.first c → HaveRun w c order context base at [] first fired notes last → length fired < budget
-    → running_on base (in_context context (timer_along w last) timer) ≡ Some generation
-    → FitsCall w c (calls.Expire context base budget) (answers.Busy at (map (λ f. f.timer) fired) timer generation) before after
-expire_busy order kept starts ran few runs = expired order kept starts ran (λ run. (run, few)) runs
+  -- a run that met a function that ran on its base
+  pub expire_busy : {timer generation : ℕ} → IsKept w moves c (expiring base at first last fired) notes (calls.Expire context base budget)
+      (answers.Busy at (map (λ f. f.timer) fired) timer generation) before after
+      → first ≡ moves.first c → HaveRun w order context base at first fired notes last → length fired < budget
+      → running_on base (in_context context (timer_along w last) timer) ≡ Some generation
+      → FitsCall w c (calls.Expire context base budget) (answers.Busy at (map (λ f. f.timer) fired) timer generation) before after
+  expire_busy kept starts ran few runs = expired order entries kept starts ran (λ run. (run, few)) runs

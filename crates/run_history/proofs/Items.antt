@@ -1,13 +1,11 @@
--- A call's lines in a list are its receipts, in the order in which it made them; and the spans of an object's entries follow one another.
+-- A call's lines in a list are its receipts, in the order in which it made them.
 use Rattle.std.proofs.Common.{◌≡◌, ◌≤◌, ◌⊎◌, ℕ, ◌+◌, zero, suc, true, false, List, [], ◌∷◌, Some, length, arith, refl, sym, ap, ◌∙◌, subst, inl, inr}
 use Rattle.std.specs.List.{slice_get}
 use Rattle.std.proofs.Math.Logic.{⊎_elim}
 use Rattle.std.proofs.lemmas.Option.{same_Some}
 use Rattle.record_text.specs.declared.record.Label.{Label}
-use Rattle.record_text.specs.declared.record.ObjectLine.{ObjectLine}
 use Rattle.run_history.specs.Actions.{also, own}
 use Rattle.run_history.specs.Order.{is_label}
-use Rattle.run_history.specs.Fits.{AreBehind}
 use Rattle.run_history.proofs.Permuted.{along_permutation}
 use Rattle.std.specs.List.Sorted.{IsPermutation}
 use Rattle.std.proofs.lemmas.List.Sorted.{IsPermutation-sym}
@@ -121,29 +119,3 @@ module _ {X A : Type 0} (label : X → Label) (thing : X → A) (c : Label) wher
   own_items k xs items rise stand all = same_items k k (own label thing c k xs) items (own_rises k xs) rise
       (λ e here. let s = own_stands k xs e here in subst (λ f. Among f items) (sym s.is) (all s.before s.line s.there s.own))
       (λ e here. let s = stand e here in subst (λ f. Among f (own label thing c k xs)) (sym s.is) (stands_own k s.before xs s.line s.there s.own))
-
--- ---- spans
-
--- an object's entries follow one another, where each span begins where the last one ended or behind it
-abbrev pub Follow : ℕ → List (ℕ × ℕ) → Type 0
-Follow last [] = Unit
-Follow last (x ∷ xs) = (last ≤ x.0) × (x.0 ≤ x.1) × Follow x.1 xs
-
-pub behind_from : (spans : ℕ → ℕ × ℕ) (k last : ℕ) (xs : List (ℕ × ℕ)) (lines : List ObjectLine) → Follow last xs → length lines ≡ length xs
-    → ((j : ℕ) (x : ℕ × ℕ) → slice_get xs j ≡ Some x → spans (k + j) ≡ x) → AreBehind spans k last lines
-behind_from spans k last [] [] follow same at = tt
-behind_from spans k last [] (l ∷ lines) follow same at = absurd (omega (arith, same))
-behind_from spans k last (x ∷ xs) [] follow same at = absurd (omega (arith, same))
-behind_from spans k last (x ∷ xs) (l ∷ lines) follow same at =
-    let here : spans k ≡ x = ap spans (none k) ∙ at 0 x refl in (
-      subst (λ (p : ℕ × ℕ). last ≤ p.0) (sym here) follow.0,
-      subst (λ (p : ℕ × ℕ). p.0 ≤ p.1) (sym here) follow.1,
-      behind_from spans (k + 1) (spans k).1 xs lines (subst (λ (p : ℕ × ℕ). Follow p.1 xs) (sym here) follow.2) (omega (arith, same))
-          (λ j y is. ap spans (shift k j) ∙ at (suc j) y is),
-    )
-  where
-    none : (k : ℕ) → k ≡ k + 0
-    none k = omega arith
-
-    shift : (k j : ℕ) → k + 1 + j ≡ k + suc j
-    shift k j = omega arith

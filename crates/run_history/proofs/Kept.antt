@@ -6,7 +6,6 @@ use Rattle.std.proofs.lemmas.List.{append-nil, length-map, map-append}
 use Rattle.record_text.specs.declared.record.Answer.{Answer}
 use Rattle.record_text.specs.declared.record.Label.{Label}
 use Rattle.run_history.specs.Actions.{Action, also, looked, made, own, own_looks, own_skips, skipped, wrote}
-use Rattle.run_history.specs.Told.{object_steps_on}
 use Rattle.run_history.specs.Histories.{clock_labels, lines_of_timer}
 use Rattle.run_history.specs.Objects.{lines_of_object}
 use Rattle.run_history.specs.Order.{is_label, IsLabel, IsPoint, NeverFall}
@@ -17,7 +16,7 @@ use Rattle.run_history.specs.Fits.{FitsCall, Seen}
 use Rattle.run_history.specs.Receipts.{AreAll, at_place, PlacedEntry, receipt, shape}
 use Rattle.run_history.specs.Rounds.{IsLaid, Spans}
 use Rattle.run_history.specs.Traces.{all_entered, HasTraced, own_moves}
-use Rattle.run_history.specs.Truths.{AreTrue, IsClaimSpan, IsMoment, AnswerHolds, WasFront, WasOffLine}
+use Rattle.run_history.specs.Truths.{AreTrue, IsMoment, AnswerHolds, WasFront, WasOffLine}
 use Rattle.run_history.proofs.Points.{point_among}
 
 -- a call that had made these entries, and no others, when it had seen so many of all
@@ -81,7 +80,6 @@ pub record IsKept (w : Witness) (moves : Spans) (c : Label) (t : Trace) (notes :
   pub reading : IsPoint w.script c 0 t.at (clock_labels w.run)
   pub clock_steps : NeverFall before.clock (t.at ∷ map (λ x. x.0) (wrote t.actions)) after.clock
   pub move_steps : (before.moves ≤ moves.first c) × (moves.last c ≤ after.moves)
-  pub object_steps : (i : ℕ) → NeverFall (before.objects i) (object_steps_on i call answer t.actions) (after.objects i)
 
 module _ {w : Witness} {moves : Spans} {c : Label} {t : Trace} {notes : List PlacedEntry} {call : Call} {answer : Answer} {before after : Seen}
     (kept : IsKept w moves c t notes call answer before after) where
@@ -93,24 +91,28 @@ module _ {w : Witness} {moves : Spans} {c : Label} {t : Trace} {notes : List Pla
       (omega (arith, high, kept.last)) (kept.all ∙ ap (map at_place) stops.split ∙ map-append at_place stops.early stops.late)
       (places_below n stops.early stops.below) (places_behind n stops.late stops.behind))
 
-  -- it had made nothing before its first entry, and all of these behind its last
+  -- it had made nothing before its first entry, and all behind its last
   pub none_yet : (n : ℕ) → AllByRecursion (λ x. n ≤ x.place) notes → Stops c notes [] n
   none_yet n behind = record { early = []; late = notes; split = refl; are = refl; below = tt; behind = behind }
 
-  pub made_all : (n : ℕ) (early : List Action) → all_entered t.actions ≡ all_entered early → AllByRecursion (λ x. x.place < n) notes → Stops c notes early n
-  made_all n early same below = record { early = notes; late = []; split = sym (append-nil notes); are = kept.entered ∙ same; below = below; behind = tt }
-
   pub made_at_end : Stops c notes t.actions t.last
-  made_at_end = made_all t.last t.actions refl (inside_below (moves.first c) t.last notes kept.inside)
+  made_at_end = record {
+    early = notes;
+    late = [];
+    split = sym (append-nil notes);
+    are = kept.entered;
+    below = inside_below (moves.first c) t.last notes kept.inside;
+    behind = tt;
+  }
 
   -- A call fits that begins at a moment at which it had made nothing: it did what its arguments and its answer say, what it was told held, and the
   -- answer is right.
   pub call_made : moves.first c ≤ t.first → t.first ≤ t.last → AllByRecursion (λ x. t.first ≤ x.place) notes
       → Does (WasOffLine w t.first t.last) w.script t.at call answer t.fired t.moved t.actions
       → AllKeepExpiries w.script w.run call t.moved × AllMoved (WasFront w t.first t.last) call t.moved
-      → AreTrue w c t.first t.first [] t.actions t.last → AllByRecursion (λ f. IsClaimSpan w f f.body) t.fired
-      → AnswerHolds w t.first t.last c t.at t.actions call answer → FitsCall w c call answer before after
-  call_made low high behind does moved truth claims seen =
+      → AreTrue w c t.first t.first [] t.actions t.last → AnswerHolds w t.first t.last c t.at t.actions call answer
+      → FitsCall w c call answer before after
+  call_made low high behind does moved truth seen =
       let to : (P : Trace → Type 0) → P t → P (w.traces c) = λ P. subst P (sym kept.trace) in record {
         traced = to (λ x. HasTraced w c x.actions) (record {
           clock = kept.clock;
@@ -126,17 +128,15 @@ module _ {w : Witness} {moves : Spans} {c : Label} {t : Trace} {notes : List Pla
         begins = to (λ x. IsMoment w c [] x.first) (moment_of [] t.first low high (none_yet t.first behind));
         ends = to (λ x. IsMoment w c x.actions x.last) (moment_of t.actions t.last kept.forward (omega arith) made_at_end);
         truth = to (λ x. AreTrue w c x.first x.first [] x.actions x.last) truth;
-        expiries = to (λ x. AllByRecursion (λ f. IsClaimSpan w f f.body) x.fired) claims;
         seen = to (λ x. AnswerHolds w x.first x.last c x.at x.actions call answer) seen;
         clock_steps = to (λ x. NeverFall before.clock (x.at ∷ map (λ y. y.0) (wrote x.actions)) after.clock) kept.clock_steps;
         move_steps = to (λ x. (before.moves ≤ x.first) × (x.last ≤ after.moves))
             (omega (arith, kept.move_steps.0, low), omega (arith, kept.last, kept.move_steps.1));
-        object_steps = to (λ x. (i : ℕ) → NeverFall (before.objects i) (object_steps_on i call answer x.actions) (after.objects i)) kept.object_steps;
       }
 
   -- the same, where it begins with what its pass had seen
   pub call_made_whole : t.first ≡ moves.first c → Does (WasOffLine w t.first t.last) w.script t.at call answer t.fired t.moved t.actions
-      → AllKeepExpiries w.script w.run call t.moved × AllMoved (WasFront w t.first t.last) call t.moved → AreTrue w c t.first t.first [] t.actions t.last → AllByRecursion (λ f. IsClaimSpan w f f.body) t.fired
-      → AnswerHolds w t.first t.last c t.at t.actions call answer → FitsCall w c call answer before after
+      → AllKeepExpiries w.script w.run call t.moved × AllMoved (WasFront w t.first t.last) call t.moved
+      → AreTrue w c t.first t.first [] t.actions t.last → AnswerHolds w t.first t.last c t.at t.actions call answer → FitsCall w c call answer before after
   call_made_whole starts = call_made (omega (arith, starts)) (omega (arith, starts, kept.forward))
       (subst (λ n. AllByRecursion (λ x. n ≤ x.place) notes) (sym starts) (inside_behind (moves.first c) t.last notes kept.inside))

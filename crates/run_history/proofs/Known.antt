@@ -7,7 +7,7 @@ use Rattle.std.proofs.lemmas.Bool.{cases_lt}
 use Rattle.std.proofs.lemmas.List.{length-map, map-append, take-append-le}
 use Rattle.std.proofs.lemmas.Option.{same_Some, slice_get_within}
 use Rattle.seq_timer.specs.Histories as histories
-use Rattle.seq_timer.specs.Systems.{entries_of, shifts_of}
+use Rattle.seq_timer.specs.Systems.{entries_of, rises_of, shifts_of}
 use Rattle.seq_timer.specs.declared.standing.BaseEvent.{BaseEvent}
 use Rattle.seq_timer.specs.declared.system.SystemEntry.{SystemEntry}
 use Rattle.record_text.specs.declared.record.Entry.{Entry}
@@ -18,9 +18,14 @@ use Rattle.run_history.specs.Histories.{entry_shown}
 use Rattle.script_text.proofs.Lists.{All-append, All-weaker}
 use Rattle.run_history.specs.Receipts.{count, IsMade, PlacedEntry, receipt, Rises, ShowsEntry}
 use Rattle.run_history.specs.Traces.{all_entered}
-use Rattle.run_history.specs.Witnesses.{BasesList, OfBase, OfTimer, Owner, Shown, TimersList, entry_of_shown, is_owner, owner_of, owner_of_entry}
+use Rattle.run_history.specs.Promises.{GoesOn}
+use Rattle.run_history.specs.Runs.{Ending, IsJoined, witness_of}
+use Rattle.run_history.specs.Truths.{StoodBefore}
+use Rattle.script_text.specs.declared.script.Script.{Script}
+use Rattle.run_history.specs.Witnesses.{BasesList, CountersList, OfBase, OfRise, OfTimer, Owner, Shown, TimersList, Witness, entries_in, entry_of_shown, is_owner, owner_of, owner_of_entry}
 use Rattle.run_history.proofs.Kept.{Stops}
-use Rattle.run_history.proofs.Laid.{counts_more}
+use Rattle.run_history.proofs.Laid.{counts_more, counts_rise}
+use Rattle.run_history.proofs.Promise.{seen_first}
 use Rattle.run_history.proofs.Lists.{at_left}
 use Rattle.run_history.proofs.Owners.{and_one, bases_entry, count_cons, count_is, entries_at, entries_at-base, entries_at-timer, owner_is, timers_entry}
 use Rattle.run_history.proofs.Shown.{entry_place}
@@ -161,6 +166,35 @@ shift_made before more b event adds =
     (entries_at-base b (before ++ more) ∙ ap (map (bases_entry b)) adds ∙ map-append (bases_entry b) (shifts_of b before) (event ∷ [])
     ∙ ap (λ xs. xs ++ bases_entry b event ∷ []) (sym (entries_at-base b before)))
     refl (refl, tt)
+
+-- ---- how many of a list stand before a moment
+
+-- law: of the first entries, which a pass has seen, as many are rises of a counter as were seen
+pub rises_along : {s : Script} {e : Ending} (k : ℕ) (seen : List SystemEntry) → IsJoined s e → GoesOn seen e
+    → rises_of k (take (length seen) (entries_in (witness_of s e))) ≡ rises_of k seen
+rises_along k seen joined on =
+    ap (λ es. rises_of k (take (length seen) es)) (seen_first seen joined on) ∙ ap (rises_of k) (take-append_seam seen on.0)
+
+-- law: just those before it stand before an object's entry
+pub made_stood : (w : Witness) (order : List SystemEntry) (i number : ℕ) (x : PlacedEntry) → entries_in w ≡ order → IsMade order x
+    → receipt x ≡ (number, OfRise (suc i)) → StoodBefore w i number x.place
+made_stood w order i number x entries made is =
+    let counted : rises_of (suc i) (take x.place order) + 1 ≡ x.number =
+    subst (λ shown. count (owner_of shown) (take x.place order) + 1 ≡ x.number) (ap (λ (r : ℕ × Shown). r.1) is) made.number in
+    ap (λ es. rises_of (suc i) (take x.place es) + 1) entries ∙ counted ∙ ap (λ (r : ℕ × Shown). r.0) is
+
+-- law: an object that had just these entries at two moments had them at each one between
+pub stood_between : (w : Witness) (i number low n high : ℕ) → low ≤ n → n ≤ high → StoodBefore w i number low → StoodBefore w i number high
+    → StoodBefore w i number n
+stood_between w i number low n high le more one two =
+    let up : rises_of (suc i) (take low (entries_in w)) ≤ rises_of (suc i) (take n (entries_in w)) =
+    counts_rise (CountersList (suc i)) low n (entries_in w) le in
+    let on : rises_of (suc i) (take n (entries_in w)) ≤ rises_of (suc i) (take high (entries_in w)) =
+    counts_rise (CountersList (suc i)) n high (entries_in w) more in
+    between one two up on
+  where
+    between : {a b c : ℕ} → a + 1 ≡ number → c + 1 ≡ number → a ≤ b → b ≤ c → b + 1 ≡ number
+    between one two up on = omega (arith, one, two, up, on)
 
 -- ---- the order goes on
 

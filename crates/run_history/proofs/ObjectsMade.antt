@@ -1,7 +1,6 @@
--- Calls on objects that make an entry: from the moment at which the call found its timer, holding the object, to its own last entry of it.
+-- Calls on objects that make an entry: from the moment at which the call found the timer, holding the object, to the object's entry.
 use Rattle.std.proofs.Common.{◌<◌, true, false, ◌≡◌, ◌≤◌, ℕ, List, [], ◌∷◌, ◌++◌, Option, Some, None, arith, refl, sym, ◌∙◌, subst}
 use Rattle.std.specs.List.{AllByRecursion}
-use Rattle.std.proofs.lemmas.List.{append-nil}
 use Rattle.ktime.specs.Times.{last_time}
 use Rattle.ktime.specs.declared.mode.Mode.TheVariants as modes
 use Rattle.ktime.specs.declared.mode.Mode.{Mode}
@@ -35,10 +34,8 @@ use Rattle.run_history.specs.Witnesses.{Witness, timer_along}
 use Rattle.run_history.specs.Fits.{FitsCall, Seen}
 use Rattle.run_history.specs.Receipts.{PlacedEntry}
 use Rattle.run_history.specs.Rounds.{Spans}
-use Rattle.run_history.specs.Traces.{all_entered}
-use Rattle.run_history.specs.Truths.{DisarmedFirst, HasSpan, AnswerHolds, IsSpan, IsSpanBy, IsTrueEntry, IsTrueStart, SawRefusal, WasOffLine}
-use Rattle.run_history.proofs.Actions.{all_entered-append}
-use Rattle.run_history.proofs.Kept.{call_made, inside_behind, inside_below, IsKept, made_all, moment_of}
+use Rattle.run_history.specs.Truths.{AnswerHolds, DisarmedFirst, HadFromFirst, IsTrueEntry, IsTrueStart, SawRefusal, StoodBefore, WasOffLine}
+use Rattle.run_history.proofs.Kept.{call_made, IsKept, moment_of, Stops}
 use Rattle.run_history.proofs.OthersMade.{none_moved, plain}
 use Rattle.run_history.proofs.Plain.{IsPlain, plain_arms, plain_then}
 
@@ -55,10 +52,6 @@ plain_both : (timer : ℕ) (cancel : Option (ℕ × ℕ)) (start : List Action) 
 plain_both timer None start plain = plain
 plain_both timer (Some c) start plain = (tt, plain)
 
--- the object's entry is none of a timer
-but_made : (ds : List Action) (i number : ℕ) (entry : ObjectEntry) → all_entered (ds ++ Made i number entry ∷ []) ≡ all_entered ds
-but_made ds i number entry = all_entered-append ds (Made i number entry ∷ []) ∙ append-nil (all_entered ds)
-
 -- ---- a settime
 
 -- how a settime found its timer disarmed: it cancelled it, or it was idle when the call looked at it, holding the object
@@ -72,15 +65,17 @@ pub record IsSet (w : Witness) (c : Label) (notes : List PlacedEntry) (at begin 
   pub taken : AreValidFor (kind_of w.script timer) flags value interval
   pub arms : Arms (WasOffLine w begin last) w.script.limit timer (start_mode (kind_of w.script timer) flags) (nanoseconds_of value) at (base_of
       (kind_of w.script timer)) arm start
-  -- where it ended its part of the timer, which it had found disarmed, or cancelled first
+  -- where it had made its entries of the timer, which it had found disarmed, or cancelled first; the object's was yet to come
   pub ends : ℕ
   pub between : begin ≤ ends
   pub high : ends ≤ last
-  pub part : AllByRecursion (λ x. (begin ≤ x.place) × (x.place < ends)) notes
+  pub behind : AllByRecursion (λ x. begin ≤ x.place) notes
+  pub stops : Stops c notes (cancels timer cancel ++ start) ends
   pub idle : FoundIdle w timer cancel begin
-  -- what the object's entry tells of the start holds there, and the span is the whole part
+  -- what the object's entry tells of the start holds there, and the object had just the entries before it from the first moment on
   pub holds : IsTrueStart w timer number true arm ends
-  pub span : IsSpan w begin timer number ends
+  pub had : StoodBefore w timer number begin
+  pub stood : StoodBefore w timer number ends
 
 -- the object's entry of a settime
 abbrev pub settime_entry : ℕ → ℕ → TimeSpec → TimeSpec → SettimeReply → Armed → ObjectEntry
@@ -124,17 +119,16 @@ module _ (reply : SettimeReply) {w : Witness} {moves : Spans} {c : Label} {at be
       let kind = kind_of w.script timer in
       let entry = settime_entry at flags value interval reply arm in
       let actions = settime_actions timer cancel start number entry in
-      let stops = made_all kept set.ends (cancels timer cancel ++ start) (but_made (cancels timer cancel ++ start) timer number entry)
-      (inside_below begin set.ends notes set.part) in
       let plain = plain_both timer cancel start (plain_start (WasOffLine w begin last) w.script.limit timer (nanoseconds_of value) at (base_of kind)
       (start_mode kind flags) arm start set.arms) in
       let idle = disarmed (WasOffLine w begin last) w.script.limit w timer (nanoseconds_of value) at (base_of kind) begin
       (start_mode kind flags) cancel arm start number entry set.arms set.idle in
-      call_made kept low (omega (arith, set.between, set.high)) (inside_behind begin set.ends notes set.part)
+      call_made kept low (omega (arith, set.between, set.high)) set.behind
       (does reply actions (record { taken = set.taken; cancel = cancel; arm = arm; start = start; number = number; arms = set.arms; done = refl })) (tt, tt)
       (plain_then w c begin begin set.ends last [] (cancels timer cancel ++ start) (Made timer number entry) plain set.between set.high
-      (moment_of kept (cancels timer cancel ++ start) set.ends (omega (arith, low, set.between)) set.high stops, set.holds, set.span))
-      tt (seen reply actions refused idle)
+      (moment_of kept (cancels timer cancel ++ start) set.ends (omega (arith, low, set.between)) set.high set.stops,
+      record { true_start = set.holds; had = set.had; stood = set.stood }))
+      (seen reply actions refused idle)
     where
       does : (reply : SettimeReply) (ds : List Action) → MakesSettime (WasOffLine w begin last) w.script.limit
           (kind_of w.script timer) timer flags value interval at reply ds
@@ -158,36 +152,39 @@ pub record IsRearmed (w : Witness) (c : Label) (notes : List PlacedEntry) (at be
   pub ns : ℕ
   pub timely : ns ≤ last_time
   pub arms : Arms (WasOffLine w begin last) w.script.limit timer modes.Keep ns at (base_of (kind_of w.script timer)) arm start
+  -- where it had made its entries of the timer; the object's was yet to come
   pub ends : ℕ
   pub between : begin ≤ ends
   pub high : ends ≤ last
-  pub part : AllByRecursion (λ x. (begin ≤ x.place) × (x.place < ends)) notes
+  pub behind : AllByRecursion (λ x. begin ≤ x.place) notes
+  pub stops : Stops c notes start ends
   pub holds : IsTrueStart w timer number false arm ends
-  pub span : IsSpanBy w begin timer number arm ends
+  pub had : StoodBefore w timer number begin
+  pub stood : StoodBefore w timer number ends
 
 -- what such a call did
 abbrev pub rearming_actions : ℕ → List Action → ℕ → ObjectEntry → List Action
 rearming_actions timer start number entry = start ++ Made timer number entry ∷ []
 
-module _ {w : Witness} {moves : Spans} {c : Label} {at begin last timer : ℕ} {arm : Armed} {start : List Action} {number : ℕ} {notes : List PlacedEntry} {call : Call}
-    {answer : Answer} {before after : Seen} (entry : Armed → ObjectEntry)
+module _ {w : Witness} {moves : Spans} {c : Label} {at begin last timer : ℕ} {arm : Armed} {start : List Action} {number : ℕ} {notes : List PlacedEntry}
+    {call : Call} {answer : Answer} {before after : Seen} (entry : Armed → ObjectEntry)
     (kept : IsKept w moves c (plain at begin last (rearming_actions timer start number (entry arm))) notes call answer before after)
     (low : moves.first c ≤ begin) (rearmed : IsRearmed w c notes at begin last timer arm start number) where
   rearming_made : (IsTrueStart w timer number false arm rearmed.ends → IsTrueEntry w timer number (entry arm) rearmed.ends)
-      → (IsSpanBy w begin timer number arm rearmed.ends → HasSpan w begin timer number (entry arm) rearmed.ends)
+      → (StoodBefore w timer number begin → HadFromFirst w begin timer number (entry arm))
       → (MakesRearming (WasOffLine w begin last) w.script.limit (kind_of w.script timer) timer at entry (rearming_actions timer start number (entry arm))
       → Does (WasOffLine w begin last) w.script at call answer [] [] (rearming_actions timer start number (entry arm)))
       → AnswerHolds w begin last c at (rearming_actions timer start number (entry arm)) call answer → FitsCall w c call answer before after
-  rearming_made holds span does seen =
-      let stops = made_all kept rearmed.ends start (but_made start timer number (entry arm)) (inside_below begin rearmed.ends notes rearmed.part) in
-      call_made kept low (omega (arith, rearmed.between, rearmed.high)) (inside_behind begin rearmed.ends notes rearmed.part)
+  rearming_made holds had does seen =
+      call_made kept low (omega (arith, rearmed.between, rearmed.high)) rearmed.behind
       (does (record { arm = arm; ns = rearmed.ns; start = start; number = number; timely = rearmed.timely; arms = rearmed.arms; done = refl }))
       (none_moved _ call, none_moved _ call)
       (plain_then w c begin begin rearmed.ends last [] start (Made timer number (entry arm))
       (plain_start (WasOffLine w begin last) w.script.limit timer rearmed.ns at (base_of
       (kind_of w.script timer)) modes.Keep arm start rearmed.arms) rearmed.between rearmed.high
-      (moment_of kept start rearmed.ends (omega (arith, low, rearmed.between)) rearmed.high stops, holds rearmed.holds, span rearmed.span))
-      tt seen
+      (moment_of kept start rearmed.ends (omega (arith, low, rearmed.between)) rearmed.high rearmed.stops,
+      record { true_start = holds rearmed.holds; had = had rearmed.had; stood = rearmed.stood }))
+      seen
 
 module _ {w : Witness} {moves : Spans} {c : Label} {at begin last timer : ℕ} {arm : Armed} {start : List Action} {number : ℕ} {notes : List PlacedEntry}
     {before after : Seen} where

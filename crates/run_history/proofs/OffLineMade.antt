@@ -46,7 +46,7 @@ pub offline_made : {w : Witness} {moves : Spans} {c : Label} {at first last : �
 offline_made {w = w} {c = c} {at = at} {first = first} {last = last} base heir budget moved answer kept starts does keeps holds =
     call_made_whole kept starts does keeps
     (plain_true w c first first last [] (flat_map (evacuates heir at) moved ++ shift_by base heir answer)
-    (plain_evacuations heir at moved (shift_by base heir answer) (plain_shift answer)) (omega (arith, starts, kept.forward))) tt holds
+    (plain_evacuations heir at moved (shift_by base heir answer) (plain_shift answer)) (omega (arith, starts, kept.forward))) holds
   where
     plain_shift : (answer : Answer) → AllByRecursion IsPlain (shift_by base heir answer)
     plain_shift (answers.Offline count stamp) = (tt, tt)
@@ -57,4 +57,4 @@ pub online_made : {w : Witness} {moves : Spans} {c : Label} {at first last : ℕ
     → IsKept w moves c (plain at first last (Shifted base stamp shifts.Online ∷ [])) notes (calls.Online base) (answers.Online stamp) before after
     → first ≡ moves.first c → FitsCall w c (calls.Online base) (answers.Online stamp) before after
 online_made {first = first} base stamp kept starts =
-    call_made_whole kept starts refl (tt, tt) (first, omega arith, tt, omega (arith, starts, kept.forward)) tt tt
+    call_made_whole kept starts refl (tt, tt) (first, omega arith, tt, omega (arith, starts, kept.forward)) tt

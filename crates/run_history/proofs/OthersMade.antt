@@ -47,7 +47,7 @@ pub quiet_made : {w : Witness} {moves : Spans} {c : Label} {at last : ℕ} {note
     → Does (WasOffLine w last last) w.script at call answer [] [] [] → AnswerHolds w last last c at [] call answer → FitsCall w c call answer before after
 quiet_made {w = w} {last = last} {notes = notes} {call = call} kept does seen =
     call_made kept kept.forward (omega arith) (none_of notes kept.entered) does
-    (none_moved _ call, none_moved _ call) (omega arith) tt seen
+    (none_moved _ call, none_moved _ call) (omega arith) seen
   where
     none_of : (xs : List PlacedEntry) → map receipt xs ≡ [] → AllByRecursion (λ x. last ≤ x.place) xs
     none_of [] none = tt
@@ -60,7 +60,7 @@ pub cancelled_made : {w : Witness} {moves : Spans} {c : Label} {at first last : 
     (calls.Cancel timer) (answers.Cancelled generation) before after
     → first ≡ moves.first c → FitsCall w c (calls.Cancel timer) (answers.Cancelled generation) before after
 cancelled_made {first = first} timer number generation kept starts =
-    call_made_whole kept starts (number, refl) (tt, tt) (first, omega arith, tt, omega (arith, starts, kept.forward)) tt tt
+    call_made_whole kept starts (number, refl) (tt, tt) (first, omega arith, tt, omega (arith, starts, kept.forward)) tt
 
 -- a write of the clock that it took
 pub wrote_made : {w : Witness} {moves : Spans} {c : Label} {at first last : ℕ} {notes : List PlacedEntry} {before after : Seen} (stamp : ℕ) (write : Write)
@@ -68,7 +68,7 @@ pub wrote_made : {w : Witness} {moves : Spans} {c : Label} {at first last : ℕ}
     → moves.first c ≤ first → first ≤ last → AllByRecursion (λ x. first ≤ x.place) notes
     → FitsCall w c (calls.Clock write) (answers.Clock stamp) before after
 wrote_made {first = first} stamp write kept low high behind =
-    call_made kept low high behind refl (tt, tt) (first, omega arith, tt, high) tt tt
+    call_made kept low high behind refl (tt, tt) (first, omega arith, tt, high) tt
 
 -- a start's entries tell nothing that must be looked up
 pub start_true : (w : Witness) (c : Label) (first from to timer reading : ℕ) (request : StartRequest) (before : List Action) (a : Arming) → from ≤ to
@@ -86,4 +86,4 @@ pub started_made : {w : Witness} {moves : Spans} {c : Label} {at first last : �
     → FitsCall w c (calls.Start timer request) (answers.Started a.number a.placement.base (was_armed_before a.outs a.was_armed)) before after
 started_made {w = w} {c = c} {at = at} {first = first} {last = last} timer request a kept starts arms =
     call_made_whole kept starts (a, refl, refl, refl, refl, arms) (tt, tt)
-    (start_true w c first first last timer at request [] a (omega (arith, starts, kept.forward))) tt tt
+    (start_true w c first first last timer at request [] a (omega (arith, starts, kept.forward))) tt

@@ -10,12 +10,14 @@ use Rattle.seq_timer.specs.declared.system.SystemEntry.{SystemEntry}
 use Rattle.seq_timer.specs.declared.system.SystemEntry.TheVariants as entries
 use Rattle.record_text.specs.declared.record.BaseLine.{BaseLine}
 use Rattle.record_text.specs.declared.record.ClockLine.{ClockLine}
+use Rattle.record_text.specs.declared.record.ObjectLine.{ObjectLine}
 use Rattle.record_text.specs.declared.record.RunRecord.{RunRecord}
 use Rattle.record_text.specs.declared.record.TimerLine.{TimerLine}
 use Rattle.run_history.specs.Actions.{also}
 use Rattle.run_history.specs.Histories.{lines_of_base, lines_of_timer}
+use Rattle.run_history.specs.Objects.{lines_of_object}
 use Rattle.run_history.specs.Receipts.{count, no_line}
-use Rattle.run_history.specs.Witnesses.{BasesList, CountersList, OfBase, OfRise, OfTimer, Owner, Shown, TimersList, entry_of_shown, is_owner, line_of_base, line_of_timer, line_of_write, lines_at, owner_of, owner_of_entry}
+use Rattle.run_history.specs.Witnesses.{BasesList, CountersList, OfBase, OfRise, OfTimer, Owner, Shown, TimersList, entry_of_shown, is_owner, line_of_base, line_of_object, line_of_timer, line_of_write, lines_at, owner_of, owner_of_entry}
 
 pub owner_itself : (o : Owner) → is_owner o o ≡ true
 owner_itself (TimersList t) = eq-eqb t t refl
@@ -65,7 +67,13 @@ owner_at r (CountersList zero) n = of_writes r.clock n
     of_writes [] n = refl
     of_writes (line ∷ lines) zero = refl
     of_writes (line ∷ lines) (suc n) = of_writes lines n
-owner_at r (CountersList (suc k)) n = refl
+owner_at r (CountersList (suc i)) n = of_objects (lines_of_object r i) n
+  where
+    of_objects : (lines : List ObjectLine) (n : ℕ)
+        → owner_of (get_or (map (line_of_object i) lines) n (no_line (CountersList (suc i)))).shown ≡ CountersList (suc i)
+    of_objects [] n = refl
+    of_objects (line ∷ lines) zero = refl
+    of_objects (line ∷ lines) (suc n) = of_objects lines n
 
 -- ---- the entries of a list
 

@@ -1,17 +1,14 @@
--- Points of a list of its own table, the clock's or an object's: before these of the call's own entries there, and behind those.
+-- Points of a list: before these of the call's own entries there, and behind those.
 use Rattle.std.proofs.Common.{◌≡◌, ◌<◌, ◌≤◌, ℕ, ◌+◌, zero, suc, true, false, if◌then◌else◌, List, [], ◌∷◌, ◌++◌, length, map, take, filter, arith, refl, ap, ◌∙◌, subst}
 use Rattle.std.specs.List.{AllByRecursion}
 use Rattle.std.proofs.lemmas.List.{take-map}
 use Rattle.record_text.specs.declared.record.Label.{Label}
-use Rattle.run_history.specs.Actions.{Action, also, made, own, wrote}
+use Rattle.run_history.specs.Actions.{Action, also, own, wrote}
 use Rattle.run_history.specs.Histories.{clock_labels}
-use Rattle.run_history.specs.Objects.{lines_of_object, object_labels}
 use Rattle.run_history.specs.Order.{is_label, IsLabel, IsPoint, made_by}
 use Rattle.script_text.specs.declared.script.Script.{Script}
 use Rattle.run_history.specs.Witnesses.{Witness}
 use Rattle.run_history.specs.Rounds.{IsLaid, Spans}
-use Rattle.run_history.specs.Truths.{IsObjectPoint}
-use Rattle.run_history.proofs.Actions.{made-append}
 use Rattle.run_history.proofs.Items.{own_rises, RiseIn}
 use Rattle.run_history.proofs.Rounds.{within_span}
 
@@ -79,10 +76,6 @@ point_among s label thing c k xs p early late n laid is low high own_are below b
       ∙ ap length (own_first label thing c k n xs early late own_are below behind);
 }
 
-less : {A : Type 0} (n : ℕ) (es : List (ℕ × A)) → AllByRecursion (λ e. e.0 ≤ n) es → AllByRecursion (λ e. e.0 < 1 + n) es
-less n [] all = tt
-less n (e ∷ es) all = (omega (arith, all.0), less n es all.1)
-
 more : {A : Type 0} (n : ℕ) (es : List (ℕ × A)) → AllByRecursion (λ e. n < e.0) es → AllByRecursion (λ e. 1 + n ≤ e.0) es
 more n [] all = tt
 more n (e ∷ es) all = (omega (arith, all.0), more n es all.1)
@@ -94,12 +87,3 @@ pub reading_from : (w : Witness) (c : Label) (p : Spans) (actions : List Action)
 reading_from w c p actions n laid is low high own_are behind =
     point_among w.script (λ line. line.label) (λ line. line.write) c 1 w.run.clock p [] (wrote actions) n laid is low high own_are tt
     (more n (wrote actions) behind)
-
--- how many of an object's entries a call had seen when it had done these things, and not yet those
-pub object_point : (w : Witness) (c : Label) (i : ℕ) (p : Spans) (before rest : List Action) (n : ℕ) → IsLaid w.script (object_labels w.run i) p
-    → IsLabel w.script c → p.first c ≤ n → n ≤ p.last c
-    → own (λ line. line.label) (λ line. line.entry) c 1 (lines_of_object w.run i) ≡ made i (before ++ rest)
-    → AllByRecursion (λ e. e.0 ≤ n) (made i before) → AllByRecursion (λ e. n < e.0) (made i rest) → IsObjectPoint w c before i n
-object_point w c i p before rest n laid is low high own_are below behind =
-    point_among w.script (λ line. line.label) (λ line. line.entry) c 1 (lines_of_object w.run i) p (made i before) (made i rest) n laid is low high
-    (own_are ∙ made-append i before rest) (less n (made i before) below) (more n (made i rest) behind)

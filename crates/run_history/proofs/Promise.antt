@@ -8,7 +8,6 @@ use Rattle.seq_timer.specs.declared.system.SystemEntry.{SystemEntry}
 use Rattle.record_text.specs.declared.record.Answer.{Answer}
 use Rattle.record_text.specs.declared.record.ClockLine.{ClockLine}
 use Rattle.record_text.specs.declared.record.Label.{Label}
-use Rattle.run_history.specs.Actions.{Action, made}
 use Rattle.run_history.specs.Histories.{reading_at}
 use Rattle.run_history.specs.Order.{CallInRound, calls_of, IsLabel}
 use Rattle.script_text.specs.declared.script.Call.{Call}
@@ -18,10 +17,9 @@ use Rattle.run_history.specs.Fits.{FitsInTurn, FitsLane, Seen, unseen}
 use Rattle.run_history.specs.Promises.{GoesOn, GoesOnClock, HasLog, HasLogs, IsRightLog, IsPromisedInTurn, IsPromisedSoFar, IsSoFar}
 use Rattle.run_history.specs.Receipts.{AreAll}
 use Rattle.run_history.specs.Rounds.{label_at}
-use Rattle.run_history.specs.Runs.{CallLog, clock_spans, witness_of, Ending, IsJoined, moves_spans, object_spans}
-use Rattle.run_history.specs.Truths.{IsObjectPoint}
+use Rattle.run_history.specs.Runs.{CallLog, clock_spans, witness_of, Ending, IsJoined, moves_spans}
 use Rattle.run_history.proofs.Kept.{IsKept}
-use Rattle.run_history.proofs.Points.{object_point, reading_from}
+use Rattle.run_history.proofs.Points.{reading_from}
 
 -- ---- one call, by its log
 
@@ -47,16 +45,7 @@ module _ {s : Script} {e : Ending} {c : Label} {log : CallLog} (joined : IsJoine
             (of (λ l. l.clock.0 ≤ log.trace.at) logged.reading.0) (of (λ l. log.trace.at ≤ l.clock.1) logged.reading.1) has.clock logged.writes;
         clock_steps = logged.clock_steps;
         move_steps = (of (λ l. before.moves ≤ l.moves.0) logged.move_steps.0, of (λ l. l.moves.1 ≤ after.moves) logged.move_steps.1);
-        object_steps = logged.object_steps;
       }
-
-  -- law: a number of an object's entries that the call had seen when it had done these things, and not yet those
-  pub object_point_from : (i n : ℕ) (before rest : List Action) → log.trace.actions ≡ before ++ rest → (log.objects i).0 ≤ n → n ≤ (log.objects i).1
-      → AllByRecursion (λ x. x.0 ≤ n) (made i before) → AllByRecursion (λ x. n < x.0) (made i rest) → IsObjectPoint (witness_of s e) c before i n
-  object_point_from i n before rest parts low high below behind =
-      object_point (witness_of s e) c i (object_spans e i) before rest n (joined.objects_laid i) is
-      (subst (λ (l : CallLog). (l.objects i).0 ≤ n) (sym has.kept) low) (subst (λ (l : CallLog). n ≤ (l.objects i).1) (sym has.kept) high)
-      (has.objects i ∙ ap (made i) parts) below behind
 
 -- ---- what its passes had seen
 

@@ -6,13 +6,12 @@ use Rattle.seq_timer.specs.declared.system.SystemEntry.{SystemEntry}
 use Rattle.record_text.specs.declared.record.Label.{Label}
 use Rattle.record_text.specs.declared.record.RunRecord.{RunRecord}
 use Rattle.run_history.specs.Histories.{clock_labels, history_of}
-use Rattle.run_history.specs.Objects.{object_labels}
 use Rattle.run_history.specs.Order.{is_label, IsLabel}
 use Rattle.script_text.specs.declared.script.Script.{Script}
 use Rattle.run_history.specs.Witnesses.{labels, Move, Shown}
 use Rattle.run_history.specs.Fits.{Fits, FitsIn}
 use Rattle.run_history.specs.Receipts.{AreAll, shape, weave}
-use Rattle.run_history.specs.Runs.{clock_spans, witness_of, Ending, IsEnding, IsJoined, IsRun, moves_spans, notes_in, object_spans}
+use Rattle.run_history.specs.Runs.{clock_spans, witness_of, Ending, IsEnding, IsJoined, IsRun, moves_spans, notes_in}
 use Rattle.run_history.proofs.Filed.{receipts_from}
 use Rattle.run_history.proofs.Labels.{label_itself}
 use Rattle.run_history.proofs.Laid.{are_all, AreReceipts, at_among, is_among}
@@ -54,7 +53,6 @@ module _ (s : Script) (e : Ending) (ends : IsEnding s e) where
           (sym (length-map (weave e.run [] e.order) (λ (m : Move). m.label) ∙ length_weave e.run [] e.order)) (ends.whole c is);
     };
     clock_laid = ends.clock_laid;
-    objects_laid = ends.objects_laid;
   }
 
   -- each timer's lines show its part of the order
@@ -71,15 +69,12 @@ module _ (s : Script) (e : Ending) (ends : IsEnding s e) where
     clock_calls = labels_from s (clock_labels e.run) (clock_spans e) ends.clock_laid;
     move_calls = labels_from s (labels (witness_of s e)) (moves_spans e) joined_from.moves_laid;
     looks = ends.looks;
-    object_calls = λ i. labels_from s (object_labels e.run i) (object_spans e i) (ends.objects_laid i);
     skips = ends.skips;
     writes = ends.writes;
     history = joined_from.one;
     object_histories = ends.object_histories;
     clock_order = in_order s (clock_labels e.run) (clock_spans e) ends.clock_laid;
     order = in_order s (labels (witness_of s e)) (moves_spans e) joined_from.moves_laid;
-    object_order = λ i. in_order s (object_labels e.run i) (object_spans e i) (ends.objects_laid i);
-    object_spans = ends.spans;
     calls = λ lane. ends.calls lane joined_from;
   }
 

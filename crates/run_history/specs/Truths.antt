@@ -130,8 +130,8 @@ HadFromFirst w first i number (object_entries.Gettime reading arm left interval)
 -- an entry of an object was made while a call had the object, and what it tells of its timer's start is true
 pub record MadeInTurn (w : Witness) (first i number : ℕ) (entry : ObjectEntry) (n : ℕ) : Type 0 where
   pub true_start : IsTrueEntry w i number entry n
-  pub first : HadFromFirst w first i number entry
-  pub last : StoodBefore w i number n
+  pub had : HadFromFirst w first i number entry
+  pub stood : StoodBefore w i number n
 
 -- what a thing that a call did tells of a timer or an object is true, at a moment after what the call did before it
 abbrev pub IsTrue : Witness → Label → ℕ → List Action → Action → ℕ → Type 0
