@@ -19,7 +19,7 @@ use Rattle.run_history.specs.Fits.{Fits}
 use Rattle.run_cases.specs.Fitting.{accept_entry, accepted_record, accepted_script, beside, beside_script, cancelled_record, expired_lines, idle_record, idle_script, kept_start, late_record, moved_record, moved_script, moved_start, rearming_start, none_entry, running_record, set_entry, told_record, told_script, trigger_entry}
 use Rattle.run_cases.specs.Lines.{at, start, cancel_entry, out_entry}
 use Rattle.run_cases.proofs.Calls.{are_placed, IsRight, right}
-use Rattle.run_cases.proofs.Witnesses.{armed_as, armed_by, witness_along, witness_by, did, done_by, fired, stays, ran, step, three, two}
+use Rattle.run_cases.proofs.Witnesses.{armed_as, armed_by, in_its_turn, witness_along, witness_by, did, done_by, fired, stays, ran, step, three, two}
 use Rattle.run_cases.proofs.Small.{fits_by}
 use Rattle.run_cases.proofs.Tests.{le, lt, point_passes}
 
@@ -99,7 +99,7 @@ told_fits = fits_by told_witness (record {
           (point_passes _ _ _ _ _ refl, record { stamp = refl; holds = refl }, tt),
           (2, le refl, tt, le refl),
         ),
-      )) (tt, tt) tt) tt)
+      )) tt) tt)
       ) tt;
 })
 
@@ -204,7 +204,7 @@ expired_witness told moment = beside_witness (beside expired_lines told (answers
     (ran 0 0 (fired 2 1 [] 3 false ∷ []) 1 3)
 
 expired_fits : (told : Answer) (moment : ℕ) → are_placed (expired_witness told moment) 0 0 0 0 (calls_of beside_script 0) ≡ true
-    → IsRight (expired_witness told moment) (at 0 1) (calls.Cancel 0) told 0 0
+    → IsRight (expired_witness told moment) (at 0 1) (calls.Cancel 0) told
     → Fits beside_script (beside expired_lines told (answers.Done 0 (0 ∷ [])))
 unfolding after_entry changed
 expired_fits told moment placed cancel = fits_by (expired_witness told moment) (record {
@@ -223,7 +223,7 @@ expired_fits told moment placed cancel = fits_by (expired_witness told moment) (
       (two cancel tt)
       ) (two (
       two (right refl refl refl (refl, tt) (refl, tt) (refl, tt)
-      (record { one_reading = refl; claimed = refl; done = refl; contexts = (refl, tt); bodies = ((refl, refl), tt) }, lt refl) (inl refl) (tt, tt)
+      (record { one_reading = refl; claimed = refl; done = refl; contexts = (refl, tt); bodies = ((refl, refl), tt) }, lt refl) (inl refl)
       (done_by (expired_witness told moment) contexts.Hard 0 0 3 refl refl (refl, tt) (λ clock. (refl, tt)))) tt
       ) tt);
 })
@@ -242,18 +242,15 @@ late_fits = expired_fits (answers.Idle 3) 3 refl (right refl refl refl (refl, tt
 
 -- ---- a POSIX timer is set, expires, and has its signal accepted, which arms it again; a second acceptance finds none
 
--- the spans of the object's entries, by their numbers
-abbrev accepted_spans : ℕ → ℕ × ℕ
-accepted_spans k = get_or ((0, 0) ∷ (0, 1) ∷ (1, 2) ∷ (3, 4) ∷ (4, 4) ∷ []) k (0, 0)
-
 -- its witness
 abbrev accepted_witness : Witness
 accepted_witness = witness_along accepted_script accepted_record
-    (TimersList 0 ∷ CountersList 0 ∷ TimersList 0 ∷ TimersList 0 ∷ CountersList 0 ∷ TimersList 0 ∷ [])
-    ((did 0 (Entered 0 1 (start modes.Abs 100 100) ∷ Made 0 1 set_entry ∷ []) 0 1
-    ∷ did 0 (Wrote 1 (writes.Advance 100) ∷ []) 1 2 ∷ ran 0 1 (fired 2 1 (Made 0 2 trigger_entry ∷ []) 3 false ∷ []) 2 4
-    ∷ did 1 (Wrote 2 (writes.Advance 35) ∷ []) 4 5 ∷ did 2 (Entered 0 4 rearming_start ∷ Made 0 3 accept_entry ∷ []) 5 6
-    ∷ did 2 (Made 0 4 none_entry ∷ []) 6 6 ∷ did 2 [] 6 6 ∷ []) ∷ []) (λ i. accepted_spans)
+    (TimersList 0 ∷ CountersList 1 ∷ CountersList 0 ∷ TimersList 0 ∷ CountersList 1 ∷ TimersList 0 ∷ CountersList 0 ∷ TimersList 0 ∷ CountersList 1
+    ∷ CountersList 1 ∷ [])
+    ((did 0 (Entered 0 1 (start modes.Abs 100 100) ∷ Made 0 1 set_entry ∷ []) 0 2
+    ∷ did 0 (Wrote 1 (writes.Advance 100) ∷ []) 2 3 ∷ ran 0 1 (fired 2 1 (Made 0 2 trigger_entry ∷ []) 3 false ∷ []) 3 6
+    ∷ did 1 (Wrote 2 (writes.Advance 35) ∷ []) 6 7 ∷ did 2 (Entered 0 4 rearming_start ∷ Made 0 3 accept_entry ∷ []) 7 9
+    ∷ did 2 (Made 0 4 none_entry ∷ []) 9 10 ∷ did 2 [] 10 10 ∷ []) ∷ [])
 
 -- law: it fits
 pub accepted_fits : Fits accepted_script accepted_record
@@ -267,8 +264,8 @@ accepted_fits = fits_by accepted_witness (record {
   bases = (refl, tt);
   clock = refl;
   objects = (refl, tt);
-  history = two (step refl (inr refl, inl (lt refl)) refl tt) (two tt (two (step refl (refl, refl, refl, refl, le refl) refl (refl, refl))
-      (two (step refl refl refl tt) (two tt (two (step refl (inr refl, inl (lt refl)) refl tt) tt)))));
+  history = two (step refl (inr refl, inl (lt refl)) refl tt) (two tt (two tt (two (step refl (refl, refl, refl, refl, le refl) refl (refl, refl))
+      (two tt (two (step refl refl refl tt) (two tt (two (step refl (inr refl, inl (lt refl)) refl tt) (two tt (two tt tt)))))))));
   object_histories = two (two (refl, (refl, (refl, (refl, tt)))) (three (lt refl, refl, le refl, le refl, (λ e. absurd (cc), λ e. absurd (cc))) refl
       (three (lt refl) refl (three (lt refl, (λ e. absurd (cc), λ e. absurd (cc))) refl (three (lt refl, (λ e. refl, λ e. refl)) refl tt))))) tt;
   placed = (refl, tt);
@@ -281,13 +278,13 @@ accepted_fits = fits_by accepted_witness (record {
         number = 1;
         arms = (armed_by 1 100, refl, refl, stays refl refl refl);
         done = refl;
-      }) (inr (0, le refl, tt, (1, le refl, (point_passes _ _ _ _ _ refl, (refl, (refl, refl, λ e. refl)), refl), le refl))) tt
+      }) (inr (0, le refl, tt, (1, le refl, (point_passes _ _ _ _ _ refl, in_its_turn (refl, (refl, refl, λ e. refl)) refl refl), le refl)))
       (record { armed = refl; running = refl; moving = refl }))
       (two (right refl refl refl (refl, tt) (refl, tt) (refl, tt) refl (inl refl) tt)
       (two (right refl refl refl (refl, tt) (refl, tt) (refl, tt)
       (record { one_reading = refl; claimed = refl; done = refl; contexts = (refl, tt); bodies = ((inl (2, true, refl), refl), tt) }, lt refl)
-      (inr (2, le refl, point_passes _ _ _ _ _ refl, (3, le refl, (point_passes _ _ _ _ _ refl, tt, tt), (3, le refl, tt, le refl))))
-      ((1, refl, refl), tt) (done_by accepted_witness contexts.Hard 1 0 4 refl refl (refl, tt) (λ clock. (refl, tt))))
+      (inr (3, le refl, point_passes _ _ _ _ _ refl, (4, le refl, (point_passes _ _ _ _ _ refl, in_its_turn tt tt refl), (5, le refl, tt, le refl))))
+      (done_by accepted_witness contexts.Hard 1 0 6 refl refl (refl, tt) (λ clock. (refl, tt))))
       (two (right refl refl refl (refl, tt) (refl, tt) (refl, tt) refl (inl refl) tt)
       (two (right refl refl refl (refl, tt) (refl, tt) (refl, tt) (record {
         arm = armings.Generation 4;
@@ -297,10 +294,10 @@ accepted_fits = fits_by accepted_witness (record {
         timely = le refl;
         arms = (armed_by 4 140, refl, refl, stays refl refl refl);
         done = refl;
-      }) (inr (5, le refl, tt, (6, le refl, (point_passes _ _ _ _ _ refl, (refl, (refl, refl, λ e. refl)), refl), le refl))) tt tt)
+      }) (inr (7, le refl, tt, (8, le refl, (point_passes _ _ _ _ _ refl, in_its_turn (refl, (refl, refl, λ e. refl)) refl refl), le refl))) tt)
       (two (right refl refl refl (refl, tt) (refl, tt) (refl, tt)
       (record { arm = armings.None; ns = 0; start = []; number = 4; timely = le refl; arms = refl; done = refl })
-      (inr (6, le refl, (point_passes _ _ _ _ _ refl, tt, record { empty = refl; seen = λ e. le refl }), le refl)) tt tt)
-      (two (right refl refl refl (refl, tt) (refl, tt) (refl, tt) refl (inl refl) (point_passes _ _ _ _ _ refl, refl)) tt))))))
+      (inr (9, le refl, (point_passes _ _ _ _ _ refl, in_its_turn tt refl refl), le refl)) tt)
+      (two (right refl refl refl (refl, tt) (refl, tt) (refl, tt) refl (inl refl) (refl, refl)) tt))))))
       ) tt;
 })

@@ -2,6 +2,7 @@ pub mod Calls
 pub mod Witnesses
 pub mod FittingRecords
 pub mod OffLine
+pub mod Moments
 pub mod Orders
 pub mod Settimes
 pub mod Small

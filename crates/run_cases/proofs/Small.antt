@@ -2,6 +2,7 @@
 use Rattle.std.proofs.Common.{◌≡◌, ◌≤◌, ◌&&◌, ℕ, ◌+◌, zero, suc, Bool, true, false, nat_eq, nat_lt, List, [], ◌∷◌, length, map, arith, refl, sym, ap, ◌∙◌, subst}
 use Rattle.std.specs.List.{AllByRecursion, list_all}
 use Rattle.std.proofs.lemmas.Bool.{and_parts, eqb-true}
+use Rattle.std.proofs.lemmas.Bool.Decides.{nat_tests}
 use Rattle.std.proofs.lemmas.List.{get_or_past, length-map, nil_from_length}
 use Rattle.clock_model.specs.Clocks.{at_stamp}
 use Rattle.seq_timer.specs.Systems.{IsSystemHistory}
@@ -108,8 +109,11 @@ not_base r b (CountersList k) past less = refl
 not_object : (r : RunRecord) (i : ℕ) (o : Owner) → length r.objects ≤ i → is_list r o ≡ true → is_owner o (CountersList (suc i)) ≡ false
 not_object r i (TimersList t) past less = refl
 not_object r i (BasesList b) past less = refl
-not_object r i (CountersList zero) past less = refl
-not_object r i (CountersList (suc j)) past less = other j (length r.objects) i less past
+not_object r i (CountersList zero) past less = grind (arith, nat_tests)
+not_object r i (CountersList (suc j)) past less = no_later j (length r.objects) i less past
+  where
+    no_later : (j n i : ℕ) → nat_lt j n ≡ true → n ≤ i → nat_eq (suc j) (suc i) ≡ false
+    no_later j n i less past = grind (arith, nat_tests)
 
 -- law: so each list's moves are its lines
 pub each_owner : (r : RunRecord) (ms : List Move) → list_all (λ m. is_list r (owner_of m.shown)) ms ≡ true

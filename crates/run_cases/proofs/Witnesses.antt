@@ -16,6 +16,7 @@ use Rattle.seq_timer.specs.declared.system.TimerEntry.{TimerEntry}
 use Rattle.seq_timer.proofs.Systems.{after_entries-entries_of}
 use Rattle.record_text.specs.declared.record.ClockLine.{ClockLine}
 use Rattle.seq_timer.specs.declared.event.Restarted.TheVariants as restarts
+use Rattle.record_text.specs.declared.record.ObjectEntry.{ObjectEntry}
 use Rattle.record_text.specs.declared.record.RunRecord.{RunRecord}
 use Rattle.script_text.specs.declared.script.LaneCall.{LaneCall}
 use Rattle.script_text.specs.declared.script.Round.{Round}
@@ -28,7 +29,7 @@ use Rattle.run_history.specs.Starts.{Arming, IsArming, IsJustBefore, IsSentBy, f
 use Rattle.run_history.specs.Calls.{fires}
 use Rattle.run_history.specs.Witnesses.{Witness, entries_in, entry_of_move, Fired, is_owner, Move, moves_on, OfBase, OfRise, OfTimer, Owner, owner_of, Shown, system_along, timer_along, TimersList, Trace}
 use Rattle.run_history.specs.Receipts.{move_at}
-use Rattle.run_history.specs.Truths.{IsDone}
+use Rattle.run_history.specs.Truths.{HadFromFirst, IsDone, IsTrueEntry, MadeInTurn, StoodBefore}
 use Rattle.run_history.proofs.OwnHistories.{entries_on, own_entry}
 use Rattle.run_cases.proofs.Tests.{all_true, le, lt, other}
 
@@ -93,6 +94,11 @@ two a b = (a, b)
 
 pub three : {A B C : Type 0} → A → B → C → A × B × C
 three a b c = (a, b, c)
+
+-- an entry of an object was made in its turn
+pub in_its_turn : {w : Witness} {first i number n : ℕ} {entry : ObjectEntry} → IsTrueEntry w i number entry n → HadFromFirst w first i number entry
+    → StoodBefore w i number n → MadeInTurn w first i number entry n
+in_its_turn true_start had stood = record { true_start = true_start; had = had; stood = stood }
 
 -- a start that makes one entry, on the base that is asked for, is made so
 pub stays : {Reached : ℕ → ℕ → Type 0} {limit base : ℕ} {a : Arming} → nat_le a.number limit ≡ true → a.outs ≡ [] → base ≡ a.asked

@@ -209,4 +209,4 @@ astray_doesnt_fit fits =
 
 -- law: it does not fit
 pub versions_dont_fit : Fits versions_script versions_record → ⊥
-versions_dont_fit fits = let same : versions.One ≡ versions.Two = (opened versions_script versions_record fits).3.version in cc
+versions_dont_fit fits = let same : versions.One ≡ versions.Two = (opened versions_script versions_record fits).2.version in cc

@@ -13,8 +13,8 @@ pub use fitting::{
 };
 pub use wrong::{
     a_base_comes_on_line_by_an_entry, a_base_goes_off_line_empty, a_hard_run_claims_no_soft_timer,
-    a_moved_timer_keeps_its_expiry, a_record_is_of_its_scripts_version, a_settime_cancels_first,
-    an_expiry_run_is_done_at_one_moment, entries_of_objects_and_timers_dont_cross,
+    a_moved_timer_keeps_its_expiry, a_record_is_of_its_scripts_version, 
+    an_expiry_run_is_done_at_one_moment, 
     equal_expiries_are_claimed_in_turn, no_claim_looks_past_the_first_timer,
     no_function_runs_before_the_write_that_makes_it_due, no_hard_expiry_is_missed,
     no_run_is_done_by_an_old_reading, no_start_ends_on_a_base_off_line,

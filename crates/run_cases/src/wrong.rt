@@ -39,19 +39,6 @@ pub fn no_run_is_done_by_an_old_reading()
     ensures { Fits fitting.nothing_script wrong.stale_record → ⊥ }
 {}
 
-/// A settime of an armed POSIX timer doesn't leave its cancel out.
-#[tactic(auto, using(crate::proofs::WrongRecords::uncancelled_doesnt_fit))]
-pub fn a_settime_cancels_first()
-    ensures { Fits wrong.uncancelled_script wrong.uncancelled_record → ⊥ }
-{}
-
-/// An object's entries stand in the order of its timer's: those of a settime and of an expiry, and those of two settimes.
-#[tactic(auto, using(crate::proofs::WrongRecords::crossed_doesnt_fit, crate::proofs::WrongRecords::settimes_dont_fit))]
-pub fn entries_of_objects_and_timers_dont_cross()
-    ensures expiry { Fits wrong.crossed_script wrong.crossed_record → ⊥ }
-    ensures settimes { Fits wrong.settimes_script wrong.settimes_record → ⊥ }
-{}
-
 /// A timer isn't claimed before its soft expiry.
 #[tactic(auto, using(crate::proofs::WrongRecords::soon_doesnt_fit))]
 pub fn no_timer_expires_before_its_soft_expiry()
