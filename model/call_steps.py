@@ -164,7 +164,8 @@ class CallSteps(ObjectSteps):
     def do_offline(self, B, H, N):
         self.answers("off", "busy", "more", "spent", "already", "heiroff", "basespent")
         if self.told in ("already", "heiroff", "basespent"):
-            self.look_standing(H if self.told == "heiroff" else B, self.told != "basespent", *self.has("entries"))
+            base, other = (H, B) if self.told == "heiroff" else (B, H)
+            self.look_standing(base, self.told != "basespent", *self.has("entries"), needs=None if self.told == "already" else ("online", other))
             return
         names = {"off": ["entries"], "busy": ["running_timer", "generation"], "more": [], "spent": ["full_timer", "entries"]}[self.told]
         moved, *rest = self.has("moved", *names)
@@ -187,11 +188,11 @@ class CallSteps(ObjectSteps):
         self.need(full, f"timer {timer} isn't armed on base {base} with so many entries that it can't be moved")
         self.look(f"timer {timer} first on base {base}, with {many(number)}", ("timer", timer), number, needs=("full", base, timer))
 
-    def look_standing(self, base, is_off, number):
+    def look_standing(self, base, is_off, number, needs=None):
         self.need(number < len(self.h.heirs[base]), f"it tells of entry {number} of base {base}, which has {len(self.h.heirs[base]) - 1}")
         right = (self.h.heirs[base][number] is not None) == is_off and (is_off or self.told == "already" or number >= LAST_STANDING)
         self.need(right, f"base {base} isn't so with {many(number)}")
-        self.look(f"base {base} with {many(number)}", ("base", base), number)
+        self.look(f"base {base} with {many(number)}", ("base", base), number, needs=needs)
 
     def move_all(self, base, heir):
         """The moves of timers to the heir, each timer's in a branch of its own where there are more. How many there are."""

@@ -2,5 +2,6 @@ pub mod EachTimer
 pub mod NoSlack
 mod OneText
 pub mod OwnParts
+pub mod ObjectOrder
 pub mod OwnPoints
 pub mod Replies

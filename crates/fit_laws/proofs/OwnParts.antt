@@ -9,7 +9,8 @@ use Rattle.record_text.specs.declared.record.Entry.{Entry}
 use Rattle.record_text.specs.declared.record.Label.{Label}
 use Rattle.record_text.specs.declared.record.TimerLine.{TimerLine}
 use Rattle.run_history.specs.Actions.{Action, also, Entered, entered, Looked, Made, own, Shifted, Skipped, Wrote}
-use Rattle.run_history.specs.Order.{is_label, made_by}
+use Rattle.run_history.specs.Order.{is_before, is_label, IsInOrder, made_by}
+use Rattle.script_text.specs.declared.script.Script.{Script}
 use Rattle.run_history.specs.Witnesses.{Move, OfBase, OfRise, OfTimer, Owner, Shown, ShownLine, TimersList, is_owner, line_of_timer, moves_from, moves_on, owner_of}
 use Rattle.run_history.specs.Traces.{all_entered, own_moves}
 use Rattle.run_history.proofs.Owners.{owner_is}
@@ -93,11 +94,19 @@ all_on P o (m ∷ ms) all = elim (is_owner (owner_of m.shown) o) as (λ b. AllBy
   | false ↦ all_on P o ms all.1
 ]
 
--- a timer's moves bear the labels of its lines
-pub labels_of_lines : (t b : ℕ) (lines : List TimerLine)
-    → map (λ m. m.label) (moves_from b (map (line_of_timer t) lines)) ≡ map (λ line. line.label) lines
-labels_of_lines t b [] = refl
-labels_of_lines t b (l ∷ lines) = ap (λ xs. l.label ∷ xs) (labels_of_lines t (b + 1) lines)
+-- and labels that are in order are so along a list
+pub order_on : (s : Script) (o : Owner) (ms : List Move) → IsInOrder s (map (λ m. m.label) ms) → IsInOrder s (map (λ m. m.label) (moves_on o ms))
+order_on s o [] all = tt
+order_on s o (m ∷ ms) all = elim (is_owner (owner_of m.shown) o) as (λ b. IsInOrder s (map (λ m. m.label) (also b m (moves_on o ms)))) [
+  | true ↦ (all_on (λ y. is_before s y m.label ≡ false) o ms all.0, order_on s o ms all.1)
+  | false ↦ order_on s o ms all.1
+]
+
+-- a list's moves bear the labels of its lines
+pub labels_of_lines : {L : Type 0} (line : L → ShownLine) (b : ℕ) (lines : List L)
+    → map (λ m. m.label) (moves_from b (map line lines)) ≡ map (λ l. (line l).label) lines
+labels_of_lines line b [] = refl
+labels_of_lines line b (l ∷ lines) = ap (λ xs. (line l).label ∷ xs) (labels_of_lines line (b + 1) lines)
 
 -- ---- the moves of a call
 

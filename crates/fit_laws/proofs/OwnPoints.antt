@@ -34,7 +34,7 @@ use Rattle.run_history.specs.Truths.{IsMoment, Saw}
 use Rattle.run_history.proofs.Actions.{all_entered-append}
 use Rattle.run_history.proofs.Lists.{at_map}
 use Rattle.run_history.proofs.OwnHistories.{entries_on, own_entry, own_history}
-use Rattle.fit_laws.proofs.OwnParts.{all_on, before_at, labels_of_lines, of_timer, of_timer-entered, of_timer-from, of_timer-on, on_drop, on_place, on_rises, on_take, own_early, take_from}
+use Rattle.fit_laws.proofs.OwnParts.{all_on, before_at, labels_of_lines, of_timer, of_timer-entered, of_timer-from, of_timer-on, on_drop, on_place, on_rises, on_take, order_on, own_early, take_from}
 use Rattle.run_history.proofs.Points.{count_own}
 
 -- an entry after so many
@@ -149,7 +149,7 @@ module _ (w : Witness) (one : IsOneHistory w) (timers : length w.run.timers ≡ 
       let k = seen w n t in
       let lines = lines_of_timer w.run t in
       let its : map (λ m. m.label) (moves_on (TimersList t) w.moves) ≡ timer_labels w.run t = ap (map (λ m. m.label)) (one.all (TimersList t))
-      ∙ labels_of_lines t 0 lines in
+      ∙ labels_of_lines (line_of_timer t) 0 lines in
       let taken : take k (timer_labels w.run t) ≡ map (λ m. m.label) (moves_on (TimersList t) early) =
       ap (take k) (sym its) ∙ take-map (λ (m : Move). m.label) k (moves_on (TimersList t) w.moves)
       ∙ ap (map (λ m. m.label)) (on_take (TimersList t) n w.moves) in
@@ -222,18 +222,10 @@ module _ (w : Witness) (one : IsOneHistory w) (timers : length w.run.timers ≡ 
 
   -- law: along each timer's list labels are as along the order
   pub labels_each : (P : Label → Type 0) (t : ℕ) → AllByRecursion P (labels w) → AllByRecursion P (timer_labels w.run t)
-  labels_each P t all = subst (AllByRecursion P) (ap (map (λ m. m.label)) (one.all (TimersList t)) ∙ labels_of_lines t 0 (lines_of_timer w.run t))
+  labels_each P t all = subst (AllByRecursion P) (ap (map (λ m. m.label)) (one.all (TimersList t)) ∙ labels_of_lines (line_of_timer t) 0 (lines_of_timer w.run t))
       (all_on P (TimersList t) w.moves all)
 
   -- law: and in order
   pub order_each : (t : ℕ) → IsInOrder w.script (labels w) → IsInOrder w.script (timer_labels w.run t)
-  order_each t order = subst (IsInOrder w.script) (ap (map (λ m. m.label)) (one.all (TimersList t)) ∙ labels_of_lines t 0 (lines_of_timer w.run t))
-      (along w.moves order)
-    where
-      along : (ms : List Move) → IsInOrder w.script (map (λ m. m.label) ms) → IsInOrder w.script (map (λ m. m.label) (moves_on (TimersList t) ms))
-      along [] all = tt
-      along (m ∷ ms) all = elim (is_owner (owner_of m.shown) (TimersList t)) as (λ b. IsInOrder w.script (map (λ m. m.label) (also b m (moves_on
-          (TimersList t) ms)))) [
-            | true ↦ (all_on (λ y. is_before w.script y m.label ≡ false) (TimersList t) ms all.0, along ms all.1)
-            | false ↦ along ms all.1
-          ]
+  order_each t order = subst (IsInOrder w.script) (ap (map (λ m. m.label)) (one.all (TimersList t)) ∙ labels_of_lines (line_of_timer t) 0 (lines_of_timer w.run t))
+      (order_on w.script (TimersList t) w.moves order)

@@ -1,7 +1,8 @@
 //! What follows of a record that fits its script: laws with no code, each a clause of its function.
 #![tactic(auto)]
 
-ghost use Rattle.std.specs.Prelude.{◌≡◌};
+ghost use Rattle.std.specs.Prelude.{ℕ, ◌≡◌};
+ghost use Rattle.std.specs.List.{AllByRecursion};
 ghost use Rattle.script_text.specs.Scripts.{IsInRange};
 ghost use Rattle.script_text.specs.declared.script.Script.{Script};
 ghost use Rattle.record_text.specs.Numbers.{HasMachineNumbers, HasNoSlack, HasReplies};
@@ -9,11 +10,20 @@ ghost use Rattle.record_text.specs.Text.{text_of};
 ghost use Rattle.record_text.specs.declared.version.Version.TheVariants as versions;
 ghost use Rattle.record_text.specs.declared.record.RunRecord.{RunRecord};
 ghost use Rattle.run_history.specs.Fits.{Fits};
+ghost use Rattle.run_history.specs.Objects.{object_labels};
+ghost use Rattle.run_history.specs.Order.{IsInOrder, IsLabel};
 ghost use Rattle.fit_laws.specs.EachTimer.{HasTimers};
 
 /// A record that fits is right of each timer by itself: its list is a history of such a timer, and what calls did and were told was so by that list.
 pub fn a_record_that_fits_is_right_of_each_timer()
     ensures { (s : Script) (r : RunRecord) → Fits s r → HasTimers s r }
+{}
+
+/// In a record that fits each entry of an object bears the label of a call. Along an object's list rounds follow one another, and a lane's calls keep their
+/// order.
+pub fn entries_of_an_object_keep_the_order_of_calls()
+    ensures calls { (s : Script) (r : RunRecord) → Fits s r → (i : ℕ) → AllByRecursion (IsLabel s) (object_labels r i) }
+    ensures order { (s : Script) (r : RunRecord) → Fits s r → (i : ℕ) → IsInOrder s (object_labels r i) }
 {}
 
 /// A record that fits a script of version 1 has no slack: a soft expiry is the expiry. The text of such a record shows neither.
