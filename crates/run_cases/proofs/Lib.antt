@@ -3,6 +3,7 @@ pub mod Witnesses
 pub mod FittingRecords
 pub mod OffLine
 pub mod Moments
+pub mod ObjectsFitting
 pub mod Orders
 pub mod Settimes
 pub mod Small
