@@ -6,12 +6,15 @@ use Rattle.std.proofs.lemmas.Bool.{cases_lt, true≢false}
 use Rattle.std.proofs.lemmas.List.{take-map}
 use Rattle.std.proofs.lemmas.Option.{same_Some}
 use Rattle.seq_timer.specs.Systems.{rises_of}
+use Rattle.record_text.specs.declared.record.Answer.{Answer}
 use Rattle.record_text.specs.declared.record.ClockLine.{ClockLine}
 use Rattle.record_text.specs.declared.record.Label.{Label}
 use Rattle.record_text.specs.declared.record.RunRecord.{RunRecord}
+use Rattle.script_text.specs.declared.script.Call.{Call}
 use Rattle.run_history.specs.Actions.{Action, also}
 use Rattle.run_history.specs.Order.{is_label, made_by}
-use Rattle.run_history.specs.Truths.{IsMoment}
+use Rattle.run_history.specs.Fits.{FitsCall, Seen}
+use Rattle.run_history.specs.Truths.{AreTrue, IsMoment}
 use Rattle.run_history.specs.Traces.{all_entered, own_moves}
 use Rattle.run_history.specs.Witnesses.{CountersList, IsOneHistory, Move, OfBase, OfRise, OfTimer, Owner, Shown, TimersList, Witness, entry_of_move, entry_of_shown, is_owner, lines_at, moves_from, moves_on, object_along, owner_of, timer_along, writes_along}
 use Rattle.run_history.proofs.Labels.{label_itself}
@@ -160,6 +163,34 @@ IsLineOf r o k c = slice_get (map (λ m. m.label) (moves_from 0 (lines_at r o)))
 abbrev pub HasAll : Witness → Label → ℕ → Type 0
 HasAll w c n = length (own_moves c w.moves) ≤ length (own_moves c (take n w.moves))
 
+-- law: what a call did took no moment behind its last one
+pub ends_later : (w : Witness) (c : Label) (first from : ℕ) (done ds : List Action) (last : ℕ) → AreTrue w c first from done ds last → from ≤ last
+ends_later w c first from done [] last truth = truth
+ends_later w c first from done (d ∷ ds) last truth =
+    let rest = ends_later w c first truth.0 (done ++ d ∷ []) ds last truth.3 in omega (arith, truth.1, rest)
+
+-- law: a call has made all its entries at its last moment, and so at all moments behind those that its lane has seen then
+pub all_since : {w : Witness} {c : Label} {call : Call} {answer : Answer} {before after : Seen} (n : ℕ) → FitsCall w c call answer before after
+    → after.moves ≤ n → HasAll w c n
+all_since {w} {c} n fits le =
+    let last = (w.traces c).last in
+    let rise = own_rises c w.moves last n (omega (arith, fits.move_steps.1, le)) in
+    omega (
+      arith,
+      rise,
+      ap length fits.traced.moves,
+      fits.ends.so_many,
+      ap (made_by c) (take-map (λ (m : Move). m.label) last w.moves) ∙ count_moves c (take last w.moves),
+    )
+
+-- law: a call's lane has seen no less after it than before it
+pub seen_more : {w : Witness} {c : Label} {call : Call} {answer : Answer} {before after : Seen} → FitsCall w c call answer before after
+    → before.moves ≤ after.moves
+seen_more {w} {c} fits =
+    let t = w.traces c in
+    let within = ends_later w c t.first t.first [] t.actions t.last fits.truth in
+    omega (arith, fits.move_steps.0, within, fits.move_steps.1)
+
 module _ (w : Witness) (history : IsOneHistory w) where
   -- law: at a moment at which a call has made no entry a list doesn't reach to a line of it
   pub none_yet : (o : Owner) (c : Label) (k n : ℕ) → IsLineOf w.run o k c → IsMoment w c [] n → length (moves_on o (take n w.moves)) ≤ k
@@ -182,17 +213,7 @@ module _ (w : Witness) (history : IsOneHistory w) where
       → k < (timer_along w n t).stamp
   all_entered_by timers t c k n line all = omega (arith, stamp_then w history timers n t, all_yet (TimersList t) c k n line all)
 
-  -- law: a call has made all its entries at its last moment
-  pub all_at_last : (c : Label) (actions : List Action) (n : ℕ) → own_moves c w.moves ≡ all_entered actions → IsMoment w c actions n → HasAll w c n
-  all_at_last c actions n own moment =
-      omega (
-        arith,
-        ap length own,
-        moment.so_many,
-        ap (made_by c) (take-map (λ (m : Move). m.label) n w.moves) ∙ count_moves c (take n w.moves),
-      )
-
-  -- law: and at each later one
+  -- law: what a call has made at a moment it has made at each later one
   pub all_later : (c : Label) (a b : ℕ) → a ≤ b → HasAll w c a → HasAll w c b
   all_later c a b le all = let rise = own_rises c w.moves a b le in omega (arith, all, rise)
 

@@ -13,6 +13,7 @@ pub use fitting::{
     an_expiry_and_an_idle_cancel, each_expiry_run_fires_its_own_timer,
 };
 pub use wrong::{
+    a_settime_cancels_first, entries_of_objects_and_timers_dont_cross, no_look_misses_an_expiry_that_was_over, two_lanes_dont_both_come_first, entries_of_two_objects_dont_cross, no_expiry_is_skipped_before_its_object_is_full, no_read_is_canceled_by_a_later_set, no_object_is_armed_before_its_timers_start,
     a_base_comes_on_line_by_an_entry, a_base_goes_off_line_empty, a_hard_run_claims_no_soft_timer,
     a_moved_timer_keeps_its_expiry, a_record_is_of_its_scripts_version, 
     an_expiry_run_is_done_at_one_moment, 
