@@ -1,6 +1,6 @@
 -- One timer in the order of all: its list is a history, it is at each moment as after a number of its own entries, and a moment of a call is a point of the
 -- call in that list.
-use Rattle.std.proofs.Common.{◌≡◌, ◌<◌, ◌≤◌, ◌⊎◌, ℕ, ◌+◌, zero, suc, true, false, List, [], ◌∷◌, ◌++◌, Some, length, map, take, drop, get_or, arith, refl, sym, ap, ◌∙◌, subst, inl, inr}
+use Rattle.std.proofs.Common.{◌≡◌, ◌<◌, ◌≤◌, ◌⊎◌, ℕ, ◌+◌, zero, suc, false, List, [], ◌∷◌, ◌++◌, Some, length, map, take, drop, get_or, arith, refl, sym, ap, ◌∙◌, subst, inl, inr}
 use Rattle.std.specs.List.{AllByRecursion, slice_get}
 use Rattle.std.proofs.Math.Logic.{⊎_elim}
 use Rattle.std.proofs.lemmas.Bool.{cases_lt}
@@ -23,11 +23,11 @@ use Rattle.seq_timer.specs.Events.{map_reading}
 use Rattle.record_text.specs.declared.record.Entry.{Entry as ShownEntry}
 use Rattle.record_text.specs.declared.record.Label.{Label}
 use Rattle.record_text.specs.declared.record.TimerLine.{TimerLine}
-use Rattle.run_history.specs.Actions.{Action, also, entered, own}
+use Rattle.run_history.specs.Actions.{Action, entered, own}
 use Rattle.run_history.specs.Histories.{history_from, history_of, lines_of_timer, reading_at, timer_after, timer_labels}
 use Rattle.script_text.specs.Declarations.{declared_as, declared_of, terms_of, declareds_of}
 use Rattle.run_history.specs.Order.{is_before, IsInOrder, made_by}
-use Rattle.run_history.specs.Witnesses.{Witness, entries_in, entry_of_move, entry_of_shown, IsOneHistory, is_owner, labels, line_of_timer, lines_at, Move, moves_from, moves_on, OfTimer, owner_of, Shown, TimersList, timer_along}
+use Rattle.run_history.specs.Witnesses.{Witness, entries_in, entry_of_move, entry_of_shown, IsOneHistory, labels, line_of_timer, lines_at, Move, moves_from, moves_on, OfTimer, owner_of, Shown, TimersList, timer_along}
 use Rattle.fit_laws.specs.EachTimer.{IsOwnPoint, WasSo}
 use Rattle.run_history.specs.Traces.{all_entered, own_moves}
 use Rattle.run_history.specs.Truths.{IsMoment, Saw}
@@ -97,7 +97,8 @@ module _ (w : Witness) (one : IsOneHistory w) (timers : length w.run.timers ≡ 
   legal_each t = ⊎_elim
       (λ is. subst (λ x. AreSteps x (history_of w.run t)) is (subst (AreSteps (timer_at (openings (declareds_of w.script) (terms_of w.script)) t))
       (own_history w one t)
-      (parts w.script.bases (length (declareds_of w.script)) (first_system (openings (declareds_of w.script) (terms_of w.script))) (entries_in w) one.history t)))
+      (parts w.script.bases (length (declareds_of w.script)) (first_system (openings (declareds_of w.script) (terms_of w.script)))
+      (entries_in w) one.history t)))
       (λ none. subst (AreSteps (opening (declared_of w.script t) (terms_of w.script))) (sym none.2) tt)
       (begins t)
 
@@ -141,6 +142,10 @@ module _ (w : Witness) (one : IsOneHistory w) (timers : length w.run.timers ≡ 
       of_none (observations.Armed generation) holds = holds
       of_none observations.Spent holds = absurd (omega (arith, holds))
 
+  -- a timer's moves bear the labels of its lines
+  labels_on : (t : ℕ) → map (λ m. m.label) (moves_on (TimersList t) w.moves) ≡ timer_labels w.run t
+  labels_on t = ap (map (λ m. m.label)) (one.all (TimersList t)) ∙ labels_of_lines (line_of_timer t) 0 (lines_of_timer w.run t)
+
   -- law: a moment of a call is a point of the call in each timer's list
   pub point_then : (c : Label) (before rest : List Action) (n t : ℕ) → own_moves c w.moves ≡ all_entered (before ++ rest) → IsMoment w c before n
       → IsOwnPoint w.script w.run c before t (seen w n t)
@@ -148,13 +153,11 @@ module _ (w : Witness) (one : IsOneHistory w) (timers : length w.run.timers ≡ 
       let early = take n w.moves in
       let k = seen w n t in
       let lines = lines_of_timer w.run t in
-      let its : map (λ m. m.label) (moves_on (TimersList t) w.moves) ≡ timer_labels w.run t = ap (map (λ m. m.label)) (one.all (TimersList t))
-      ∙ labels_of_lines (line_of_timer t) 0 lines in
       let taken : take k (timer_labels w.run t) ≡ map (λ m. m.label) (moves_on (TimersList t) early) =
-      ap (take k) (sym its) ∙ take-map (λ (m : Move). m.label) k (moves_on (TimersList t) w.moves)
+      ap (take k) (sym (labels_on t)) ∙ take-map (λ (m : Move). m.label) k (moves_on (TimersList t) w.moves)
       ∙ ap (map (λ m. m.label)) (on_take (TimersList t) n w.moves) in
       let dropped : drop k (timer_labels w.run t) ≡ map (λ m. m.label) (moves_on (TimersList t) (drop n w.moves)) =
-      ap (drop k) (sym its) ∙ drop-map (λ (m : Move). m.label) k (moves_on (TimersList t) w.moves)
+      ap (drop k) (sym (labels_on t)) ∙ drop-map (λ (m : Move). m.label) k (moves_on (TimersList t) w.moves)
       ∙ ap (map (λ m. m.label)) (on_drop (TimersList t) n w.moves) in
       let these : own_moves c early ≡ all_entered before = own_early c n w.moves (all_entered before) (all_entered rest)
       (own_are ∙ all_entered-append before rest) moment.so_many in
@@ -222,10 +225,8 @@ module _ (w : Witness) (one : IsOneHistory w) (timers : length w.run.timers ≡ 
 
   -- law: along each timer's list labels are as along the order
   pub labels_each : (P : Label → Type 0) (t : ℕ) → AllByRecursion P (labels w) → AllByRecursion P (timer_labels w.run t)
-  labels_each P t all = subst (AllByRecursion P) (ap (map (λ m. m.label)) (one.all (TimersList t)) ∙ labels_of_lines (line_of_timer t) 0 (lines_of_timer w.run t))
-      (all_on P (TimersList t) w.moves all)
+  labels_each P t all = subst (AllByRecursion P) (labels_on t) (all_on P (TimersList t) w.moves all)
 
   -- law: and in order
   pub order_each : (t : ℕ) → IsInOrder w.script (labels w) → IsInOrder w.script (timer_labels w.run t)
-  order_each t order = subst (IsInOrder w.script) (ap (map (λ m. m.label)) (one.all (TimersList t)) ∙ labels_of_lines (line_of_timer t) 0 (lines_of_timer w.run t))
-      (order_on w.script (TimersList t) w.moves order)
+  order_each t order = subst (IsInOrder w.script) (labels_on t) (order_on w.script (TimersList t) w.moves order)

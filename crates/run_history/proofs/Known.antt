@@ -10,6 +10,7 @@ use Rattle.seq_timer.specs.Histories as histories
 use Rattle.seq_timer.specs.Systems.{entries_of, rises_of, shifts_of}
 use Rattle.seq_timer.specs.declared.standing.BaseEvent.{BaseEvent}
 use Rattle.seq_timer.specs.declared.system.SystemEntry.{SystemEntry}
+use Rattle.seq_timer.specs.declared.system.SystemEntry.TheVariants as entries
 use Rattle.record_text.specs.declared.record.Entry.{Entry}
 use Rattle.record_text.specs.declared.record.Label.{Label}
 use Rattle.record_text.specs.declared.record.RunRecord.{RunRecord}
@@ -26,7 +27,7 @@ use Rattle.run_history.specs.Witnesses.{BasesList, CountersList, OfBase, OfRise,
 use Rattle.run_history.proofs.Kept.{Stops}
 use Rattle.run_history.proofs.Laid.{counts_more, counts_rise}
 use Rattle.run_history.proofs.Promise.{seen_first}
-use Rattle.run_history.proofs.Lists.{at_left}
+use Rattle.run_history.proofs.Lists.{at_left, at_seam}
 use Rattle.run_history.proofs.Owners.{and_one, bases_entry, count_cons, count_is, entries_at, entries_at-base, entries_at-timer, owner_is, timers_entry}
 use Rattle.run_history.proofs.Shown.{entry_place}
 
@@ -166,6 +167,32 @@ shift_made before more b event adds =
     (entries_at-base b (before ++ more) ∙ ap (map (bases_entry b)) adds ∙ map-append (bases_entry b) (shifts_of b before) (event ∷ [])
     ∙ ap (λ xs. xs ++ bases_entry b event ∷ []) (sym (entries_at-base b before)))
     refl (refl, tt)
+
+-- the receipt of a rise of a counter that stands behind these
+abbrev pub rise_receipt : ℕ → List SystemEntry → PlacedEntry
+rise_receipt k before = record { place = length before; number = rises_of k before + 1; shown = OfRise k }
+
+-- law: and of a rise of a counter, by its place
+pub rise_made : (k low : ℕ) (before rest : List SystemEntry) → low ≤ length before
+    → AreMade (before ++ entries.Rise k ∷ rest) low (length before + 1) (rise_receipt k before ∷ [])
+    × AreEntries (before ++ entries.Rise k ∷ rest) (rise_receipt k before ∷ []) (entries.Rise k ∷ [])
+rise_made k low before rest le =
+    let there = at_seam before rest (entries.Rise k) in (
+      record {
+        rise = (le, tt);
+        below = (omega arith, tt);
+        made = (
+          record {
+            step = entries.Rise k;
+            there = there;
+            owner = refl;
+            number = ap (λ xs. rises_of k xs + 1) (take-append_seam before (entries.Rise k ∷ rest));
+          },
+          tt,
+        );
+      },
+      (there, tt),
+    )
 
 -- ---- how many of a list stand before a moment
 

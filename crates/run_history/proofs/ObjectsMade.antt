@@ -1,5 +1,5 @@
 -- Calls on objects that make an entry: from the moment at which the call found the timer, holding the object, to the object's entry.
-use Rattle.std.proofs.Common.{◌<◌, true, false, ◌≡◌, ◌≤◌, ℕ, List, [], ◌∷◌, ◌++◌, Option, Some, None, arith, refl, sym, ◌∙◌, subst}
+use Rattle.std.proofs.Common.{true, false, ◌≡◌, ◌≤◌, ℕ, List, [], ◌∷◌, ◌++◌, Option, Some, None, arith, refl, sym, subst}
 use Rattle.std.specs.List.{AllByRecursion}
 use Rattle.ktime.specs.Times.{last_time}
 use Rattle.ktime.specs.declared.mode.Mode.TheVariants as modes
@@ -125,9 +125,10 @@ module _ (reply : SettimeReply) {w : Witness} {moves : Spans} {c : Label} {at be
       (start_mode kind flags) cancel arm start number entry set.arms set.idle in
       call_made kept low (omega (arith, set.between, set.high)) set.behind
       (does reply actions (record { taken = set.taken; cancel = cancel; arm = arm; start = start; number = number; arms = set.arms; done = refl })) (tt, tt)
-      (plain_then w c begin begin set.ends last [] (cancels timer cancel ++ start) (Made timer number entry) plain set.between set.high
-      (moment_of kept (cancels timer cancel ++ start) set.ends (omega (arith, low, set.between)) set.high set.stops,
-      record { true_start = set.holds; had = set.had; stood = set.stood }))
+      (plain_then w c begin begin set.ends last [] (cancels timer cancel ++ start) (Made timer number entry) plain set.between set.high (
+        moment_of kept (cancels timer cancel ++ start) set.ends (omega (arith, low, set.between)) set.high set.stops,
+        record { true_start = set.holds; had = set.had; stood = set.stood },
+      ))
       (seen reply actions refused idle)
     where
       does : (reply : SettimeReply) (ds : List Action) → MakesSettime (WasOffLine w begin last) w.script.limit
@@ -181,9 +182,10 @@ module _ {w : Witness} {moves : Spans} {c : Label} {at begin last timer : ℕ} {
       (none_moved _ call, none_moved _ call)
       (plain_then w c begin begin rearmed.ends last [] start (Made timer number (entry arm))
       (plain_start (WasOffLine w begin last) w.script.limit timer rearmed.ns at (base_of
-      (kind_of w.script timer)) modes.Keep arm start rearmed.arms) rearmed.between rearmed.high
-      (moment_of kept start rearmed.ends (omega (arith, low, rearmed.between)) rearmed.high rearmed.stops,
-      record { true_start = holds rearmed.holds; had = had rearmed.had; stood = rearmed.stood }))
+      (kind_of w.script timer)) modes.Keep arm start rearmed.arms) rearmed.between rearmed.high (
+        moment_of kept start rearmed.ends (omega (arith, low, rearmed.between)) rearmed.high rearmed.stops,
+        record { true_start = holds rearmed.holds; had = had rearmed.had; stood = rearmed.stood },
+      ))
       seen
 
 module _ {w : Witness} {moves : Spans} {c : Label} {at begin last timer : ℕ} {arm : Armed} {start : List Action} {number : ℕ} {notes : List PlacedEntry}

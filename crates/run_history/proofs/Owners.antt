@@ -17,7 +17,7 @@ use Rattle.run_history.specs.Actions.{also}
 use Rattle.run_history.specs.Histories.{lines_of_base, lines_of_timer}
 use Rattle.run_history.specs.Objects.{lines_of_object}
 use Rattle.run_history.specs.Receipts.{count, no_line}
-use Rattle.run_history.specs.Witnesses.{BasesList, CountersList, OfBase, OfRise, OfTimer, Owner, Shown, TimersList, entry_of_shown, is_owner, line_of_base, line_of_object, line_of_timer, line_of_write, lines_at, owner_of, owner_of_entry}
+use Rattle.run_history.specs.Witnesses.{BasesList, CountersList, Owner, TimersList, is_owner, line_of_base, line_of_object, line_of_timer, line_of_write, lines_at, owner_of, owner_of_entry}
 
 pub owner_itself : (o : Owner) → is_owner o o ≡ true
 owner_itself (TimersList t) = eq-eqb t t refl
@@ -40,12 +40,6 @@ same_owner (CountersList j) (CountersList k) is = ap (λ n. CountersList n) (eqb
 
 pub other_owner : (a o : Owner) → is_owner a o ≡ false → a ≡ o → ⊥
 other_owner a o not same = true≢false (sym (owner_is a o same) ∙ not)
-
--- a line shows an entry of its own list
-pub owner_shown : (clock : List ClockLine) (shown : Shown) → owner_of_entry (entry_of_shown clock shown) ≡ owner_of shown
-owner_shown clock (OfTimer t entry) = refl
-owner_shown clock (OfBase b event) = refl
-owner_shown clock (OfRise k) = refl
 
 -- each line of a list is its own
 pub owner_at : (r : RunRecord) (o : Owner) (n : ℕ) → owner_of (get_or (lines_at r o) n (no_line o)).shown ≡ o

@@ -4,17 +4,15 @@ use Rattle.std.specs.List.{AllByRecursion, slice_get}
 use Rattle.std.proofs.Math.Seq.{take-append_seam}
 use Rattle.std.proofs.lemmas.List.{take_all}
 use Rattle.std.proofs.lemmas.Option.{get_or_from_slice_get, same_Some, slice_get-get_or, slice_get_within}
-use Rattle.seq_timer.specs.Histories as histories
-use Rattle.seq_timer.specs.Systems.{entries_of}
 use Rattle.seq_timer.specs.declared.system.SystemEntry.{SystemEntry}
 use Rattle.record_text.specs.declared.record.Label.{Label}
 use Rattle.record_text.specs.declared.record.RunRecord.{RunRecord}
 use Rattle.run_history.specs.Actions.{also}
-use Rattle.run_history.specs.Witnesses.{Owner, ShownLine, TimersList, entry_of_shown, is_owner, lines_at, owner_of_entry}
+use Rattle.run_history.specs.Witnesses.{Owner, ShownLine, entry_of_shown, is_owner, lines_at, owner_of_entry}
 use Rattle.run_history.specs.Receipts.{count, IsMade, no_line, PlacedEntry, ShowsEntry}
 use Rattle.run_history.proofs.Laid.{AreReceipts, counts_more, IsLine, same_place}
-use Rattle.run_history.proofs.Lists.{all_at, at_map, at_seam}
-use Rattle.run_history.proofs.Owners.{and_one, count_cons, count_none, entries_at, entries_at-timer, same_owner, timers_entry}
+use Rattle.run_history.proofs.Lists.{all_at, at_seam}
+use Rattle.run_history.proofs.Owners.{and_one, count_cons, count_none, entries_at, same_owner}
 use Rattle.run_history.proofs.Weave.{IsShown}
 
 -- lists of the same length with the same items
@@ -56,12 +54,6 @@ entry_place o k e (y ∷ xs) at =
       where
         one_more : (a k : ℕ) → a ≡ k → a + 1 ≡ suc k
         one_more a k e = omega (arith, e)
-
--- the same of a timer's entry, by its own history
-pub timer_place : (t k : ℕ) (e : histories.Entry) (xs : List SystemEntry) → slice_get (entries_of t xs) k ≡ Some e
-    → EntryAt (TimersList t) k (timers_entry t e) xs
-timer_place t k e xs at = entry_place (TimersList t) k (timers_entry t e) xs
-    (ap (λ ys. slice_get ys k) (entries_at-timer t xs) ∙ at_map (timers_entry t) (entries_of t xs) k e at)
 
 -- law: so each entry of the order is shown by its line
 pub shows_from : (r : RunRecord) (order : List SystemEntry) (notes : Label → List PlacedEntry) → AreReceipts r order notes

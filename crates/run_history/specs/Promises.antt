@@ -1,7 +1,7 @@
 -- What a lane promises while it runs: each of its calls fits in every run that it can still end in.
 use Rattle.std.specs.List.{AllByRecursion}
 use Rattle.std.specs.List.Sorted.{IsPermutation}
-use Rattle.std.specs.Prelude.{ℕ, ◌≡◌, ◌≤◌, ◌<◌, ◌+◌, List, [], ◌∷◌, ◌++◌, map}
+use Rattle.std.specs.Prelude.{ℕ, ◌≡◌, ◌≤◌, ◌<◌, List, ◌∷◌, ◌++◌, map}
 use Rattle.clock_model.specs.declared.write.Write.{Write}
 use Rattle.seq_timer.specs.declared.system.SystemEntry.{SystemEntry}
 use Rattle.record_text.specs.declared.record.Answer.{Answer}
@@ -9,7 +9,7 @@ use Rattle.record_text.specs.declared.record.Label.{Label}
 use Rattle.run_history.specs.Actions.{looked, made, own, own_looks, own_skips, skipped, wrote}
 use Rattle.run_history.specs.Histories.{lines_of_timer}
 use Rattle.run_history.specs.Objects.{lines_of_object}
-use Rattle.run_history.specs.Order.{CallInRound, calls_of, NeverFall}
+use Rattle.run_history.specs.Order.{CallInRound, NeverFall}
 use Rattle.script_text.specs.declared.script.Call.{Call}
 use Rattle.script_text.specs.declared.script.Script.{Script}
 use Rattle.run_history.specs.Witnesses.{Witness}
@@ -40,11 +40,6 @@ pub record HasLog (e : Ending) (c : Label) (log : CallLog) : Type 0 where
   pub objects : (i : ℕ) → own (λ line. line.label) (λ line. line.entry) c 1 (lines_of_object e.run i) ≡ made i log.trace.actions
   pub skips : (i : ℕ) → IsPermutation (own_skips c 1 (lines_of_object e.run i)) (skipped i log.trace.actions)
 
--- the same of the calls of a lane, from one of them on
-abbrev pub HasLogs : Ending → ℕ → ℕ → List CallLog → Type 0
-HasLogs e lane index [] = Unit
-HasLogs e lane index (log ∷ logs) = HasLog e (label_at lane index) log × HasLogs e lane (index + 1) logs
-
 -- the run goes on from what a pass of the timers' table has seen
 abbrev pub GoesOn : List SystemEntry → Ending → Type 0
 GoesOn seen e = (later : List SystemEntry) × (e.order ≡ seen ++ later)
@@ -67,8 +62,3 @@ IsPromisedInTurn s lane index log Follows call answer before after =
 -- a fit of the calls that are left makes a fit of all
 abbrev pub IsSoFar : Witness → ℕ → ℕ → Seen → List CallInRound → List CallInRound → List Answer → Type 0
 IsSoFar w lane index now all rest given = (more : List Answer) → FitsLane w lane index now rest more → FitsLane w lane 0 unseen all (given ++ more)
-
--- the same of all calls so far, in every run that the lane can still end in, and that has what it kept of its calls
-abbrev pub IsPromisedSoFar : Script → ℕ → ℕ → List CallLog → (Ending → Type 0) → Seen → List CallInRound → List Answer → Type 0
-IsPromisedSoFar s lane index logs Follows now rest given =
-    (e : Ending) → Follows e → HasLogs e lane 0 logs → IsJoined s e → IsSoFar (witness_of s e) lane index now (calls_of s lane) rest given

@@ -33,7 +33,7 @@ use Rattle.seq_timer.specs.Standings.{last_standing}
 use Rattle.seq_timer.specs.Tables.{IsStopped, IsUnused, in_context, is_armed_on, runs_on}
 use Rattle.run_history.specs.Traces.{all_entered}
 use Rattle.run_history.specs.Witnesses.{Witness, labels, object_along, standing_along, system_along, timer_along}
-use Rattle.run_history.specs.Witnesses.{Evacuation, Fired}
+use Rattle.run_history.specs.Witnesses.{Evacuation}
 
 -- a number of moves of the order is one at which the call has done so much, and that it may have seen
 abbrev pub IsMoment : Witness → Label → List Action → ℕ → Type 0
