@@ -11,7 +11,7 @@ use Rattle.record_text.specs.declared.record.ObjectEntry.TheVariants as object_e
 use Rattle.run_history.specs.Actions.{Entered, Made, Skipped, Wrote}
 use Rattle.run_history.specs.Fits.{Fits}
 use Rattle.run_history.specs.Witnesses.{CountersList, TimersList, Witness}
-use Rattle.run_cases.specs.Fitting.{accepts_record, accepts_script, armed_record, armed_script, cancelable_entry, canceled_entry, canceled_record, canceled_script, disarmed_entry, nothing_accepted, real_start, seen_record, seen_script, skipped_record, skipped_script, unreadable_record, unreadable_script}
+use Rattle.run_cases.specs.Fitting.{accepts_record, accepts_script, armed_record, armed_script, between_record, between_script, cancelable_entry, canceled_entry, canceled_record, canceled_script, disarmed_entry, nothing_accepted, real_start, seen_record, seen_script, skipped_record, skipped_script, unreadable_record, unreadable_script}
 use Rattle.run_cases.specs.Lines.{set_entry_of, set_start}
 use Rattle.run_cases.proofs.Calls.{right}
 use Rattle.run_cases.proofs.Small.{fits_by}
@@ -282,5 +282,43 @@ armed_fits = fits_by armed_witness (record {
       ) (two (
       two (right refl refl refl (refl, tt) (refl, tt) (refl, tt) (refl, refl) (inl refl) (refl, refl))
       (two (right refl refl refl (refl, tt) (refl, tt) (refl, tt) refl (inl refl) (record { stamp = refl; holds = refl })) tt)
+      ) tt);
+})
+
+-- ---- a lane looks at a timer, and then how its object is set, between the start of another lane's settime and its entry of the object
+
+-- its witness
+abbrev between_witness : Witness
+between_witness = witness_along between_script between_record (TimersList 0 ∷ CountersList 1 ∷ [])
+    ((did 0 (Entered 0 1 (set_start 50 0 false) ∷ Made 0 1 (set_entry_of 50 0 1 0) ∷ []) 0 2 ∷ []) ∷ (did 0 [] 1 1 ∷ did 0 [] 1 1 ∷ []) ∷ [])
+
+-- law: it fits
+pub between_fits : Fits between_script between_record
+unfolding after_entry changed passed
+between_fits = fits_by between_witness (record {
+  version = refl;
+  passed = refl;
+  writes = tt;
+  all = (refl, tt);
+  bases = (refl, tt);
+  clock = refl;
+  objects = (refl, tt);
+  history = two (step refl (inr refl, inl (lt refl)) refl tt) (two tt tt);
+  object_histories = two (two (refl, tt) (three (lt refl, refl, le refl, le refl, (λ e. absurd (cc), λ e. absurd (cc))) refl tt)) tt;
+  placed = (refl, (refl, tt));
+  calls = two (
+      two (right refl refl refl (refl, tt) (refl, tt) (refl, tt) (record {
+        taken = record { known = refl; good_value = lt refl; good_interval = lt refl };
+        cancel = None;
+        arm = armings.Generation 1;
+        start = Entered 0 1 (set_start 50 0 false) ∷ [];
+        number = 1;
+        arms = (armed_by 1 50, refl, refl, stays refl refl refl);
+        done = refl;
+      }) (inr (0, le refl, tt, (1, le refl, (point_passes _ _ _ _ _ refl, in_its_turn (refl, (refl, refl, λ e. refl)) refl refl), le refl)))
+      (record { armed = refl; running = refl; moving = refl })) tt
+      ) (two (
+      two (right refl refl refl (refl, tt) (refl, tt) (refl, tt) refl (inl refl) (record { stamp = refl; holds = refl }))
+      (two (right refl refl refl (refl, tt) (refl, tt) (refl, tt) (refl, refl) (inl refl) (refl, refl)) tt)
       ) tt);
 })

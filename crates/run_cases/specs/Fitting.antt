@@ -333,6 +333,18 @@ armed_seen_by looked = object_record [] ((line 0 0 (set_start 50 0 false) ∷ []
 abbrev pub armed_record : RunRecord
 armed_record = armed_seen_by (answers.Peek 1 0 true false false)
 
+-- ---- a lane looks at a timer, and then how its object is set, between the start of another lane's settime and its entry of the object
+
+-- the script
+abbrev pub between_script : Script
+between_script = case_script 1 2 (kinds.Posix 0 ∷ [])
+    ((by 0 (settime_to 50) ∷ by 1 (calls.Peek 0) ∷ by 1 (calls.Gettime 0) ∷ []) ∷ [])
+
+-- its record: the timer is started, and the object not yet armed
+abbrev pub between_record : RunRecord
+between_record = object_record [] ((line 0 0 (set_start 50 0 false) ∷ []) ∷ []) ((case_object_line 0 0 (set_entry_of 50 0 1 0) ∷ []) ∷ [])
+    ((answers.Old 0 0 ∷ []) ∷ (answers.Peek 1 0 true false false ∷ answers.LeftAt 0 0 0 0 ∷ []) ∷ [])
+
 -- ---- a timer with slack expires when its soft expiry is reached and its hard one isn't
 
 -- the script

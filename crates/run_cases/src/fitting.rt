@@ -70,6 +70,13 @@ pub fn a_set_clock_cancels_a_read()
     ensures { Fits fitting.canceled_script fitting.canceled_record }
 {}
 
+/// A look at an object between the start of another lane's settime and its entry of the object fits, though no lane gets such a look of an object whose
+/// lock the settime holds.
+#[tactic(auto, using(crate::proofs::ObjectsFitting::between_fits))]
+pub fn a_look_between_a_start_and_its_settimes_entry()
+    ensures { Fits fitting.between_script fitting.between_record }
+{}
+
 /// A timer with slack expires when its soft expiry is reached and its hard one isn't.
 #[tactic(auto, using(crate::proofs::VersionTwo::early_fits))]
 pub fn a_soft_expiry_is_enough()

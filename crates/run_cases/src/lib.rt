@@ -5,6 +5,7 @@ mod fitting;
 mod wrong;
 
 pub use fitting::{
+    a_look_between_a_start_and_its_settimes_entry,
     a_full_object_skips_an_expiry, a_look_at_an_object_beside_another_lane, a_set_clock_cancels_a_read, two_lanes_accept_of_two_timers,
     a_callback_is_told_that_it_runs, a_cancel_beside_an_expiry,
     a_due_timer_waits_behind_an_earlier_one, a_look_and_a_write_beside_another_lane,
