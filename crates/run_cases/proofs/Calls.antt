@@ -1,17 +1,15 @@
 -- Calls of a small witness: tests of where they stand, and what else makes each right.
-use Rattle.std.proofs.Common.{◌≡◌, ◌≤◌, ◌⊎◌, ◌&&◌, ℕ, ◌+◌, Bool, true, nat_eq, nat_le, nat_lt, None, Option, Some, List, [], ◌∷◌, ◌++◌, if◌then◌else◌, length, map, arith, refl, sym, ap, ◌∙◌, subst}
+use Rattle.std.proofs.Common.{◌≡◌, ◌⊎◌, ◌&&◌, ℕ, ◌+◌, Bool, true, nat_eq, nat_le, List, [], ◌∷◌, length, map, arith, sym, ap, ◌∙◌, subst}
 use Rattle.std.specs.List.Sorted.{IsPermutation}
-use Rattle.std.specs.List.{AllByRecursion, list_all}
 use Rattle.std.proofs.Math.Logic.{⊎_elim}
 use Rattle.std.proofs.lemmas.Bool.{and_parts, eqb-true}
 use Rattle.std.proofs.lemmas.List.Sorted.{IsPermutation-refl}
 use Rattle.std.proofs.lemmas.List.{get_or_past, nil_from_length}
 use Rattle.record_text.specs.declared.record.Answer.{Answer}
 use Rattle.record_text.specs.declared.record.Label.{Label}
-use Rattle.record_text.specs.declared.record.ObjectLine.{ObjectLine}
 use Rattle.script_text.specs.declared.script.Call.{Call}
 use Rattle.script_text.specs.declared.script.Call.TheVariants as calls
-use Rattle.run_history.specs.Actions.{own, looked, made, own_looks, skips_under, own_skips, skipped, wrote}
+use Rattle.run_history.specs.Actions.{own, looked, made, own_looks, own_skips, skipped, wrote}
 use Rattle.run_history.specs.Histories.{clock_labels, lines_of_timer}
 use Rattle.run_history.specs.Objects.{lines_of_object}
 use Rattle.run_history.specs.Order.{CallInRound}
@@ -21,8 +19,8 @@ use Rattle.run_history.specs.Fits.{FitsLane, HasRead, ReadsInTurn}
 use Rattle.run_history.specs.Traces.{all_entered, HasTraced, own_moves}
 use Rattle.run_history.specs.Truths.{AnswerHolds, AreTrue, WasFront, WasOffLine}
 use Rattle.run_history.proofs.OthersMade.{none_moved}
-use Rattle.run_cases.proofs.Witnesses.{Along, everywhere, each_list}
-use Rattle.run_cases.proofs.Tests.{all_true, are_made, are_plain, plain_pass, is_point, never_fall, IsPast, made_past, other, point_passes, steps_pass, upto}
+use Rattle.run_cases.proofs.Witnesses.{Along, everywhere}
+use Rattle.run_cases.proofs.Tests.{are_made, are_plain, plain_pass, is_point, never_fall, IsPast, made_past, point_passes, steps_pass, upto}
 
 -- ---- calls
 
@@ -186,5 +184,6 @@ right {w} {c} {call} {answer} said clock moves looks objects skips does truth se
     (none (nil_from_length moved (eqb-true (length moved) 0 parts.0)))
     truth seen
   where
-    none : (w.traces c).moved ≡ [] → AllKeepExpiries w.script w.run call (w.traces c).moved × AllMoved (WasFront w (w.traces c).first (w.traces c).last) call (w.traces c).moved
+    none : (w.traces c).moved ≡ []
+        → AllKeepExpiries w.script w.run call (w.traces c).moved × AllMoved (WasFront w (w.traces c).first (w.traces c).last) call (w.traces c).moved
     none is = (subst (AllMoved _ call) (sym is) (none_moved _ call), subst (AllMoved _ call) (sym is) (none_moved _ call))

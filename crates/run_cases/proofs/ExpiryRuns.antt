@@ -1,5 +1,5 @@
 -- An expiry run that claimed one timer, an object's: its last entry is the finish; and where the expiry was skipped, the object was full before the finish.
-use Rattle.std.proofs.Common.{◌≡◌, ◌≤◌, ℕ, suc, List, [], ◌∷◌, ◌++◌, flat_map, length, map, take, arith, refl, sym, ap, ◌∙◌, subst}
+use Rattle.std.proofs.Common.{◌≡◌, ◌≤◌, ℕ, List, [], ◌∷◌, ◌++◌, length, take, arith, sym, ap, ◌∙◌, subst}
 use Rattle.std.proofs.Math.Logic.{⊎_elim}
 use Rattle.std.proofs.lemmas.Bool.{eq-eqb}
 use Rattle.std.proofs.lemmas.List.{append-nil, take-map}
@@ -10,12 +10,12 @@ use Rattle.record_text.specs.declared.record.ObjectEntry.TheVariants as object_e
 use Rattle.record_text.specs.declared.record.ObjectEntry.{ObjectEntry}
 use Rattle.script_text.specs.Declarations.{kind_of}
 use Rattle.script_text.specs.declared.script.Script.{Script}
-use Rattle.run_history.specs.Actions.{Action, also, Entered, entered, Made, made, Skipped}
+use Rattle.run_history.specs.Actions.{Action, also, Entered, entered, made, Skipped}
 use Rattle.run_history.specs.Calls.{IsBody, IsExpiryRun, IsTrigger, fires}
 use Rattle.run_history.specs.Order.{made_by}
 use Rattle.run_history.specs.Traces.{all_entered, own_moves}
 use Rattle.run_history.specs.Truths.{AreTrue}
-use Rattle.run_history.specs.Witnesses.{Fired, IsOneHistory, Move, OfTimer, Shown, TimersList, Witness, moves_on, object_along, timer_along}
+use Rattle.run_history.specs.Witnesses.{Fired, IsOneHistory, Move, OfTimer, TimersList, Witness, moves_on, object_along, timer_along}
 use Rattle.run_history.proofs.Actions.{all_entered-append}
 use Rattle.run_history.proofs.Expires.{claim_of, finish_of}
 use Rattle.fit_laws.proofs.EachTimer.{heads, true_at}

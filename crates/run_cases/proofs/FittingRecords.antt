@@ -1,5 +1,5 @@
 -- The records that fit: a witness for each, and what makes it fit.
-use Rattle.std.proofs.Common.{◌≡◌, ℕ, true, false, [], ◌∷◌, List, None, get_or, arith, refl, inl, inr}
+use Rattle.std.proofs.Common.{◌≡◌, ℕ, true, false, [], ◌∷◌, List, None, arith, refl, inl, inr}
 use Rattle.ktime.specs.Times.{passed}
 use Rattle.ktime.specs.declared.mode.Mode.TheVariants as modes
 use Rattle.clock_model.specs.declared.write.Write.TheVariants as writes

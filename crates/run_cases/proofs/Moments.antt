@@ -15,7 +15,7 @@ use Rattle.run_history.specs.Actions.{Action, also}
 use Rattle.run_history.specs.Order.{is_label, made_by}
 use Rattle.run_history.specs.Fits.{FitsCall, Seen}
 use Rattle.run_history.specs.Truths.{AreTrue, IsMoment}
-use Rattle.run_history.specs.Traces.{all_entered, own_moves}
+use Rattle.run_history.specs.Traces.{own_moves}
 use Rattle.run_history.specs.Witnesses.{CountersList, IsOneHistory, Move, OfBase, OfRise, OfTimer, Owner, Shown, TimersList, Witness, entry_of_move, entry_of_shown, is_owner, lines_at, moves_from, moves_on, object_along, owner_of, timer_along, writes_along}
 use Rattle.run_history.proofs.Labels.{label_itself}
 use Rattle.fit_laws.proofs.EachTimer.{stands}

@@ -1,15 +1,21 @@
 -- Records that fit, of two lanes beside each other that call and look at objects: a witness for each, and what makes it fit.
-use Rattle.std.proofs.Common.{◌≡◌, ℕ, zero, true, false, [], ◌∷◌, List, None, Some, refl, inl, inr}
+use Rattle.std.proofs.Common.{ℕ, true, false, [], ◌∷◌, None, refl, inl, inr}
 use Rattle.clock_model.specs.declared.write.Write.TheVariants as writes
 use Rattle.ktime.specs.Times.{passed}
 use Rattle.ktime.specs.declared.clock_id.ClockId.TheVariants as clocks
 use Rattle.seq_timer.specs.declared.context.Context.TheVariants as contexts
 use Rattle.seq_timer.specs.Systems.{after_entry, changed}
 use Rattle.record_text.specs.declared.record.AcceptReply.TheVariants as acceptances
+use Rattle.record_text.specs.declared.record.Armed.{Armed}
 use Rattle.record_text.specs.declared.record.Armed.TheVariants as armings
 use Rattle.record_text.specs.declared.record.ObjectEntry.TheVariants as object_entries
+use Rattle.record_text.specs.declared.record.ObjectEntry.{ObjectEntry}
+use Rattle.record_text.specs.declared.record.SettimeReply.TheVariants as settings
+use Rattle.script_text.specs.declared.script.Kind.{Kind}
+use Rattle.script_text.specs.declared.script.Kind.TheVariants as kinds
 use Rattle.run_history.specs.Actions.{Entered, Made, Skipped, Wrote}
 use Rattle.run_history.specs.Fits.{Fits}
+use Rattle.run_history.specs.ObjectCalls.{MakesRearming, MakesSettime}
 use Rattle.run_history.specs.Witnesses.{CountersList, TimersList, Witness}
 use Rattle.run_cases.specs.Fitting.{accepts_record, accepts_script, armed_record, armed_script, between_record, between_script, cancelable_entry, canceled_entry, canceled_record, canceled_script, disarmed_entry, nothing_accepted, real_start, seen_record, seen_script, skipped_record, skipped_script, unreadable_record, unreadable_script}
 use Rattle.run_cases.specs.Lines.{set_entry_of, set_start}
@@ -17,6 +23,27 @@ use Rattle.run_cases.proofs.Calls.{right}
 use Rattle.run_cases.proofs.Small.{fits_by}
 use Rattle.run_cases.proofs.Tests.{le, lt, point_passes}
 use Rattle.run_cases.proofs.Witnesses.{armed_by, did, done_by, fired, in_its_turn, ran, stays, step, three, two, witness_along}
+
+-- ---- calls that make an entry of an object
+
+-- one that starts no timer
+none_armed : {Reached : ℕ → ℕ → Type 0} {limit timer reading : ℕ} {kind : Kind} {entry : Armed → ObjectEntry} (number : ℕ)
+    → MakesRearming Reached limit kind timer reading entry (Made timer number (entry armings.None) ∷ [])
+none_armed number = record { arm = armings.None; ns = 0; start = []; number = number; timely = le refl; arms = refl; done = refl }
+
+-- a settime that disarms an object, and was the first
+disarmed : {Reached : ℕ → ℕ → Type 0} {limit timer : ℕ}
+    → MakesSettime Reached limit (kinds.Fd 0) timer 0 (record { sec = 0; nsec = 0 }) (record { sec = 0; nsec = 0 }) 0 (settings.Old 0 0)
+    (Made timer 1 disarmed_entry ∷ [])
+disarmed = record {
+  taken = record { known = refl; good_value = lt refl; good_interval = lt refl };
+  cancel = None;
+  arm = armings.None;
+  start = [];
+  number = 1;
+  arms = refl;
+  done = refl;
+}
 
 -- ---- a lane looks at a timer, and then whether its descriptor is readable, beside another lane's expiry run
 
@@ -88,27 +115,13 @@ seen_fits = fits_by seen_witness (record {
       (two (two (refl, tt) (three (lt refl, refl, le refl, le refl, (λ e. refl, λ e. refl)) refl tt)) tt);
   placed = (refl, (refl, tt));
   calls = two (
-      two (right refl refl refl (refl, (refl, tt)) (refl, (refl, tt)) (refl, (refl, tt)) (record {
-        taken = record { known = refl; good_value = lt refl; good_interval = lt refl };
-        cancel = None;
-        arm = armings.None;
-        start = [];
-        number = 1;
-        arms = refl;
-        done = refl;
-      }) (inr (0, le refl, (point_passes _ _ _ _ _ refl, in_its_turn tt refl refl), le refl))
+      two (right refl refl refl (refl, (refl, tt)) (refl, (refl, tt)) (refl, (refl, tt)) disarmed
+      (inr (0, le refl, (point_passes _ _ _ _ _ refl, in_its_turn tt refl refl), le refl))
       (record { armed = refl; running = refl; moving = refl }))
       (two (right refl refl refl (refl, (refl, tt)) (refl, (refl, tt)) (refl, (refl, tt)) (refl, refl) (inl refl) (refl, refl)) tt)
       ) (two (
-      two (right refl refl refl (refl, (refl, tt)) (refl, (refl, tt)) (refl, (refl, tt)) (record {
-        taken = record { known = refl; good_value = lt refl; good_interval = lt refl };
-        cancel = None;
-        arm = armings.None;
-        start = [];
-        number = 1;
-        arms = refl;
-        done = refl;
-      }) (inr (1, le refl, (point_passes _ _ _ _ _ refl, in_its_turn tt refl refl), le refl))
+      two (right refl refl refl (refl, (refl, tt)) (refl, (refl, tt)) (refl, (refl, tt)) disarmed
+      (inr (1, le refl, (point_passes _ _ _ _ _ refl, in_its_turn tt refl refl), le refl))
       (record { armed = refl; running = refl; moving = refl }))
       (two (right refl refl refl (refl, (refl, tt)) (refl, (refl, tt)) (refl, (refl, tt)) (refl, refl) (inl refl) (refl, refl)) tt)
       ) tt);
@@ -139,17 +152,17 @@ accepts_fit = fits_by accepts_witness (record {
   placed = (refl, (refl, tt));
   calls = two (
       two (right refl refl refl (refl, (refl, tt)) (refl, (refl, tt)) (refl, (refl, tt))
-      (record { arm = armings.None; ns = 0; start = []; number = 1; timely = le refl; arms = refl; done = refl })
+      (none_armed 1)
       (inr (0, le refl, (point_passes _ _ _ _ _ refl, in_its_turn tt refl refl), le refl)) tt)
       (two (right refl refl refl (refl, (refl, tt)) (refl, (refl, tt)) (refl, (refl, tt))
-      (record { arm = armings.None; ns = 0; start = []; number = 1; timely = le refl; arms = refl; done = refl })
+      (none_armed 1)
       (inr (1, le refl, (point_passes _ _ _ _ _ refl, in_its_turn tt refl refl), le refl)) tt) tt)
       ) (two (
       two (right refl refl refl (refl, (refl, tt)) (refl, (refl, tt)) (refl, (refl, tt))
-      (record { arm = armings.None; ns = 0; start = []; number = 2; timely = le refl; arms = refl; done = refl })
+      (none_armed 2)
       (inr (2, le refl, (point_passes _ _ _ _ _ refl, in_its_turn tt refl refl), le refl)) tt)
       (two (right refl refl refl (refl, (refl, tt)) (refl, (refl, tt)) (refl, (refl, tt))
-      (record { arm = armings.None; ns = 0; start = []; number = 2; timely = le refl; arms = refl; done = refl })
+      (none_armed 2)
       (inr (3, le refl, (point_passes _ _ _ _ _ refl, in_its_turn tt refl refl), le refl)) tt) tt)
       ) tt);
 })
@@ -199,7 +212,7 @@ skipped_fits = fits_by skipped_witness (record {
       ) (two (
       two (right refl refl refl (refl, tt) (refl, tt) (refl, tt) refl (inl refl) (record { stamp = refl; holds = refl }))
       (two (right refl refl refl (refl, tt) (refl, tt) (refl, tt)
-      (record { arm = armings.None; ns = 0; start = []; number = 2; timely = le refl; arms = refl; done = refl })
+      (none_armed 2)
       (inr (3, le refl, (point_passes _ _ _ _ _ refl, in_its_turn tt refl refl), le refl)) tt) tt)
       ) tt);
 })
@@ -239,7 +252,7 @@ canceled_fits = fits_by canceled_witness (record {
       }) (inr (0, le refl, tt, (1, le refl, (point_passes _ _ _ _ _ refl, in_its_turn (refl, (refl, refl, λ e. refl)) refl refl), le refl)))
       (record { armed = refl; running = refl; moving = refl }))
       (two (right refl refl refl (refl, tt) (refl, tt) (refl, tt)
-      (le refl, record { arm = armings.None; ns = 0; start = []; number = 2; timely = le refl; arms = refl; done = refl })
+      (le refl, none_armed 2)
       (inr (3, le refl, (point_passes _ _ _ _ _ refl, in_its_turn tt refl refl), le refl)) tt) tt)
       ) (two (
       two (right refl refl refl (refl, tt) (refl, tt) (refl, tt) (refl, refl) (inl refl) (refl, refl))

@@ -1,22 +1,20 @@
 -- The records that don't fit by what they say of objects.
-use Rattle.std.proofs.Common.{◌≡◌, ◌<◌, ◌≤◌, ℕ, zero, suc, true, false, None, Option, Some, List, [], ◌∷◌, ◌++◌, arith, refl, sym, ap, ◌∙◌, subst}
+use Rattle.std.proofs.Common.{◌≡◌, ◌<◌, ◌≤◌, ℕ, zero, suc, true, false, None, Some, List, [], ◌∷◌, ◌++◌, arith, refl, sym, ap, ◌∙◌}
 use Rattle.std.proofs.Math.Logic.{⊎_elim}
-use Rattle.std.proofs.lemmas.Bool.{cases_lt, eq-eqb}
+use Rattle.std.proofs.lemmas.Bool.{cases_lt}
 use Rattle.seq_timer.specs.Histories.{IsIdle}
 use Rattle.record_text.specs.declared.record.Armed.{Armed}
 use Rattle.record_text.specs.declared.record.ObjectEntry.TheVariants as object_entries
 use Rattle.record_text.specs.declared.record.ObjectEntry.{ObjectEntry}
 use Rattle.record_text.specs.declared.record.ReadReply.TheVariants as reads
-use Rattle.record_text.specs.declared.record.RunRecord.{RunRecord}
-use Rattle.script_text.specs.declared.script.Script.{Script}
-use Rattle.run_history.specs.Actions.{Action, Made, also, made}
+use Rattle.run_history.specs.Actions.{Action, Made, made}
 use Rattle.run_history.specs.Fits.{Fits, FitsIn}
 use Rattle.run_history.specs.Histories.{timer_after}
 use Rattle.record_text.specs.declared.record.Label.{Label}
 use Rattle.run_history.specs.Witnesses.{Move, OfRise, TimersList, Trace, Witness, timer_along}
 use Rattle.run_history.proofs.Actions.{made-append}
 use Rattle.fit_laws.proofs.OwnPoints.{entered_then, same_then, seen, stamp_then}
-use Rattle.run_cases.specs.Fitting.{accepts_script, armed_script, canceled_entry, canceled_script, disarmed_entry, seen_script, skipped_script, unreadable_script}
+use Rattle.run_cases.specs.Fitting.{accepts_script, armed_script, canceled_entry, canceled_script, seen_script, skipped_script, unreadable_script}
 use Rattle.run_cases.specs.Lines.{at, claim_entry, finish_entry, set_entry_of, set_start}
 use Rattle.run_cases.specs.Wrong.{crossed_accepts_record, crossed_record, crossed_script, foreseen_set_record, hasty_skip_record, missed_expiry_record, settimes_record, settimes_script, uncancelled_record, uncancelled_script, unseen_record, unstarted_record}
 use Rattle.run_cases.proofs.ExpiryRuns.{all_by_finish, fired_one, skipped_before_finish}

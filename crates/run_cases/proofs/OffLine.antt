@@ -197,7 +197,8 @@ early_move_doesnt_fit fits =
 -- law: it does not fit
 pub silent_doesnt_fit : Fits silent_script silent_record → ⊥
 silent_doesnt_fit fits =
-    let o = in_one_order_of silent_script silent_record (moves_by silent_record [] (BasesList 1 ∷ [])) refl (refl, tt) (refl, (refl, tt)) refl (refl, tt) refl fits in
+    let o = in_one_order_of silent_script silent_record (moves_by silent_record [] (BasesList 1 ∷ []))
+    refl (refl, tt) (refl, (refl, tt)) refl (refl, tt) refl fits in
     let call = (o.1.calls 0).2.1.0 in
     let wrong = call.traced.moves ∙ ap all_entered call.does in
     cc

@@ -1,30 +1,22 @@
--- Readings of the clock among all moves: no call reads a write of a call that began no earlier, and none
--- reads less than a call whose first moment its lane had seen; and the records that don't fit by this.
-use Rattle.std.proofs.Common.{◌≡◌, ◌<◌, ◌≤◌, ℕ, zero, suc, ◌+◌, true, false, nat_eq, if◌then◌else◌, Some, List, [], ◌∷◌, filter, length, map, take, arith, refl, sym, ap, ◌∙◌}
-use Rattle.std.specs.List.{slice_get}
+-- Readings of the clock among all moves: no call reads a write of a call that began no earlier, and none reads less than a call whose first moment its lane
+-- had seen; and the records that don't fit by this.
+use Rattle.std.proofs.Common.{◌≡◌, ◌<◌, ◌≤◌, ℕ, List, [], ◌∷◌, length, arith, refl, ap, ◌∙◌}
 use Rattle.std.proofs.Math.Logic.{⊎_elim}
-use Rattle.std.proofs.lemmas.Bool.{cases_lt, true≢false}
-use Rattle.std.proofs.lemmas.List.{take-map}
-use Rattle.std.proofs.lemmas.Option.{same_Some}
+use Rattle.std.proofs.lemmas.Bool.{cases_lt}
 use Rattle.ktime.specs.declared.mode.Mode.TheVariants as modes
-use Rattle.seq_timer.specs.Systems.{rises_of}
 use Rattle.seq_timer.specs.declared.event.AskedBy.{AskedBy}
 use Rattle.seq_timer.specs.declared.event.EventBy.{EventBy}
 use Rattle.seq_timer.specs.declared.event.EventBy.TheVariants as events
 use Rattle.seq_timer.specs.declared.event.Reply.{Reply}
-use Rattle.record_text.specs.declared.record.ClockLine.{ClockLine}
 use Rattle.record_text.specs.declared.record.Entry.{Entry}
 use Rattle.record_text.specs.declared.record.Label.{Label}
-use Rattle.record_text.specs.declared.record.RunRecord.{RunRecord}
 use Rattle.script_text.specs.Declarations.{without_slack}
 use Rattle.script_text.specs.declared.script.StartRequest.{StartRequest}
-use Rattle.run_history.specs.Actions.{also, entered}
+use Rattle.run_history.specs.Actions.{entered}
 use Rattle.run_history.specs.Fits.{Fits, HasRead}
-use Rattle.run_history.specs.Order.{is_label, made_by}
 use Rattle.run_history.specs.Starts.{Arming, SentTo, arming_actions}
 use Rattle.run_history.specs.Truths.{IsMoment}
-use Rattle.run_history.specs.Witnesses.{CountersList, IsOneHistory, Move, OfBase, OfRise, OfTimer, Owner, Shown, TimersList, Witness, entry_of_move, entry_of_shown, is_owner, lines_at, moves_from, moves_on, owner_of, timer_along, writes_along}
-use Rattle.run_history.proofs.Labels.{label_itself}
+use Rattle.run_history.specs.Witnesses.{CountersList, IsOneHistory, TimersList, Witness, timer_along}
 use Rattle.fit_laws.proofs.EachTimer.{heads}
 use Rattle.fit_laws.proofs.OwnParts.{on_rises}
 use Rattle.fit_laws.proofs.OwnPoints.{entered_then, stamp_then}

@@ -5,7 +5,6 @@ use Rattle.std.proofs.lemmas.Bool.{eq-eqb}
 use Rattle.ktime.specs.declared.mode.Mode.{Mode}
 use Rattle.ktime.specs.declared.timespec.TimeSpec.{TimeSpec}
 use Rattle.seq_timer.specs.Histories.{IsIdle}
-use Rattle.seq_timer.specs.declared.event.EventBy.{EventBy}
 use Rattle.seq_timer.specs.declared.event.EventBy.TheVariants as events
 use Rattle.seq_timer.specs.declared.event.Reply.TheVariants as replies
 use Rattle.record_text.specs.declared.record.Answer.TheVariants as answers
@@ -18,7 +17,7 @@ use Rattle.record_text.specs.declared.record.ObjectEntry.{ObjectEntry}
 use Rattle.record_text.specs.declared.record.SettimeReply.TheVariants as settings
 use Rattle.script_text.specs.Declarations.{without_slack}
 use Rattle.script_text.specs.declared.script.Call.TheVariants as calls
-use Rattle.run_history.specs.Actions.{Action, also, Entered, entered, Made, made, own}
+use Rattle.run_history.specs.Actions.{Action, also, entered, Made, made, own}
 use Rattle.run_history.specs.Fits.{FitsCall, Seen}
 use Rattle.run_history.specs.ObjectCalls.{Arms, cancels, nanoseconds_of}
 use Rattle.run_history.specs.Objects.{lines_of_object}

@@ -3,7 +3,7 @@ use Rattle.std.proofs.Common.{◌≡◌, ◌≤◌, ◌&&◌, ℕ, ◌+◌, zero
 use Rattle.std.specs.List.{AllByRecursion, list_all}
 use Rattle.std.proofs.lemmas.Bool.{and_parts, eqb-true}
 use Rattle.std.proofs.lemmas.Bool.Decides.{nat_tests}
-use Rattle.std.proofs.lemmas.List.{get_or_past, length-map, nil_from_length}
+use Rattle.std.proofs.lemmas.List.{get_or_past, length-map}
 use Rattle.clock_model.specs.Clocks.{at_stamp}
 use Rattle.seq_timer.specs.Systems.{IsSystemHistory}
 use Rattle.record_text.specs.declared.record.ObjectLine.{ObjectLine}
@@ -17,8 +17,8 @@ use Rattle.script_text.specs.declared.script.Round.{Round}
 use Rattle.script_text.specs.declared.script.Script.{Script}
 use Rattle.run_history.specs.Histories.{answers_of, AreWrites, clock_labels}
 use Rattle.script_text.specs.Declarations.{declareds_of, terms_of, kind_of}
-use Rattle.run_history.specs.Objects.{IsLegalObject, lines_of_object}
-use Rattle.run_history.specs.Order.{AreUnder, calls_of, IsInOrder, IsLabel}
+use Rattle.run_history.specs.Objects.{IsLegalObject}
+use Rattle.run_history.specs.Order.{AreUnder, calls_of}
 use Rattle.run_history.specs.Witnesses.{BasesList, CountersList, Witness, entries_in, is_owner, labels, line_of_base, line_of_object, line_of_timer, lines_at, Move, moves_from, moves_on, Owner, owner_of, TimersList}
 use Rattle.run_history.specs.Fits.{AreSkipsUnder, Fits, FitsIn, FitsLane, unseen}
 use Rattle.run_cases.proofs.Calls.{AreRight, are_placed, lane_fits}

@@ -120,8 +120,8 @@ finds_pass false heir e is = absurd (true≢false (sym is))
 
 -- an entry of a timer may come next
 pub step : {bases count : ℕ} {w : System} {e : TimerEntry}
-    → (nat_lt e.timer count && finds (is_start (effect (w.timers e.timer) e.event)) (w.bases (w.timers e.timer).base).standing.heir) ≡ true → Needs (w.timers e.timer) e.event
-    → e.reply ≡ reply_to (w.timers e.timer) e.event
+    → (nat_lt e.timer count && finds (is_start (effect (w.timers e.timer) e.event)) (w.bases (w.timers e.timer).base).standing.heir) ≡ true
+    → Needs (w.timers e.timer) e.event → e.reply ≡ reply_to (w.timers e.timer) e.event
     → NeedsOfBases (BeginsInTurn (w.bases (w.timers e.timer).base) e.timer (w.timers e.timer)) bases (effect (w.timers e.timer) e.event).function
     (effect (w.timers e.timer) e.event).sent
     → IsSystemStep bases count w e

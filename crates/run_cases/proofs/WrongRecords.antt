@@ -1,35 +1,28 @@
 -- The records that don't fit.
-use Rattle.std.proofs.Common.{◌≡◌, ◌<◌, ◌≤◌, ℕ, true, false, [], ◌∷◌, Some, arith, refl, sym, ap, ◌∙◌, subst, zero, suc, ◌+◌, ◌++◌, List, flat_map, length, take, map, if◌then◌else◌, nat_le}
+use Rattle.std.proofs.Common.{◌≡◌, ◌<◌, ◌≤◌, ℕ, true, false, [], ◌∷◌, Some, arith, refl, sym, ap, ◌∙◌, subst, zero, suc, List, take, map, if◌then◌else◌, nat_le}
 use Rattle.std.specs.List.{slice_get, AllByRecursion}
 use Rattle.std.proofs.Math.Logic.{⊎_elim}
-use Rattle.std.proofs.lemmas.Bool.{cases_lt, false≢true, eq-eqb}
+use Rattle.std.proofs.lemmas.Bool.{cases_lt, false≢true}
 use Rattle.ktime.specs.declared.clock_id.ClockId.TheVariants as clocks
 use Rattle.seq_timer.specs.declared.context.Context.TheVariants as contexts
 use Rattle.seq_timer.specs.declared.context.Context.{Context}
 use Rattle.seq_timer.specs.declared.context.Declared.{Declared}
-use Rattle.seq_timer.specs.Histories.{IsIdle}
 use Rattle.seq_timer.specs.Systems.{after_entry, changed}
 use Rattle.seq_timer.specs.Tables.{IsStopped, in_context, is_context, is_kept_on, no_timer, runs_on, seen_in}
-use Rattle.record_text.specs.declared.record.Entry.{Entry}
 use Rattle.record_text.specs.declared.record.Label.{Label}
-use Rattle.record_text.specs.declared.record.ObjectEntry.TheVariants as object_entries
-use Rattle.record_text.specs.declared.record.ObjectEntry.{ObjectEntry}
 use Rattle.seq_timer.proofs.Due.{stopped-unreached}
 use Rattle.seq_timer.proofs.Agreement.{soft_within_context}
 use Rattle.record_text.specs.declared.version.Version.TheVariants as versions
 use Rattle.script_text.specs.declared.script.Script.{Script}
-use Rattle.run_history.specs.Actions.{Action, also, Entered, made}
+use Rattle.run_history.specs.Actions.{made}
 use Rattle.run_history.specs.Histories.{reading_at, timer_after}
-use Rattle.script_text.specs.Declarations.{declared_of, declareds_of, terms_of, kind_of}
-use Rattle.run_history.specs.Order.{is_before, IsPoint, made_by}
-use Rattle.run_history.specs.Calls.{fires, IsBody, IsTrigger}
-use Rattle.run_history.specs.Witnesses.{CountersList, labels, Move, OfTimer, Shown, TimersList, timer_along, entries_in, Witness, Trace, Fired}
+use Rattle.script_text.specs.Declarations.{declared_of, declareds_of, terms_of}
+use Rattle.run_history.specs.Order.{is_before, IsPoint}
+use Rattle.run_history.specs.Witnesses.{CountersList, labels, Move, OfTimer, TimersList, timer_along, entries_in, Witness, Trace, Fired}
 use Rattle.run_history.specs.Fits.{Fits}
-use Rattle.run_history.specs.Traces.{all_entered}
 use Rattle.run_history.specs.Truths.{IsDone}
 use Rattle.fit_laws.proofs.EachTimer.{heads}
 use Rattle.run_history.proofs.Lists.{at_map}
-use Rattle.run_history.proofs.Expires.{claim_of, finish_of}
 use Rattle.fit_laws.proofs.OwnPoints.{declared_then, same_then, seen, seen_rises, stamp_then, turn_at}
 use Rattle.run_cases.specs.Lines.{at, claim_entry}
 use Rattle.run_cases.specs.Fitting.{waiting_script}
