@@ -1,5 +1,5 @@
-"""Nine records that no order of all moves explains, each beside one of the same script that fits. In both each list by itself is a right history, and each call
-did what its words say: what is wrong shows only where the lists are put beside each other."""
+"""Eleven records that no order of all moves explains, each beside one of the same script that fits. In both each list by itself is a right history, and each
+call did what its words say: what is wrong shows only where the lists are put beside each other."""
 from typing import NamedTuple, Tuple
 
 
@@ -73,6 +73,16 @@ PAIRS = [
         ("0 0", "1 0", "1 1"),
     ),
     Pair(
+        "an object is seen armed, and its timer is idle and not yet started behind that",
+        script(["posix 0 monotonic 0"], ["0 settime 0 1 0 50 0 0", "1 gettime 0", "1 peek 0"]),
+        record(
+            "timer 0 1 0 0 start abs 50 0 0 0 monotonic 50 0", "object 0 1 0 0 settime 1 50 0 0 1 old 0 0",
+            "call 0 0 old 0 0", "call 1 0 left 50 0 0 1", "call 1 1 peek 1 0 1 0 0",
+        ),
+        (("call 1 1 peek 1 0 1 0 0", "call 1 1 peek 0 0 0 0 0"),),
+        ("0 0", "1 0", "1 1"),
+    ),
+    Pair(
         "each of two lanes sets an object, and sees the other's as it was before",
         script(["fd 0 monotonic 0", "fd 1 monotonic 0"], ["0 settime 0 0 0 0 0 0", "0 readable 1", "1 settime 1 0 0 0 0 0", "1 readable 0"]),
         record(
@@ -95,6 +105,18 @@ PAIRS = [
             ("object 0 2 1 1 accept 0 none nosignal", "object 0 2 0 0 accept 0 none nosignal"),
         ),
         ("0 0", "0 1", "1 0", "1 1"),
+    ),
+    Pair(
+        "a look at a descriptor misses an expiry whose function its lane saw to end",
+        script(["fd 0 monotonic 0"], ["0 advance 10", "0 settime 0 1 0 5 0 0"], ["0 expire 0 4", "1 peek 0", "1 readable 0"]),
+        record(
+            "clock 1 0 0 advance 10 10 10 10 0",
+            "timer 0 1 0 1 start abs 5 1 0 0 monotonic 5 0", "timer 0 2 0 2 claim 0 1 1", "timer 0 3 0 2 finish stop 1 none",
+            "object 0 1 0 1 settime 1 5 0 1 1 old 0 0", "object 0 2 0 2 trigger 1 1 counted",
+            "call 0 0 clock 1", "call 0 1 old 0 0", "call 0 2 done 1 1 0", "call 1 0 peek 1 0 1 0 0", "call 1 1 readable 0 1 1",
+        ),
+        (("call 1 0 peek 1 0 1 0 0", "call 1 0 peek 3 0 0 0 0"),),
+        ("0 2", "1 0", "1 1"),
     ),
     Pair(
         "a read stands before the first of two expiries, and its lane saw the function of the second",

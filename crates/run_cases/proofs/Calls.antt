@@ -1,29 +1,26 @@
 -- Calls of a small witness: tests of where they stand, and what else makes each right.
-use Rattle.std.proofs.Common.{◌≡◌, ◌≤◌, ◌⊎◌, ◌&&◌, ℕ, ◌+◌, Bool, true, nat_eq, nat_le, nat_lt, None, Option, Some, List, [], ◌∷◌, ◌++◌, if◌then◌else◌, length, map, arith, refl, sym, ap, ◌∙◌, subst}
+use Rattle.std.proofs.Common.{◌≡◌, ◌⊎◌, ◌&&◌, ℕ, ◌+◌, Bool, true, nat_eq, nat_le, List, [], ◌∷◌, length, map, arith, sym, ap, ◌∙◌, subst}
 use Rattle.std.specs.List.Sorted.{IsPermutation}
-use Rattle.std.specs.List.{AllByRecursion, list_all}
 use Rattle.std.proofs.Math.Logic.{⊎_elim}
 use Rattle.std.proofs.lemmas.Bool.{and_parts, eqb-true}
 use Rattle.std.proofs.lemmas.List.Sorted.{IsPermutation-refl}
 use Rattle.std.proofs.lemmas.List.{get_or_past, nil_from_length}
 use Rattle.record_text.specs.declared.record.Answer.{Answer}
 use Rattle.record_text.specs.declared.record.Label.{Label}
-use Rattle.record_text.specs.declared.record.ObjectLine.{ObjectLine}
 use Rattle.script_text.specs.declared.script.Call.{Call}
 use Rattle.script_text.specs.declared.script.Call.TheVariants as calls
-use Rattle.run_history.specs.Actions.{own, looked, made, own_looks, skips_under, own_skips, skipped, wrote}
-use Rattle.run_history.specs.Told.{object_called, object_stamp_in, object_steps_on, stamps_on}
+use Rattle.run_history.specs.Actions.{own, looked, made, own_looks, own_skips, skipped, wrote}
 use Rattle.run_history.specs.Histories.{clock_labels, lines_of_timer}
 use Rattle.run_history.specs.Objects.{lines_of_object}
-use Rattle.run_history.specs.Order.{CallInRound, NeverFall}
+use Rattle.run_history.specs.Order.{CallInRound}
 use Rattle.run_history.specs.Calls.{AllKeepExpiries, AllMoved, Does}
 use Rattle.run_history.specs.Witnesses.{Witness, labels, writes_along}
 use Rattle.run_history.specs.Fits.{FitsLane, HasRead, ReadsInTurn}
 use Rattle.run_history.specs.Traces.{all_entered, HasTraced, own_moves}
-use Rattle.run_history.specs.Truths.{AnswerHolds, AreTrue, IsClaimSpan, WasFront, WasOffLine}
+use Rattle.run_history.specs.Truths.{AnswerHolds, AreTrue, WasFront, WasOffLine}
 use Rattle.run_history.proofs.OthersMade.{none_moved}
-use Rattle.run_cases.proofs.Witnesses.{Along, everywhere, each_list}
-use Rattle.run_cases.proofs.Tests.{all_true, are_made, are_plain, plain_pass, is_point, never_fall, IsPast, made_past, other, point_passes, steps_pass, upto}
+use Rattle.run_cases.proofs.Witnesses.{Along, everywhere}
+use Rattle.run_cases.proofs.Tests.{are_made, are_plain, plain_pass, is_point, never_fall, IsPast, made_past, point_passes, steps_pass, upto}
 
 -- ---- calls
 
@@ -46,25 +43,23 @@ is_placed w c clock moves =
     && ((is_point w.script c 0 (w.traces c).first (labels w)
     && is_point w.script c (length (all_entered (w.traces c).actions)) (w.traces c).last (labels w)) && nat_le moves (w.traces c).first)
 
--- what else makes a call fit; the lane had seen so many entries of each object before it, and has seen so many after it
-pub record IsRight (w : Witness) (c : Label) (call : Call) (answer : Answer) (before after : ℕ) : Type 0 where
+-- what else makes a call fit
+pub record IsRight (w : Witness) (c : Label) (call : Call) (answer : Answer) : Type 0 where
   pub traced : HasTraced w c (w.traces c).actions
   pub does : Does (WasOffLine w (w.traces c).first (w.traces c).last) w.script (w.traces c).at call answer (w.traces c).fired (w.traces c).moved
       (w.traces c).actions
   pub keeps : AllKeepExpiries w.script w.run call (w.traces c).moved
   pub turns : AllMoved (WasFront w (w.traces c).first (w.traces c).last) call (w.traces c).moved
   pub truth : AreTrue w c (w.traces c).first (w.traces c).first [] (w.traces c).actions (w.traces c).last
-  pub expiries : AllByRecursion (λ f. IsClaimSpan w f f.body) (w.traces c).fired
   pub seen : AnswerHolds w (w.traces c).first (w.traces c).last c (w.traces c).at (w.traces c).actions call answer
-  pub steps : (i : ℕ) → NeverFall before (object_steps_on i call answer (w.traces c).actions) after
 
 -- the same of a lane's calls from one of them on
-abbrev pub AreRight : Witness → ℕ → ℕ → ℕ → List CallInRound → List Answer → Type 0
-AreRight w lane index before [] [] = Unit
-AreRight w lane index before (p ∷ ps) (a ∷ more) =
-    (after : ℕ) × IsRight w (record { lane = lane; call = index }) p.call a before after × AreRight w lane (index + 1) after ps more
-AreRight w lane index before [] (a ∷ more) = ⊥
-AreRight w lane index before (p ∷ ps) [] = ⊥
+abbrev pub AreRight : Witness → ℕ → ℕ → List CallInRound → List Answer → Type 0
+AreRight w lane index [] [] = Unit
+AreRight w lane index (p ∷ ps) (a ∷ more) =
+    IsRight w (record { lane = lane; call = index }) p.call a × AreRight w lane (index + 1) ps more
+AreRight w lane index [] (a ∷ more) = ⊥
+AreRight w lane index (p ∷ ps) [] = ⊥
 
 -- the same of a lane's calls from one of them on
 abbrev pub are_placed : Witness → ℕ → ℕ → ℕ → ℕ → List CallInRound → Bool
@@ -82,13 +77,13 @@ in_turn w c (calls.Online base) from read = tt
 in_turn w c call from read = read
 
 -- law: so the calls of a lane fit
-pub lane_fits : (w : Witness) (lane index clock moves objects : ℕ) (ps : List CallInRound) (given : List Answer)
+pub lane_fits : (w : Witness) (lane index clock moves : ℕ) (ps : List CallInRound) (given : List Answer)
     → are_placed w lane index clock moves ps ≡ true
-    → AreRight w lane index objects ps given → FitsLane w lane index (record { clock = clock; moves = moves; objects = λ i. objects }) ps given
-lane_fits w lane index clock moves objects [] [] placed right = tt
-lane_fits w lane index clock moves objects [] (a ∷ more) placed right = absurd right
-lane_fits w lane index clock moves objects (p ∷ ps) [] placed right = absurd right
-lane_fits w lane index clock moves objects (p ∷ ps) (a ∷ more) placed right =
+    → AreRight w lane index ps given → FitsLane w lane index (record { clock = clock; moves = moves }) ps given
+lane_fits w lane index clock moves [] [] placed right = tt
+lane_fits w lane index clock moves [] (a ∷ more) placed right = absurd right
+lane_fits w lane index clock moves (p ∷ ps) [] placed right = absurd right
+lane_fits w lane index clock moves (p ∷ ps) (a ∷ more) placed right =
     let c : Label = record { lane = lane; call = index } in
     let t = w.traces c in
     let these = map (λ x. x.0) (wrote t.actions) in
@@ -104,22 +99,20 @@ lane_fits w lane index clock moves objects (p ∷ ps) (a ∷ more) placed right 
     (nat_le moves t.first) halves.1 in
     let ends = and_parts (is_point w.script c 0 t.first (labels w))
     (is_point w.script c (length (all_entered t.actions)) t.last (labels w)) rest.0 in (
-      record { clock = clock_then w c; moves = t.last; objects = λ i. right.0 },
+      record { clock = clock_then w c; moves = t.last },
       (
         record {
-          traced = right.1.traced;
-          does = right.1.does;
-          keeps = right.1.keeps;
-          turns = right.1.turns;
+          traced = right.0.traced;
+          does = right.0.does;
+          keeps = right.0.keeps;
+          turns = right.0.turns;
           reading = point_passes w.script c 0 t.at (clock_labels w.run) times.0;
           begins = point_passes w.script c 0 t.first (labels w) ends.0;
           ends = point_passes w.script c (length (all_entered t.actions)) t.last (labels w) ends.1;
-          truth = right.1.truth;
-          expiries = right.1.expiries;
-          seen = right.1.seen;
+          truth = right.0.truth;
+          seen = right.0.seen;
           clock_steps = steps_pass clock (t.at ∷ these) (clock_then w c) readings.0;
           move_steps = (upto moves t.first rest.1, omega arith);
-          object_steps = right.1.steps;
         },
         in_turn w c p.call moves (record {
           moment = t.first;
@@ -128,56 +121,30 @@ lane_fits w lane index clock moves objects (p ∷ ps) (a ∷ more) placed right 
           writes = eqb-true (writes_along w t.first) t.at readings.1;
         }),
       ),
-      lane_fits w lane (index + 1) (clock_then w c) t.last right.0 ps more both.1 right.2,
+      lane_fits w lane (index + 1) (clock_then w c) t.last ps more both.1 right.1,
     )
 
--- under an object's entries there are no refused expiries
-abbrev pub is_unrefused : List ObjectLine → Bool
-is_unrefused lines = list_all (λ line. nat_eq (length line.skips) 0) lines
-
-no_skips : (c : Label) (k : ℕ) (lines : List ObjectLine) → is_unrefused lines ≡ true → own_skips c k lines ≡ []
-no_skips c k [] e = refl
-no_skips c k (l ∷ lines) e = let parts = and_parts (nat_eq (length l.skips) 0) (is_unrefused lines) e in
-    ap (λ skips. skips_under c k skips ++ own_skips c (k + 1) lines) (nil_from_length l.skips (eqb-true (length l.skips) 0 parts.0))
-    ∙ no_skips c (k + 1) lines parts.1
-
--- a call is on a timer by itself, or on an object that is there
-abbrev pub is_on : ℕ → Option ℕ → Bool
-is_on k None = true
-is_on k (Some i) = nat_lt i k
-
-no_stamps : (k i : ℕ) (on : Option ℕ) (stamps : List ℕ) → is_on k on ≡ true → k ≤ i → stamps_on i on stamps ≡ []
-no_stamps k i None stamps e past = refl
-no_stamps k i (Some on) stamps e past = ap (λ b. if b then stamps else []) (other on k i e past)
-
 -- what a call did can be said of each timer and each object that is there
-abbrev pub is_said : Witness → Label → Call → ℕ → ℕ → Bool
-is_said w c call before after =
-    (list_all is_unrefused w.run.objects && are_made (length w.run.timers) (length w.run.objects) (w.traces c).actions)
-    && (is_on (length w.run.objects) (object_called call) && nat_le before after)
+abbrev pub is_said : Witness → Label → Bool
+is_said w c = are_made (length w.run.timers) (length w.run.objects) (w.traces c).actions
 
 -- law: so a call is right
-pub right_moving : {w : Witness} {c : Label} {call : Call} {answer : Answer} {before after : ℕ} → is_said w c call before after ≡ true
+pub right_moving : {w : Witness} {c : Label} {call : Call} {answer : Answer} → is_said w c ≡ true
     → own (λ line. line.label) (λ line. line.write) c 1 w.run.clock ≡ wrote (w.traces c).actions
     → own_moves c w.moves ≡ all_entered (w.traces c).actions
     → Along (λ t. own_looks c 1 (lines_of_timer w.run t) ≡ looked t (w.traces c).actions) 0 w.run.timers
     → Along (λ i. own (λ line. line.label) (λ line. line.entry) c 1 (lines_of_object w.run i) ≡ made i (w.traces c).actions) 0 w.run.objects
-    → Along (λ i. NeverFall before (object_steps_on i call answer (w.traces c).actions) after) 0 w.run.objects
+    → Along (λ i. own_skips c 1 (lines_of_object w.run i) ≡ skipped i (w.traces c).actions) 0 w.run.objects
     → Does (WasOffLine w (w.traces c).first (w.traces c).last) w.script (w.traces c).at call answer (w.traces c).fired (w.traces c).moved (w.traces c).actions
     → AllKeepExpiries w.script w.run call (w.traces c).moved × AllMoved (WasFront w (w.traces c).first (w.traces c).last) call (w.traces c).moved
     → (are_plain w c (w.traces c).first [] (w.traces c).actions (w.traces c).last ≡ true)
     ⊎ AreTrue w c (w.traces c).first (w.traces c).first [] (w.traces c).actions (w.traces c).last
-    → AllByRecursion (λ f. IsClaimSpan w f f.body) (w.traces c).fired
     → AnswerHolds w (w.traces c).first (w.traces c).last c (w.traces c).at (w.traces c).actions call answer
-    → IsRight w c call answer before after
-right_moving {w} {c} {call} {answer} {before} {after} said clock moves looks objects steps does moved truth expiries seen =
+    → IsRight w c call answer
+right_moving {w} {c} {call} {answer} said clock moves looks objects skips does moved truth seen =
     let r = w.run in
     let ds = (w.traces c).actions in
-    let parts = and_parts (list_all is_unrefused r.objects && are_made (length r.timers) (length r.objects) ds)
-    (is_on (length r.objects) (object_called call) && nat_le before after) said in
-    let did_so = and_parts (list_all is_unrefused r.objects) (are_made (length r.timers) (length r.objects) ds) parts.0 in
-    let called = and_parts (is_on (length r.objects) (object_called call)) (nat_le before after) parts.1 in
-    let past : (i : ℕ) → IsPast (length r.timers) (length r.objects) i ds = λ i. made_past (length r.timers) (length r.objects) i ds did_so.1 in
+    let past : (i : ℕ) → IsPast (length r.timers) (length r.objects) i ds = λ i. made_past (length r.timers) (length r.objects) i ds said in
     record {
       traced = record {
         clock = clock;
@@ -187,42 +154,36 @@ right_moving {w} {c} {call} {answer} {before} {after} said clock moves looks obj
         objects = everywhere (λ i. own (λ line. line.label) (λ line. line.entry) c 1 (lines_of_object r i) ≡ made i ds) r.objects objects (λ i more.
             ap (own (λ line. line.label) (λ line. line.entry) c 1) (get_or_past r.objects i [] more) ∙ sym ((past i).made more));
         skips = λ i. subst (λ xs. IsPermutation xs (skipped i ds))
-            (sym (each_list (λ lines. own_skips c 1 lines ≡ []) r.objects refl
-            (all_true (λ lines. own_skips c 1 lines ≡ []) is_unrefused (no_skips c 1) r.objects did_so.0) i))
-            (subst (IsPermutation []) (sym (past i).skipped) (IsPermutation-refl []));
+            (sym (everywhere (λ i. own_skips c 1 (lines_of_object r i) ≡ skipped i ds) r.objects skips (λ i more.
+            ap (own_skips c 1) (get_or_past r.objects i [] more) ∙ sym ((past i).skipped more)) i))
+            (IsPermutation-refl (skipped i ds));
       };
       does = does;
       keeps = moved.0;
       turns = moved.1;
       truth = ⊎_elim (plain_pass w c (w.traces c).first (w.traces c).first [] ds (w.traces c).last) (λ is. is) truth;
-      expiries = expiries;
       seen = seen;
-      steps = everywhere (λ i. NeverFall before (object_steps_on i call answer ds) after) r.objects steps (λ i more.
-          subst (λ ns. NeverFall before (ns ++ stamps_on i (object_called call) (object_stamp_in answer)) after) (sym ((past i).numbers more))
-          (subst (λ ns. NeverFall before ns after) (sym (no_stamps (length r.objects) i (object_called call) (object_stamp_in answer) called.0 more))
-          (upto before after called.1)));
     }
 
 -- law: the same of a call that moved no timer off a base
-pub right : {w : Witness} {c : Label} {call : Call} {answer : Answer} {before after : ℕ}
-    → (nat_eq (length (w.traces c).moved) 0 && is_said w c call before after) ≡ true
+pub right : {w : Witness} {c : Label} {call : Call} {answer : Answer} → (nat_eq (length (w.traces c).moved) 0 && is_said w c) ≡ true
     → own (λ line. line.label) (λ line. line.write) c 1 w.run.clock ≡ wrote (w.traces c).actions
     → own_moves c w.moves ≡ all_entered (w.traces c).actions
     → Along (λ t. own_looks c 1 (lines_of_timer w.run t) ≡ looked t (w.traces c).actions) 0 w.run.timers
     → Along (λ i. own (λ line. line.label) (λ line. line.entry) c 1 (lines_of_object w.run i) ≡ made i (w.traces c).actions) 0 w.run.objects
-    → Along (λ i. NeverFall before (object_steps_on i call answer (w.traces c).actions) after) 0 w.run.objects
+    → Along (λ i. own_skips c 1 (lines_of_object w.run i) ≡ skipped i (w.traces c).actions) 0 w.run.objects
     → Does (WasOffLine w (w.traces c).first (w.traces c).last) w.script (w.traces c).at call answer (w.traces c).fired (w.traces c).moved (w.traces c).actions
     → (are_plain w c (w.traces c).first [] (w.traces c).actions (w.traces c).last ≡ true)
     ⊎ AreTrue w c (w.traces c).first (w.traces c).first [] (w.traces c).actions (w.traces c).last
-    → AllByRecursion (λ f. IsClaimSpan w f f.body) (w.traces c).fired
     → AnswerHolds w (w.traces c).first (w.traces c).last c (w.traces c).at (w.traces c).actions call answer
-    → IsRight w c call answer before after
-right {w} {c} {call} {answer} {before} {after} said clock moves looks objects steps does truth expiries seen =
+    → IsRight w c call answer
+right {w} {c} {call} {answer} said clock moves looks objects skips does truth seen =
     let moved = (w.traces c).moved in
-    let parts = and_parts (nat_eq (length moved) 0) (is_said w c call before after) said in
-    right_moving parts.1 clock moves looks objects steps does
+    let parts = and_parts (nat_eq (length moved) 0) (is_said w c) said in
+    right_moving parts.1 clock moves looks objects skips does
     (none (nil_from_length moved (eqb-true (length moved) 0 parts.0)))
-    truth expiries seen
+    truth seen
   where
-    none : (w.traces c).moved ≡ [] → AllKeepExpiries w.script w.run call (w.traces c).moved × AllMoved (WasFront w (w.traces c).first (w.traces c).last) call (w.traces c).moved
+    none : (w.traces c).moved ≡ []
+        → AllKeepExpiries w.script w.run call (w.traces c).moved × AllMoved (WasFront w (w.traces c).first (w.traces c).last) call (w.traces c).moved
     none is = (subst (AllMoved _ call) (sym is) (none_moved _ call), subst (AllMoved _ call) (sym is) (none_moved _ call))

@@ -1,5 +1,5 @@
 -- The records that fit: a witness for each, and what makes it fit.
-use Rattle.std.proofs.Common.{◌≡◌, ℕ, true, false, [], ◌∷◌, List, None, get_or, arith, refl, inl, inr}
+use Rattle.std.proofs.Common.{◌≡◌, ℕ, true, false, [], ◌∷◌, List, None, arith, refl, inl, inr}
 use Rattle.ktime.specs.Times.{passed}
 use Rattle.ktime.specs.declared.mode.Mode.TheVariants as modes
 use Rattle.clock_model.specs.declared.write.Write.TheVariants as writes
@@ -19,7 +19,7 @@ use Rattle.run_history.specs.Fits.{Fits}
 use Rattle.run_cases.specs.Fitting.{accept_entry, accepted_record, accepted_script, beside, beside_script, cancelled_record, expired_lines, idle_record, idle_script, kept_start, late_record, moved_record, moved_script, moved_start, rearming_start, none_entry, running_record, set_entry, told_record, told_script, trigger_entry}
 use Rattle.run_cases.specs.Lines.{at, start, cancel_entry, out_entry}
 use Rattle.run_cases.proofs.Calls.{are_placed, IsRight, right}
-use Rattle.run_cases.proofs.Witnesses.{armed_as, armed_by, witness_along, witness_by, did, done_by, fired, next, stays, ran, step, three, two}
+use Rattle.run_cases.proofs.Witnesses.{armed_as, armed_by, in_its_turn, witness_along, witness_by, did, done_by, fired, stays, ran, step, three, two}
 use Rattle.run_cases.proofs.Small.{fits_by}
 use Rattle.run_cases.proofs.Tests.{le, lt, point_passes}
 
@@ -30,7 +30,6 @@ abbrev idle_witness : Witness
 idle_witness = witness_along idle_script idle_record (TimersList 0 ∷ CountersList 0 ∷ TimersList 0 ∷ TimersList 0 ∷ [])
     ((did 0 (Entered 0 1 (start modes.Rel 100 100) ∷ []) 0 1 ∷ did 0 (Wrote 1 (writes.Advance 100) ∷ []) 1 2
     ∷ ran 0 1 (fired 2 1 [] 3 false ∷ []) 2 4 ∷ did 1 [] 4 4 ∷ did 1 [] 4 4 ∷ []) ∷ [])
-    (λ i k. (0, 0))
 
 -- law: it fits
 pub idle_fits : Fits idle_script idle_record
@@ -42,20 +41,20 @@ idle_fits = fits_by idle_witness (record {
   all = (refl, tt);
   bases = (refl, tt);
   clock = refl;
+  objects = (refl, tt);
   history = two (step refl (inr refl, inl (lt refl)) refl tt) (two tt
       (two (step refl (refl, refl, refl, refl, le refl) refl (refl, refl)) (two (step refl refl refl tt) tt)));
   object_histories = (refl, tt);
-  object_spans = (tt, tt);
   placed = (refl, tt);
   calls = two (
-      next 0 (right refl refl refl (refl, tt) (refl, tt) (le refl, tt) (armed_by 1 100, refl, refl, refl, refl, stays refl refl refl) (inl refl) tt tt)
-      (next 0 (right refl refl refl (refl, tt) (refl, tt) (le refl, tt) refl (inl refl) tt tt)
-      (next 0 (right refl refl refl (refl, tt) (refl, tt) (le refl, tt)
+      two (right refl refl refl (refl, tt) (refl, tt) (refl, tt) (armed_by 1 100, refl, refl, refl, refl, stays refl refl refl) (inl refl) tt)
+      (two (right refl refl refl (refl, tt) (refl, tt) (refl, tt) refl (inl refl) tt)
+      (two (right refl refl refl (refl, tt) (refl, tt) (refl, tt)
       (record { one_reading = refl; claimed = refl; done = refl; contexts = (refl, tt); bodies = ((refl, refl), tt) }, lt refl)
-      (inl refl) (tt, tt) (done_by idle_witness contexts.Hard 1 0 4 refl refl (refl, tt) (λ clock. (refl, tt))))
-      (next 0 (right refl refl refl (refl, tt) (refl, tt) (le refl, tt) refl (inl refl) tt
+      (inl refl) (done_by idle_witness contexts.Hard 1 0 4 refl refl (refl, tt) (λ clock. (refl, tt))))
+      (two (right refl refl refl (refl, tt) (refl, tt) (refl, tt) refl (inl refl)
       (record { stamp = refl; holds = record { armed = refl; running = refl; moving = refl } }))
-      (next 0 (right refl refl refl (refl, tt) (refl, tt) (le refl, tt) refl (inl refl) tt (record { stamp = refl; holds = refl })) tt))))
+      (two (right refl refl refl (refl, tt) (refl, tt) (refl, tt) refl (inl refl) (record { stamp = refl; holds = refl })) tt))))
       ) tt;
 })
 
@@ -64,7 +63,7 @@ idle_fits = fits_by idle_witness (record {
 -- its witness
 abbrev told_witness : Witness
 told_witness = witness_by told_script told_record (0 ∷ 0 ∷ 0 ∷ []) ((did 0 (Entered 0 1 (start modes.Rel 0 0) ∷ []) 0 1
-    ∷ ran 0 0 (fired 2 1 (Looked 0 2 (replies.Running 1) ∷ []) 3 false ∷ []) 1 3 ∷ []) ∷ []) (λ i k. (0, 0))
+    ∷ ran 0 0 (fired 2 1 (Looked 0 2 (replies.Running 1) ∷ []) 3 false ∷ []) 1 3 ∷ []) ∷ [])
 
 -- a start, the claim at the same time and the finish are a history
 at_once : IsSystemHistory told_script.bases (declareds_of told_script) (terms_of told_script) (entries_in told_witness)
@@ -82,13 +81,13 @@ told_fits = fits_by told_witness (record {
   all = (refl, tt);
   bases = (refl, tt);
   clock = refl;
+  objects = (refl, tt);
   history = at_once;
   object_histories = (refl, tt);
-  object_spans = (tt, tt);
   placed = (refl, tt);
   calls = two (
-      next 0 (right refl refl refl (refl, tt) (refl, tt) (le refl, tt) (armed_by 1 0, refl, refl, refl, refl, stays refl refl refl) (inl refl) tt tt)
-      (next 0 (right refl refl refl (refl, tt) (refl, tt) (le refl, tt)
+      two (right refl refl refl (refl, tt) (refl, tt) (refl, tt) (armed_by 1 0, refl, refl, refl, refl, stays refl refl refl) (inl refl) tt)
+      (two (right refl refl refl (refl, tt) (refl, tt) (refl, tt)
       (record { one_reading = refl; claimed = refl; done = refl; contexts = (refl, tt); bodies = (((2, refl), refl), tt) }, refl)
       (inr (
         1,
@@ -100,7 +99,7 @@ told_fits = fits_by told_witness (record {
           (point_passes _ _ _ _ _ refl, record { stamp = refl; holds = refl }, tt),
           (2, le refl, tt, le refl),
         ),
-      )) (tt, tt) tt) tt)
+      )) tt) tt)
       ) tt;
 })
 
@@ -110,7 +109,7 @@ told_fits = fits_by told_witness (record {
 abbrev moved_witness : Witness
 moved_witness = witness_by moved_script moved_record (0 ∷ 0 ∷ 0 ∷ 0 ∷ 0 ∷ 0 ∷ []) ((did 0 (Entered 0 1 (start modes.Abs 0 0) ∷ []) 0 1
     ∷ ran 0 0 (fired 2 1 (Entered 0 3 kept_start ∷ []) 4 true ∷ []) 1 4 ∷ did 0 [] 4 4
-    ∷ did 0 (Entered 0 5 (out_entry 1 true) ∷ Entered 0 6 moved_start ∷ []) 4 6 ∷ []) ∷ []) (λ i k. (0, 0))
+    ∷ did 0 (Entered 0 5 (out_entry 1 true) ∷ Entered 0 6 moved_start ∷ []) 4 6 ∷ []) ∷ [])
 
 -- law: it fits
 pub moved_fits : Fits moved_script moved_record
@@ -122,15 +121,15 @@ moved_fits = fits_by moved_witness (record {
   all = (refl, tt);
   bases = (refl, (refl, tt));
   clock = refl;
+  objects = (refl, tt);
   history = two (step refl (inr refl, inl (lt refl)) refl tt) (two (step refl (refl, refl, refl, refl, le refl) refl (refl, refl))
       (two (step refl (inl refl, inl (lt refl)) refl tt) (two (step refl refl refl tt)
       (two (step refl (refl, (λ e. omega (arith, e)), refl) refl (lt refl)) (two (step refl (inr refl, inl (lt refl)) refl tt) tt)))));
   object_histories = (refl, tt);
-  object_spans = (tt, tt);
   placed = (refl, tt);
   calls = two (
-      next 0 (right refl refl refl (refl, tt) (refl, tt) (le refl, tt) (armed_by 1 0, refl, refl, refl, refl, stays refl refl refl) (inl refl) tt tt)
-      (next 0 (right refl refl refl (refl, tt) (refl, tt) (le refl, tt) (
+      two (right refl refl refl (refl, tt) (refl, tt) (refl, tt) (armed_by 1 0, refl, refl, refl, refl, stays refl refl refl) (inl refl) tt)
+      (two (right refl refl refl (refl, tt) (refl, tt) (refl, tt) (
         record {
           one_reading = refl;
           claimed = refl;
@@ -151,16 +150,16 @@ moved_fits = fits_by moved_witness (record {
         },
         refl,
       )
-      (inl refl) (tt, tt) tt)
-      (next 0 (right refl refl refl (refl, tt) (refl, tt) (le refl, tt) refl (inl refl) tt (record { stamp = refl; holds = refl }))
-      (next 0 (right refl refl refl (refl, tt) (refl, tt) (le refl, tt) (
+      (inl refl) tt)
+      (two (right refl refl refl (refl, tt) (refl, tt) (refl, tt) refl (inl refl) (record { stamp = refl; holds = refl }))
+      (two (right refl refl refl (refl, tt) (refl, tt) (refl, tt) (
         record (armed_as 6 1 70 70) { outs = record { base = 1; number = 5; was_armed = true } ∷ [] },
         refl,
         refl,
         refl,
         refl,
         record { below = le refl; next = (refl, tt); way = (([], refl), refl, tt) },
-      ) (inl refl) tt tt) tt)))
+      ) (inl refl) tt) tt)))
       ) tt;
 })
 
@@ -169,7 +168,7 @@ moved_fits = fits_by moved_witness (record {
 -- the start came first; then the cancel, and the other lane's expiry run, did these things
 abbrev beside_witness : RunRecord → List ℕ → Trace → Trace → Witness
 beside_witness r order cancel expire =
-    witness_by beside_script r (0 ∷ order) ((did 0 (Entered 0 1 (start modes.Rel 0 0) ∷ []) 0 1 ∷ cancel ∷ []) ∷ (expire ∷ []) ∷ []) (λ i k. (0, 0))
+    witness_by beside_script r (0 ∷ order) ((did 0 (Entered 0 1 (start modes.Rel 0 0) ∷ []) 0 1 ∷ cancel ∷ []) ∷ (expire ∷ []) ∷ [])
 
 -- the cancel came first
 abbrev cancelled_witness : Witness
@@ -185,16 +184,16 @@ cancelled_fits = fits_by cancelled_witness (record {
   all = (refl, tt);
   bases = (refl, tt);
   clock = refl;
+  objects = (refl, tt);
   history = two (step refl (inr refl, inl (lt refl)) refl tt) (two (step refl (refl, refl, refl) refl tt) tt);
   object_histories = (refl, tt);
-  object_spans = (tt, tt);
   placed = (refl, (refl, tt));
   calls = two (
-      next 0 (right refl refl refl (refl, tt) (refl, tt) (le refl, tt) (armed_by 1 0, refl, refl, refl, refl, stays refl refl refl) (inl refl) tt tt)
-      (next 0 (right refl refl refl (refl, tt) (refl, tt) (le refl, tt) (2, refl) (inl refl) tt tt) tt)
+      two (right refl refl refl (refl, tt) (refl, tt) (refl, tt) (armed_by 1 0, refl, refl, refl, refl, stays refl refl refl) (inl refl) tt)
+      (two (right refl refl refl (refl, tt) (refl, tt) (refl, tt) (2, refl) (inl refl) tt) tt)
       ) (two (
-      next 0 (right refl refl refl (refl, tt) (refl, tt) (le refl, tt)
-      (record { one_reading = refl; claimed = refl; done = refl; contexts = tt; bodies = tt }, lt refl) (inl refl) tt
+      two (right refl refl refl (refl, tt) (refl, tt) (refl, tt)
+      (record { one_reading = refl; claimed = refl; done = refl; contexts = tt; bodies = tt }, lt refl) (inl refl)
       (done_by cancelled_witness contexts.Hard 0 0 2 refl refl (refl, tt) (λ clock. (refl, tt)))) tt
       ) tt);
 })
@@ -205,7 +204,7 @@ expired_witness told moment = beside_witness (beside expired_lines told (answers
     (ran 0 0 (fired 2 1 [] 3 false ∷ []) 1 3)
 
 expired_fits : (told : Answer) (moment : ℕ) → are_placed (expired_witness told moment) 0 0 0 0 (calls_of beside_script 0) ≡ true
-    → IsRight (expired_witness told moment) (at 0 1) (calls.Cancel 0) told 0 0
+    → IsRight (expired_witness told moment) (at 0 1) (calls.Cancel 0) told
     → Fits beside_script (beside expired_lines told (answers.Done 0 (0 ∷ [])))
 unfolding after_entry changed
 expired_fits told moment placed cancel = fits_by (expired_witness told moment) (record {
@@ -215,16 +214,16 @@ expired_fits told moment placed cancel = fits_by (expired_witness told moment) (
   all = (refl, tt);
   bases = (refl, tt);
   clock = refl;
+  objects = (refl, tt);
   history = at_once;
   object_histories = (refl, tt);
-  object_spans = (tt, tt);
   placed = (placed, (refl, tt));
   calls = two (
-      next 0 (right refl refl refl (refl, tt) (refl, tt) (le refl, tt) (armed_by 1 0, refl, refl, refl, refl, stays refl refl refl) (inl refl) tt tt)
-      (next 0 cancel tt)
+      two (right refl refl refl (refl, tt) (refl, tt) (refl, tt) (armed_by 1 0, refl, refl, refl, refl, stays refl refl refl) (inl refl) tt)
+      (two cancel tt)
       ) (two (
-      next 0 (right refl refl refl (refl, tt) (refl, tt) (le refl, tt)
-      (record { one_reading = refl; claimed = refl; done = refl; contexts = (refl, tt); bodies = ((refl, refl), tt) }, lt refl) (inl refl) (tt, tt)
+      two (right refl refl refl (refl, tt) (refl, tt) (refl, tt)
+      (record { one_reading = refl; claimed = refl; done = refl; contexts = (refl, tt); bodies = ((refl, refl), tt) }, lt refl) (inl refl)
       (done_by (expired_witness told moment) contexts.Hard 0 0 3 refl refl (refl, tt) (λ clock. (refl, tt)))) tt
       ) tt);
 })
@@ -233,28 +232,25 @@ expired_fits told moment placed cancel = fits_by (expired_witness told moment) (
 pub running_fits : Fits beside_script running_record
 unfolding after_entry changed
 running_fits = expired_fits (answers.Running 1 2) 2 refl
-    (right refl refl refl (refl, tt) (refl, tt) (le refl, tt) refl (inl refl) tt (record { stamp = refl; holds = refl }))
+    (right refl refl refl (refl, tt) (refl, tt) (refl, tt) refl (inl refl) (record { stamp = refl; holds = refl }))
 
 -- law: and where it had run
 pub late_fits : Fits beside_script late_record
 unfolding after_entry changed
-late_fits = expired_fits (answers.Idle 3) 3 refl (right refl refl refl (refl, tt) (refl, tt) (le refl, tt) refl (inl refl) tt
+late_fits = expired_fits (answers.Idle 3) 3 refl (right refl refl refl (refl, tt) (refl, tt) (refl, tt) refl (inl refl)
     (record { stamp = refl; holds = record { armed = refl; running = refl; moving = refl } }))
 
 -- ---- a POSIX timer is set, expires, and has its signal accepted, which arms it again; a second acceptance finds none
 
--- the spans of the object's entries, by their numbers
-abbrev accepted_spans : ℕ → ℕ × ℕ
-accepted_spans k = get_or ((0, 0) ∷ (0, 1) ∷ (1, 2) ∷ (3, 4) ∷ (4, 4) ∷ []) k (0, 0)
-
 -- its witness
 abbrev accepted_witness : Witness
 accepted_witness = witness_along accepted_script accepted_record
-    (TimersList 0 ∷ CountersList 0 ∷ TimersList 0 ∷ TimersList 0 ∷ CountersList 0 ∷ TimersList 0 ∷ [])
-    ((did 0 (Entered 0 1 (start modes.Abs 100 100) ∷ Made 0 1 set_entry ∷ []) 0 1
-    ∷ did 0 (Wrote 1 (writes.Advance 100) ∷ []) 1 2 ∷ ran 0 1 (fired 2 1 (Made 0 2 trigger_entry ∷ []) 3 false ∷ []) 2 4
-    ∷ did 1 (Wrote 2 (writes.Advance 35) ∷ []) 4 5 ∷ did 2 (Entered 0 4 rearming_start ∷ Made 0 3 accept_entry ∷ []) 5 6
-    ∷ did 2 (Made 0 4 none_entry ∷ []) 6 6 ∷ did 2 [] 6 6 ∷ []) ∷ []) (λ i. accepted_spans)
+    (TimersList 0 ∷ CountersList 1 ∷ CountersList 0 ∷ TimersList 0 ∷ CountersList 1 ∷ TimersList 0 ∷ CountersList 0 ∷ TimersList 0 ∷ CountersList 1
+    ∷ CountersList 1 ∷ [])
+    ((did 0 (Entered 0 1 (start modes.Abs 100 100) ∷ Made 0 1 set_entry ∷ []) 0 2
+    ∷ did 0 (Wrote 1 (writes.Advance 100) ∷ []) 2 3 ∷ ran 0 1 (fired 2 1 (Made 0 2 trigger_entry ∷ []) 3 false ∷ []) 3 6
+    ∷ did 1 (Wrote 2 (writes.Advance 35) ∷ []) 6 7 ∷ did 2 (Entered 0 4 rearming_start ∷ Made 0 3 accept_entry ∷ []) 7 9
+    ∷ did 2 (Made 0 4 none_entry ∷ []) 9 10 ∷ did 2 [] 10 10 ∷ []) ∷ [])
 
 -- law: it fits
 pub accepted_fits : Fits accepted_script accepted_record
@@ -267,14 +263,14 @@ accepted_fits = fits_by accepted_witness (record {
   all = (refl, tt);
   bases = (refl, tt);
   clock = refl;
-  history = two (step refl (inr refl, inl (lt refl)) refl tt) (two tt (two (step refl (refl, refl, refl, refl, le refl) refl (refl, refl))
-      (two (step refl refl refl tt) (two tt (two (step refl (inr refl, inl (lt refl)) refl tt) tt)))));
+  objects = (refl, tt);
+  history = two (step refl (inr refl, inl (lt refl)) refl tt) (two tt (two tt (two (step refl (refl, refl, refl, refl, le refl) refl (refl, refl))
+      (two tt (two (step refl refl refl tt) (two tt (two (step refl (inr refl, inl (lt refl)) refl tt) (two tt (two tt tt)))))))));
   object_histories = two (two (refl, (refl, (refl, (refl, tt)))) (three (lt refl, refl, le refl, le refl, (λ e. absurd (cc), λ e. absurd (cc))) refl
       (three (lt refl) refl (three (lt refl, (λ e. absurd (cc), λ e. absurd (cc))) refl (three (lt refl, (λ e. refl, λ e. refl)) refl tt))))) tt;
-  object_spans = ((le refl, le refl, (le refl, le refl, (le refl, le refl, (le refl, le refl, tt)))), tt);
   placed = (refl, tt);
   calls = two (
-      next 1 (right refl refl refl (refl, tt) (refl, tt) ((le refl, le refl), tt) (record {
+      two (right refl refl refl (refl, tt) (refl, tt) (refl, tt) (record {
         taken = record { known = refl; good_value = lt refl; good_interval = lt refl };
         cancel = None;
         arm = armings.Generation 1;
@@ -282,15 +278,15 @@ accepted_fits = fits_by accepted_witness (record {
         number = 1;
         arms = (armed_by 1 100, refl, refl, stays refl refl refl);
         done = refl;
-      }) (inr (0, le refl, tt, (1, le refl, (point_passes _ _ _ _ _ refl, (refl, (refl, refl, λ e. refl)), refl), le refl))) tt
+      }) (inr (0, le refl, tt, (1, le refl, (point_passes _ _ _ _ _ refl, in_its_turn (refl, (refl, refl, λ e. refl)) refl refl), le refl)))
       (record { armed = refl; running = refl; moving = refl }))
-      (next 1 (right refl refl refl (refl, tt) (refl, tt) (le refl, tt) refl (inl refl) tt tt)
-      (next 2 (right refl refl refl (refl, tt) (refl, tt) ((le refl, le refl), tt)
+      (two (right refl refl refl (refl, tt) (refl, tt) (refl, tt) refl (inl refl) tt)
+      (two (right refl refl refl (refl, tt) (refl, tt) (refl, tt)
       (record { one_reading = refl; claimed = refl; done = refl; contexts = (refl, tt); bodies = ((inl (2, true, refl), refl), tt) }, lt refl)
-      (inr (2, le refl, point_passes _ _ _ _ _ refl, (3, le refl, (point_passes _ _ _ _ _ refl, tt, tt), (3, le refl, tt, le refl))))
-      ((1, refl, refl), tt) (done_by accepted_witness contexts.Hard 1 0 4 refl refl (refl, tt) (λ clock. (refl, tt))))
-      (next 2 (right refl refl refl (refl, tt) (refl, tt) (le refl, tt) refl (inl refl) tt tt)
-      (next 3 (right refl refl refl (refl, tt) (refl, tt) ((le refl, le refl), tt) (record {
+      (inr (3, le refl, point_passes _ _ _ _ _ refl, (4, le refl, (point_passes _ _ _ _ _ refl, in_its_turn tt tt refl), (5, le refl, tt, le refl))))
+      (done_by accepted_witness contexts.Hard 1 0 6 refl refl (refl, tt) (λ clock. (refl, tt))))
+      (two (right refl refl refl (refl, tt) (refl, tt) (refl, tt) refl (inl refl) tt)
+      (two (right refl refl refl (refl, tt) (refl, tt) (refl, tt) (record {
         arm = armings.Generation 4;
         ns = 140;
         start = Entered 0 4 rearming_start ∷ [];
@@ -298,10 +294,10 @@ accepted_fits = fits_by accepted_witness (record {
         timely = le refl;
         arms = (armed_by 4 140, refl, refl, stays refl refl refl);
         done = refl;
-      }) (inr (5, le refl, tt, (6, le refl, (point_passes _ _ _ _ _ refl, (refl, (refl, refl, λ e. refl)), refl), le refl))) tt tt)
-      (next 4 (right refl refl refl (refl, tt) (refl, tt) ((le refl, le refl), tt)
+      }) (inr (7, le refl, tt, (8, le refl, (point_passes _ _ _ _ _ refl, in_its_turn (refl, (refl, refl, λ e. refl)) refl refl), le refl))) tt)
+      (two (right refl refl refl (refl, tt) (refl, tt) (refl, tt)
       (record { arm = armings.None; ns = 0; start = []; number = 4; timely = le refl; arms = refl; done = refl })
-      (inr (6, le refl, (point_passes _ _ _ _ _ refl, tt, record { empty = refl; seen = λ e. le refl }), le refl)) tt tt)
-      (next 4 (right refl refl refl (refl, tt) (refl, tt) ((le refl, le refl), tt) refl (inl refl) tt (point_passes _ _ _ _ _ refl, refl)) tt))))))
+      (inr (9, le refl, (point_passes _ _ _ _ _ refl, in_its_turn tt refl refl), le refl)) tt)
+      (two (right refl refl refl (refl, tt) (refl, tt) (refl, tt) refl (inl refl) (refl, refl)) tt))))))
       ) tt;
 })

@@ -33,9 +33,9 @@ not_this wrong = omega (arith, ap timer_of wrong)
     timer_of (Some p) = p.1
 
 -- whatever the calls did
-module _ (traces : Label → Trace) (spans : ℕ → ℕ → ℕ × ℕ) where
+module _ (traces : Label → Trace) where
   abbrev w : Witness
-  w = witness_with turns_script turns_record in_order traces spans
+  w = witness_with turns_script turns_record in_order traces
 
   -- the first timer is nowhere the next one, where it has its first two entries
   never_next : (n : ℕ) → (timer_along w n 0).stamp ≡ 2 → IsFront w 1 0 n → ⊥
@@ -64,7 +64,7 @@ module _ (traces : Label → Trace) (spans : ℕ → ℕ → ℕ × ℕ) where
 -- law: it does not fit
 pub turns_dont_fit : Fits turns_script turns_record → ⊥
 turns_dont_fit fits =
-    let o = in_one_order_of turns_script turns_record in_order refl (refl, (refl, tt)) (refl, (refl, tt)) refl refl fits in
-    let call = (o.2.calls 0).2.2.1.0 in
-    none_alone o.0 o.1 (o.0 _).at (o.0 _).first (o.0 _).last (o.0 _).moved _ _ call.does.0.counted refl refl
+    let o = in_one_order_of turns_script turns_record in_order refl (refl, (refl, tt)) (refl, (refl, tt)) refl (refl, (refl, tt)) refl fits in
+    let call = (o.1.calls 0).2.2.1.0 in
+    none_alone o.0 (o.0 _).at (o.0 _).first (o.0 _).last (o.0 _).moved _ _ call.does.0.counted refl refl
     (call.traced.moves ∙ ap all_entered call.does.0.done) call.turns

@@ -27,7 +27,7 @@ use Rattle.run_cases.proofs.Calls.{right, right_moving}
 use Rattle.run_cases.proofs.Orders.{in_one_order_of}
 use Rattle.run_cases.proofs.Small.{fits_by}
 use Rattle.run_cases.proofs.Tests.{le, lt}
-use Rattle.run_cases.proofs.Witnesses.{armed_as, did, moves_by, next, none_along, step, two, witness_along}
+use Rattle.run_cases.proofs.Witnesses.{armed_as, did, moves_by, none_along, step, two, witness_along}
 
 -- ---- a base is taken off line, which moves its timer to the heir; a start that asks for the base goes there; and the base is on line again
 
@@ -57,7 +57,7 @@ abbrev heir_witness : Witness
 heir_witness = witness_along heir_script heir_record
     (TimersList 0 ∷ TimersList 0 ∷ TimersList 0 ∷ TimersList 0 ∷ BasesList 1 ∷ TimersList 0 ∷ BasesList 1 ∷ [])
     ((did 0 (Entered 0 1 (out_entry 1 false) ∷ Entered 0 2 (case_start_entry modes.Abs 100 0 1 1 100 false) ∷ []) 0 2 ∷ offline_trace
-    ∷ did 0 (Entered 0 5 (case_start_entry modes.Abs 200 0 0 0 200 true) ∷ []) 5 6 ∷ did 0 (Shifted 1 2 shifts.Online ∷ []) 6 7 ∷ []) ∷ []) (λ i k. (0, 0))
+    ∷ did 0 (Entered 0 5 (case_start_entry modes.Abs 200 0 0 0 200 true) ∷ []) 5 6 ∷ did 0 (Shifted 1 2 shifts.Online ∷ []) 6 7 ∷ []) ∷ [])
 
 -- what holds of the one timer that is there
 of_one : (P : ℕ → Type 0) → P 0 → (t : ℕ) → t < 1 → P t
@@ -74,39 +74,39 @@ heir_fits = fits_by heir_witness (record {
   all = (refl, tt);
   bases = (refl, (refl, tt));
   clock = refl;
+  objects = (refl, tt);
   history = two (step refl (refl, (λ e. omega (arith, e)), refl) refl (lt refl)) (two (step refl (inr refl, inl (lt refl)) refl tt)
       (two (step refl (refl, (λ e. omega (arith, e)), refl) refl (lt refl)) (two (step refl (inr refl, inl (lt refl)) refl tt)
       (two (record { within = lt refl; may = (refl, lt refl, lt refl); clear = refl; reach = of_one _ (lt refl) })
       (two (step refl (inr refl, inl (lt refl)) refl tt)
       (two (record { within = lt refl; may = refl; clear = tt; reach = of_one _ (lt refl) }) tt))))));
   object_histories = (refl, tt);
-  object_spans = (tt, tt);
   placed = (refl, tt);
   calls = two (
-      next 0 (right refl refl refl (refl, tt) (refl, tt) (le refl, tt) (
+      two (right refl refl refl (refl, tt) (refl, tt) (refl, tt) (
         record (armed_as 2 1 100 100) { outs = record { base = 1; number = 1; was_armed = false } ∷ [] },
         refl,
         refl,
         refl,
         refl,
         record { below = le refl; next = (refl, tt); way = (([], refl), refl, tt) },
-      ) (inl refl) tt tt)
-      (next 0 (right_moving refl refl refl (refl, tt) (refl, tt) (le refl, tt) (record { counted = refl; done = refl }, le refl)
+      ) (inl refl) tt)
+      (two (right_moving refl refl refl (refl, tt) (refl, tt) (refl, tt) (record { counted = refl; done = refl }, le refl)
       ((record { armed = refl; soft = refl; slack = refl }, tt), (record { at = 2; from = le refl; to = le refl; stamp = refl; front = (100, refl) }, tt))
-      (inl refl) tt
+      (inl refl)
       (record {
         unarmed = none_along heir_witness 5 (is_armed_on 1) refl refl (refl, tt);
         idle = none_along heir_witness 5 (runs_on 1) refl refl (refl, tt);
       }))
-      (next 0 (right refl refl refl (refl, tt) (refl, tt) (le refl, tt) (
+      (two (right refl refl refl (refl, tt) (refl, tt) (refl, tt) (
         record (armed_as 5 0 200 200) { was_armed = true },
         refl,
         refl,
         refl,
         refl,
         record { below = le refl; next = tt; way = (0 ∷ [], ((5, le refl, le refl, refl), refl)) },
-      ) (inl refl) tt tt)
-      (next 0 (right refl refl refl (refl, tt) (refl, tt) (le refl, tt) refl (inl refl) tt tt) tt)))
+      ) (inl refl) tt)
+      (two (right refl refl refl (refl, tt) (refl, tt) (refl, tt) refl (inl refl) tt) tt)))
       ) tt;
 })
 
@@ -117,9 +117,9 @@ pub stranded_doesnt_fit : Fits stranded_script stranded_record → ⊥
 unfolding after_entry after_shift changed shifted
 stranded_doesnt_fit fits =
     let order : List Owner = BasesList 1 ∷ TimersList 0 ∷ TimersList 0 ∷ [] in
-    let o = in_one_order_of stranded_script stranded_record (moves_by stranded_record [] order) refl (refl, tt) (refl, (refl, tt)) refl refl fits in
+    let o = in_one_order_of stranded_script stranded_record (moves_by stranded_record [] order) refl (refl, tt) (refl, (refl, tt)) refl (refl, tt) refl fits in
     -- at the third place, where the timer is started
-    on_line (o.2.history.history.1.1.0.base.online refl)
+    on_line (o.1.history.history.1.1.0.base.online refl)
   where
     on_line : {heir : ℕ} → Some heir ≡ None → ⊥
     on_line wrong = cc
@@ -131,9 +131,9 @@ pub left_doesnt_fit : Fits left_script left_record → ⊥
 unfolding after_entry after_shift changed shifted
 left_doesnt_fit fits =
     let order : List Owner = TimersList 0 ∷ TimersList 0 ∷ BasesList 1 ∷ [] in
-    let o = in_one_order_of left_script left_record (moves_by left_record [] order) refl (refl, tt) (refl, (refl, tt)) refl refl fits in
+    let o = in_one_order_of left_script left_record (moves_by left_record [] order) refl (refl, tt) (refl, (refl, tt)) refl (refl, tt) refl fits in
     -- at the third place, where the base goes off line
-    let clear = o.2.history.history.1.1.0.clear in
+    let clear = o.1.history.history.1.1.0.clear in
     not_there (ap front_of clear)
   where
     not_there : {p : ℕ × ℕ} → Some p ≡ None → ⊥
@@ -197,7 +197,8 @@ early_move_doesnt_fit fits =
 -- law: it does not fit
 pub silent_doesnt_fit : Fits silent_script silent_record → ⊥
 silent_doesnt_fit fits =
-    let o = in_one_order_of silent_script silent_record (moves_by silent_record [] (BasesList 1 ∷ [])) refl (refl, tt) (refl, (refl, tt)) refl refl fits in
-    let call = (o.2.calls 0).2.1.0 in
+    let o = in_one_order_of silent_script silent_record (moves_by silent_record [] (BasesList 1 ∷ []))
+    refl (refl, tt) (refl, (refl, tt)) refl (refl, tt) refl fits in
+    let call = (o.1.calls 0).2.1.0 in
     let wrong = call.traced.moves ∙ ap all_entered call.does in
     cc

@@ -1,5 +1,5 @@
 -- What a record that fits has: a witness of its script, and, where calls in order made its entries, one order of them alone.
-use Rattle.std.proofs.Common.{◌≡◌, ◌<◌, ◌≤◌, ◌⊎◌, ◌&&◌, ℕ, zero, suc, Bool, true, false, if◌then◌else◌, List, [], ◌∷◌, Some, length, map, take, drop, arith, refl, sym, ap, ◌∙◌, subst, inl, inr}
+use Rattle.std.proofs.Common.{◌≡◌, ◌<◌, ◌≤◌, ◌⊎◌, ◌&&◌, ℕ, zero, suc, Bool, true, false, if◌then◌else◌, List, [], ◌∷◌, Some, map, take, drop, arith, refl, sym, ap, ◌∙◌, subst, inl, inr}
 use Rattle.std.specs.List.{AllByRecursion, list_all, slice_get}
 use Rattle.std.proofs.Math.Logic.{⊎_elim}
 use Rattle.std.proofs.lemmas.Bool.{and_parts, cases_Bool, false≢true}
@@ -17,19 +17,16 @@ use Rattle.run_cases.proofs.Small.{each_owner, is_list}
 use Rattle.run_cases.proofs.Tests.{all_true}
 
 -- a witness of this script and this record
-abbrev pub witness_with : Script → RunRecord → List Move → (Label → Trace) → (ℕ → ℕ → ℕ × ℕ) → Witness
-witness_with s r moves traces spans = record { script = s; run = r; moves = moves; traces = traces; spans = spans }
+abbrev pub witness_with : Script → RunRecord → List Move → (Label → Trace) → Witness
+witness_with s r moves traces = record { script = s; run = r; moves = moves; traces = traces }
 
 -- law: a record that fits has one
-pub opened : (s : Script) (r : RunRecord) → Fits s r
-    → (moves : List Move) × (traces : Label → Trace) × (spans : ℕ → ℕ → ℕ × ℕ) × FitsIn (witness_with s r moves traces spans)
+pub opened : (s : Script) (r : RunRecord) → Fits s r → (moves : List Move) × (traces : Label → Trace) × FitsIn (witness_with s r moves traces)
 opened s r fits =
     let w = fits.0 in (
       w.moves,
       w.traces,
-      w.spans,
-      subst (λ y. FitsIn (witness_with s y w.moves w.traces w.spans)) fits.2
-          (subst (λ x. FitsIn (witness_with x w.run w.moves w.traces w.spans)) fits.1 fits.3),
+      subst (λ y. FitsIn (witness_with s y w.moves w.traces)) fits.2 (subst (λ x. FitsIn (witness_with x w.run w.moves w.traces)) fits.1 fits.3),
     )
 
 -- ---- places
@@ -142,26 +139,24 @@ one_order s (m ∷ ms) (n ∷ ns) same order apart =
         (owner_else (owner_of m.shown) (owner_of n.shown) differ) before)
 
 -- the record of a script whose entries have one order has a witness in that order
-pub in_one_order_of : (s : Script) (r : RunRecord) (ns : List Move)
-    → list_all (λ m. is_list (length r.timers) (length r.bases) (owner_of m.shown)) ns ≡ true
+pub in_one_order_of : (s : Script) (r : RunRecord) (ns : List Move) → list_all (λ m. is_list r (owner_of m.shown)) ns ≡ true
     → Along (λ t. moves_on (TimersList t) ns ≡ moves_from 0 (lines_at r (TimersList t))) 0 r.timers
     → Along (λ b. moves_on (BasesList b) ns ≡ moves_from 0 (lines_at r (BasesList b))) 0 r.bases
-    → moves_on (CountersList 0) ns ≡ moves_from 0 (lines_at r (CountersList 0)) → are_apart s ns ≡ true
-    → Fits s r → (traces : Label → Trace) × (spans : ℕ → ℕ → ℕ × ℕ) × FitsIn (witness_with s r ns traces spans)
-in_one_order_of s r ns there all bases clock apart fits =
+    → moves_on (CountersList 0) ns ≡ moves_from 0 (lines_at r (CountersList 0))
+    → Along (λ i. moves_on (CountersList (suc i)) ns ≡ moves_from 0 (lines_at r (CountersList (suc i)))) 0 r.objects → are_apart s ns ≡ true
+    → Fits s r → (traces : Label → Trace) × FitsIn (witness_with s r ns traces)
+in_one_order_of s r ns there all bases clock objects apart fits =
     let o = opened s r fits in
-    let each = each_owner r ns there all bases clock in (
-      o.1,
-      o.2,
-      subst (λ ms. FitsIn (witness_with s r ms o.1 o.2)) (one_order s o.0 ns (λ x. o.3.history.all x ∙ sym (each x)) o.3.order apart) o.3,
-    )
+    let each = each_owner r ns there all bases clock objects in
+    (o.1, subst (λ ms. FitsIn (witness_with s r ms o.1)) (one_order s o.0 ns (λ x. o.2.history.all x ∙ sym (each x)) o.2.order apart) o.2)
 
 -- the same, where all entries are timers', there is one base, and the clock isn't written
 pub in_one_order : (s : Script) (r : RunRecord) (order : List ℕ)
-    → list_all (λ m. is_list (length r.timers) (length r.bases) (owner_of m.shown)) (timers_moves r order) ≡ true
+    → list_all (λ m. is_list r (owner_of m.shown)) (timers_moves r order) ≡ true
     → Along (λ t. moves_on (TimersList t) (timers_moves r order) ≡ moves_from 0 (lines_at r (TimersList t))) 0 r.timers
     → are_apart s (timers_moves r order) ≡ true
     → Along (λ b. moves_on (BasesList b) (timers_moves r order) ≡ moves_from 0 (lines_at r (BasesList b))) 0 r.bases
     → moves_on (CountersList 0) (timers_moves r order) ≡ moves_from 0 (lines_at r (CountersList 0))
-    → Fits s r → (traces : Label → Trace) × (spans : ℕ → ℕ → ℕ × ℕ) × FitsIn (witness_with s r (timers_moves r order) traces spans)
-in_one_order s r order there all apart bases clock fits = in_one_order_of s r (timers_moves r order) there all bases clock apart fits
+    → Along (λ i. moves_on (CountersList (suc i)) (timers_moves r order) ≡ moves_from 0 (lines_at r (CountersList (suc i)))) 0 r.objects
+    → Fits s r → (traces : Label → Trace) × FitsIn (witness_with s r (timers_moves r order) traces)
+in_one_order s r order there all apart bases clock objects fits = in_one_order_of s r (timers_moves r order) there all bases clock objects apart fits

@@ -2,7 +2,8 @@
 use Rattle.std.proofs.Common.{◌≡◌, ◌≤◌, ◌&&◌, ℕ, ◌+◌, zero, suc, Bool, true, false, nat_eq, nat_lt, List, [], ◌∷◌, length, map, arith, refl, sym, ap, ◌∙◌, subst}
 use Rattle.std.specs.List.{AllByRecursion, list_all}
 use Rattle.std.proofs.lemmas.Bool.{and_parts, eqb-true}
-use Rattle.std.proofs.lemmas.List.{get_or_past, length-map, nil_from_length}
+use Rattle.std.proofs.lemmas.Bool.Decides.{nat_tests}
+use Rattle.std.proofs.lemmas.List.{get_or_past, length-map}
 use Rattle.clock_model.specs.Clocks.{at_stamp}
 use Rattle.seq_timer.specs.Systems.{IsSystemHistory}
 use Rattle.record_text.specs.declared.record.ObjectLine.{ObjectLine}
@@ -16,46 +17,48 @@ use Rattle.script_text.specs.declared.script.Round.{Round}
 use Rattle.script_text.specs.declared.script.Script.{Script}
 use Rattle.run_history.specs.Histories.{answers_of, AreWrites, clock_labels}
 use Rattle.script_text.specs.Declarations.{declareds_of, terms_of, kind_of}
-use Rattle.run_history.specs.Objects.{IsLegalObject, lines_of_object}
-use Rattle.run_history.specs.Order.{AreUnder, calls_of, IsInOrder, IsLabel}
-use Rattle.run_history.specs.Witnesses.{BasesList, CountersList, Witness, entries_in, is_owner, labels, line_of_base, line_of_timer, lines_at, Move, moves_from, moves_on, Owner, owner_of, TimersList}
-use Rattle.run_history.specs.Fits.{AreBehind, AreSkipsUnder, Fits, FitsIn, FitsLane, unseen}
-use Rattle.run_cases.proofs.Calls.{AreRight, are_placed, is_unrefused, lane_fits}
+use Rattle.run_history.specs.Objects.{IsLegalObject}
+use Rattle.run_history.specs.Order.{AreUnder, calls_of}
+use Rattle.run_history.specs.Witnesses.{BasesList, CountersList, Witness, entries_in, is_owner, labels, line_of_base, line_of_object, line_of_timer, lines_at, Move, moves_from, moves_on, Owner, owner_of, TimersList}
+use Rattle.run_history.specs.Fits.{AreSkipsUnder, Fits, FitsIn, FitsLane, unseen}
+use Rattle.run_cases.proofs.Calls.{AreRight, are_placed, lane_fits}
 use Rattle.run_cases.proofs.Witnesses.{Along, everywhere, each_list, none_on, no_calls}
-use Rattle.run_cases.proofs.Tests.{all_true, are_calls, are_in_order, are_sorted, calls_pass, order_passes, other, sorted_pass}
+use Rattle.run_cases.proofs.Tests.{all_true, are_calls, are_in_order, are_sorted, are_in_turn, calls_pass, order_passes, other, sorted_pass, turn_passes}
 
 -- ---- the whole record
 
--- its labels are those of calls, and in order
+-- its labels are those of calls
 abbrev pub are_called : Witness → Bool
-are_called w =
-    (are_calls w.script (clock_labels w.run) && are_calls w.script (labels w))
-    && list_all (λ lines. are_calls w.script (map (λ line. line.label) lines)) w.run.objects
+are_called w = are_calls w.script (clock_labels w.run) && are_calls w.script (labels w)
 
 -- along each of its lists labels are in order
 abbrev pub are_ordered : Witness → Bool
-are_ordered w =
-    (are_in_order w.script (clock_labels w.run) && are_in_order w.script (labels w))
-    && list_all (λ lines. are_in_order w.script (map (λ line. line.label) lines)) w.run.objects
+are_ordered w = are_in_order w.script (clock_labels w.run) && are_in_order w.script (labels w)
 
--- looks bear the labels of calls and stand in order, and no object refused an expiry
+-- looks bear the labels of calls and stand in order
 abbrev pub is_under : Script → TimerLine → Bool
 is_under s line = are_calls s (map (λ look. look.label) line.looks) && are_sorted (map (λ look. look.label) line.looks)
 
+-- so do the refused expiries under an object's entry
+abbrev pub is_refused_under : Script → ObjectLine → Bool
+is_refused_under s line = are_calls s (map (λ skip. skip.label) line.skips) && are_in_turn (map (λ skip. skip.label) line.skips)
+
 -- the same of all its lines
 abbrev pub are_under : Witness → Bool
-are_under w = list_all (λ lines. list_all (is_under w.script) lines) w.run.timers && list_all is_unrefused w.run.objects
+are_under w =
+    list_all (λ lines. list_all (is_under w.script) lines) w.run.timers && list_all (λ lines. list_all (is_refused_under w.script) lines) w.run.objects
 
--- a list is one of so many timers, or of so many bases, or the clock's
-abbrev pub is_list : ℕ → ℕ → Owner → Bool
-is_list timers bases (TimersList t) = nat_lt t timers
-is_list timers bases (BasesList b) = nat_lt b bases
-is_list timers bases (CountersList k) = nat_lt k 1
+-- a list is that of one of a record's timers, bases or objects, or the clock's
+abbrev pub is_list : RunRecord → Owner → Bool
+is_list r (TimersList t) = nat_lt t (length r.timers)
+is_list r (BasesList b) = nat_lt b (length r.bases)
+is_list r (CountersList zero) = true
+is_list r (CountersList (suc i)) = nat_lt i (length r.objects)
 
--- no move is of a timer, a base or a counter that isn't there, and no call is of a lane that isn't
+-- no move is of a list that isn't there, and no call is of a lane that isn't
 abbrev pub are_there : Witness → Bool
 are_there w =
-    list_all (λ m. is_list (length w.run.timers) (length w.run.bases) (owner_of m.shown)) w.moves
+    list_all (λ m. is_list w.run (owner_of m.shown)) w.moves
     && list_all (λ round. list_all (λ c. nat_lt c.lane (length w.run.answers)) round.calls) w.script.rounds
 
 -- there are lists for each timer, each object, each lane and each base
@@ -76,69 +79,72 @@ pub record IsSmall (w : Witness) : Type 0 where
   pub all : Along (λ t. moves_on (TimersList t) w.moves ≡ moves_from 0 (lines_at w.run (TimersList t))) 0 w.run.timers
   pub bases : Along (λ b. moves_on (BasesList b) w.moves ≡ moves_from 0 (lines_at w.run (BasesList b))) 0 w.run.bases
   pub clock : moves_on (CountersList 0) w.moves ≡ moves_from 0 (lines_at w.run (CountersList 0))
+  pub objects : Along (λ i. moves_on (CountersList (suc i)) w.moves ≡ moves_from 0 (lines_at w.run (CountersList (suc i)))) 0 w.run.objects
   pub history : IsSystemHistory w.script.bases (declareds_of w.script) (terms_of w.script) (entries_in w)
   pub object_histories : Along (λ i. IsLegalObject w.script w.run i (kind_of w.script i)) 0 w.script.timers
-  pub object_spans : Along (λ i. AreBehind (w.spans i) 1 0 (lines_of_object w.run i)) 0 w.run.objects
   pub placed : Along (λ lane. are_placed w lane 0 0 0 (calls_of w.script lane) ≡ true) 0 w.run.answers
-  pub calls : Along (λ lane. AreRight w lane 0 0 (calls_of w.script lane) (answers_of w.run lane)) 0 w.run.answers
+  pub calls : Along (λ lane. AreRight w lane 0 (calls_of w.script lane) (answers_of w.run lane)) 0 w.run.answers
 
 under_passes : (s : Script) (line : TimerLine) → is_under s line ≡ true → AreUnder s (map (λ look. look.label) line.looks)
 under_passes s line e =
     let parts = and_parts (are_calls s (map (λ look. look.label) line.looks)) (are_sorted (map (λ look. look.label) line.looks)) e in
     record { calls = calls_pass s (map (λ look. look.label) line.looks) parts.0; sorted = sorted_pass (map (λ look. look.label) line.looks) parts.1 }
 
-none_skipped : (s : Script) (line : ObjectLine) → nat_eq (length line.skips) 0 ≡ true → AreSkipsUnder s (map (λ skip. skip.label) line.skips)
-none_skipped s line e = subst (λ skips. AreSkipsUnder s (map (λ skip. skip.label) skips))
-    (sym (nil_from_length line.skips (eqb-true (length line.skips) 0 e)))
-    (record { calls = tt; in_order = tt })
+refused_passes : (s : Script) (line : ObjectLine) → is_refused_under s line ≡ true → AreSkipsUnder s (map (λ skip. skip.label) line.skips)
+refused_passes s line e =
+    let parts = and_parts (are_calls s (map (λ skip. skip.label) line.skips)) (are_in_turn (map (λ skip. skip.label) line.skips)) e in
+    record { calls = calls_pass s (map (λ skip. skip.label) line.skips) parts.0; in_order = turn_passes (map (λ skip. skip.label) line.skips) parts.1 }
 
 -- no move is of a list that isn't there
-not_timer : (timers bases t : ℕ) (o : Owner) → timers ≤ t → is_list timers bases o ≡ true → is_owner o (TimersList t) ≡ false
-not_timer timers bases t (TimersList u) past less = other u timers t less past
-not_timer timers bases t (BasesList b) past less = refl
-not_timer timers bases t (CountersList k) past less = refl
+not_timer : (r : RunRecord) (t : ℕ) (o : Owner) → length r.timers ≤ t → is_list r o ≡ true → is_owner o (TimersList t) ≡ false
+not_timer r t (TimersList u) past less = other u (length r.timers) t less past
+not_timer r t (BasesList b) past less = refl
+not_timer r t (CountersList k) past less = refl
 
-not_base : (timers bases b : ℕ) (o : Owner) → bases ≤ b → is_list timers bases o ≡ true → is_owner o (BasesList b) ≡ false
-not_base timers bases b (TimersList u) past less = refl
-not_base timers bases b (BasesList c) past less = other c bases b less past
-not_base timers bases b (CountersList k) past less = refl
+not_base : (r : RunRecord) (b : ℕ) (o : Owner) → length r.bases ≤ b → is_list r o ≡ true → is_owner o (BasesList b) ≡ false
+not_base r b (TimersList u) past less = refl
+not_base r b (BasesList c) past less = other c (length r.bases) b less past
+not_base r b (CountersList k) past less = refl
 
-not_counter : (timers bases k : ℕ) (o : Owner) → is_list timers bases o ≡ true → is_owner o (CountersList (suc k)) ≡ false
-not_counter timers bases k (TimersList t) less = refl
-not_counter timers bases k (BasesList b) less = refl
-not_counter timers bases k (CountersList j) less = other j 1 (suc k) less (omega arith)
+not_object : (r : RunRecord) (i : ℕ) (o : Owner) → length r.objects ≤ i → is_list r o ≡ true → is_owner o (CountersList (suc i)) ≡ false
+not_object r i (TimersList t) past less = refl
+not_object r i (BasesList b) past less = refl
+not_object r i (CountersList zero) past less = grind (arith, nat_tests)
+not_object r i (CountersList (suc j)) past less = no_later j (length r.objects) i less past
+  where
+    no_later : (j n i : ℕ) → nat_lt j n ≡ true → n ≤ i → nat_eq (suc j) (suc i) ≡ false
+    no_later j n i less past = grind (arith, nat_tests)
 
 -- law: so each list's moves are its lines
-pub each_owner : (r : RunRecord) (ms : List Move) → list_all (λ m. is_list (length r.timers) (length r.bases) (owner_of m.shown)) ms ≡ true
+pub each_owner : (r : RunRecord) (ms : List Move) → list_all (λ m. is_list r (owner_of m.shown)) ms ≡ true
     → Along (λ t. moves_on (TimersList t) ms ≡ moves_from 0 (lines_at r (TimersList t))) 0 r.timers
     → Along (λ b. moves_on (BasesList b) ms ≡ moves_from 0 (lines_at r (BasesList b))) 0 r.bases
     → moves_on (CountersList 0) ms ≡ moves_from 0 (lines_at r (CountersList 0))
+    → Along (λ i. moves_on (CountersList (suc i)) ms ≡ moves_from 0 (lines_at r (CountersList (suc i)))) 0 r.objects
     → (o : Owner) → moves_on o ms ≡ moves_from 0 (lines_at r o)
-each_owner r ms there all bases clock (TimersList t) =
+each_owner r ms there all bases clock objects (TimersList t) =
     everywhere (λ t. moves_on (TimersList t) ms ≡ moves_from 0 (lines_at r (TimersList t))) r.timers all (λ t past.
-    none_on (TimersList t) ms (all_true (λ m. is_owner (owner_of m.shown) (TimersList t) ≡ false)
-    (λ m. is_list (length r.timers) (length r.bases) (owner_of m.shown))
-    (λ m less. not_timer (length r.timers) (length r.bases) t (owner_of m.shown) past less) ms there)
+    none_on (TimersList t) ms (all_true (λ m. is_owner (owner_of m.shown) (TimersList t) ≡ false) (λ m. is_list r (owner_of m.shown))
+    (λ m less. not_timer r t (owner_of m.shown) past less) ms there)
     ∙ ap (λ lines. moves_from 0 (map (line_of_timer t) lines)) (sym (get_or_past r.timers t [] past))) t
-each_owner r ms there all bases clock (BasesList b) =
+each_owner r ms there all bases clock objects (BasesList b) =
     everywhere (λ b. moves_on (BasesList b) ms ≡ moves_from 0 (lines_at r (BasesList b))) r.bases bases (λ b past.
-    none_on (BasesList b) ms (all_true (λ m. is_owner (owner_of m.shown) (BasesList b) ≡ false)
-    (λ m. is_list (length r.timers) (length r.bases) (owner_of m.shown))
-    (λ m less. not_base (length r.timers) (length r.bases) b (owner_of m.shown) past less) ms there)
+    none_on (BasesList b) ms (all_true (λ m. is_owner (owner_of m.shown) (BasesList b) ≡ false) (λ m. is_list r (owner_of m.shown))
+    (λ m less. not_base r b (owner_of m.shown) past less) ms there)
     ∙ ap (λ lines. moves_from 0 (map (line_of_base b) lines)) (sym (get_or_past r.bases b [] past))) b
-each_owner r ms there all bases clock (CountersList zero) = clock
-each_owner r ms there all bases clock (CountersList (suc k)) =
-    none_on (CountersList (suc k)) ms (all_true (λ m. is_owner (owner_of m.shown) (CountersList (suc k)) ≡ false)
-    (λ m. is_list (length r.timers) (length r.bases) (owner_of m.shown))
-    (λ m less. not_counter (length r.timers) (length r.bases) k (owner_of m.shown) less) ms there)
+each_owner r ms there all bases clock objects (CountersList zero) = clock
+each_owner r ms there all bases clock objects (CountersList (suc i)) =
+    everywhere (λ i. moves_on (CountersList (suc i)) ms ≡ moves_from 0 (lines_at r (CountersList (suc i)))) r.objects objects (λ i past.
+    none_on (CountersList (suc i)) ms (all_true (λ m. is_owner (owner_of m.shown) (CountersList (suc i)) ≡ false) (λ m. is_list r (owner_of m.shown))
+    (λ m less. not_object r i (owner_of m.shown) past less) ms there)
+    ∙ ap (λ lines. moves_from 0 (map (line_of_object i) lines)) (sym (get_or_past r.objects i [] past))) i
 
 small_fits : (w : Witness) → IsSmall w → FitsIn w
 small_fits w small =
     let s = w.script in
     let r = w.run in
-    let of_calls = λ (lines : List ObjectLine). are_calls s (map (λ line. line.label) lines) in
-    let of_order = λ (lines : List ObjectLine). are_in_order s (map (λ line. line.label) lines) in
     let of_looks = λ (lines : List TimerLine). list_all (is_under s) lines in
+    let of_skips = λ (lines : List ObjectLine). list_all (is_refused_under s) lines in
     let passed = and_parts (are_sized w) ((are_called w && are_ordered w) && (are_under w && are_there w)) small.passed in
     let tests = and_parts (are_called w && are_ordered w) (are_under w && are_there w) passed.1 in
     let along = and_parts (are_called w) (are_ordered w) tests.0 in
@@ -148,12 +154,10 @@ small_fits w small =
     let more_sized = and_parts (nat_eq (length r.answers) s.lanes) (nat_eq (length r.bases) s.bases) sized.1 in
     let each_sized = and_parts (nat_eq (length r.timers) (length s.timers)) (nat_eq (length r.objects) (length s.timers)) sized.0 in
     let objects : length r.objects ≡ length s.timers = eqb-true (length r.objects) (length s.timers) each_sized.1 in
-    let called = and_parts (are_calls s (clock_labels r) && are_calls s (labels w)) (list_all of_calls r.objects) along.0 in
-    let called_by = and_parts (are_calls s (clock_labels r)) (are_calls s (labels w)) called.0 in
-    let ordered = and_parts (are_in_order s (clock_labels r) && are_in_order s (labels w)) (list_all of_order r.objects) along.1 in
-    let ordered_by = and_parts (are_in_order s (clock_labels r)) (are_in_order s (labels w)) ordered.0 in
-    let under = and_parts (list_all of_looks r.timers) (list_all is_unrefused r.objects) within.0 in
-    let of_moves = λ (m : Move). is_list (length r.timers) (length r.bases) (owner_of m.shown) in
+    let called = and_parts (are_calls s (clock_labels r)) (are_calls s (labels w)) along.0 in
+    let ordered = and_parts (are_in_order s (clock_labels r)) (are_in_order s (labels w)) along.1 in
+    let under = and_parts (list_all of_looks r.timers) (list_all of_skips r.objects) within.0 in
+    let of_moves = λ (m : Move). is_list r (owner_of m.shown) in
     let of_lanes = λ (c : LaneCall). nat_lt c.lane (length r.answers) in
     let of_rounds = λ (round : Round). list_all of_lanes round.calls in
     let there = and_parts (list_all of_moves w.moves) (list_all of_rounds s.rounds) within.1 in
@@ -163,34 +167,25 @@ small_fits w small =
       timers = eqb-true (length r.timers) (length s.timers) each_sized.0;
       objects = objects;
       lanes = eqb-true (length r.answers) s.lanes more_sized.0;
-      clock_calls = calls_pass s (clock_labels r) called_by.0;
-      move_calls = calls_pass s (labels w) called_by.1;
+      clock_calls = calls_pass s (clock_labels r) called.0;
+      move_calls = calls_pass s (labels w) called.1;
       looks = each_list (AllByRecursion (λ line. AreUnder s (map (λ look. look.label) line.looks))) r.timers tt
           (all_true (AllByRecursion (λ line. AreUnder s (map (λ look. look.label) line.looks))) of_looks
           (λ lines e. all_true (λ line. AreUnder s (map (λ look. look.label) line.looks)) (is_under s) (under_passes s) lines e) r.timers under.0);
-      object_calls = each_list (λ (lines : List ObjectLine). AllByRecursion (IsLabel s) (map (λ line. line.label) lines)) r.objects tt
-          (all_true (λ (lines : List ObjectLine). AllByRecursion (IsLabel s) (map (λ line. line.label) lines)) of_calls
-          (λ lines e. calls_pass s (map (λ line. line.label) lines) e) r.objects called.1);
       skips = each_list (AllByRecursion (λ line. AreSkipsUnder s (map (λ skip. skip.label) line.skips))) r.objects tt
-          (all_true (AllByRecursion (λ line. AreSkipsUnder s (map (λ skip. skip.label) line.skips))) is_unrefused
-          (λ lines e. all_true (λ line. AreSkipsUnder s (map (λ skip. skip.label) line.skips)) (λ line. nat_eq (length line.skips) 0)
-          (none_skipped s) lines e)
-          r.objects under.1);
+          (all_true (AllByRecursion (λ line. AreSkipsUnder s (map (λ skip. skip.label) line.skips))) of_skips
+          (λ lines e. all_true (λ line. AreSkipsUnder s (map (λ skip. skip.label) line.skips)) (is_refused_under s) (refused_passes s) lines e) r.objects
+          under.1);
       writes = small.writes;
       history = record {
-        all = each_owner r w.moves there.0 small.all small.bases small.clock;
+        all = each_owner r w.moves there.0 small.all small.bases small.clock small.objects;
         history = small.history;
       };
       object_histories = everywhere (λ i. IsLegalObject s r i (kind_of s i)) s.timers small.object_histories (λ i past.
           subst (IsLegalObject s r i) (sym (get_or_past (map (λ d. d.kind) s.timers) i (kinds.Raw contexts.Hard callbacks.Once)
           (subst (λ n. n ≤ i) (sym (length-map s.timers (λ d. d.kind))) past))) (get_or_past r.objects i [] (subst (λ n. n ≤ i) (sym objects) past)));
-      clock_order = order_passes s (clock_labels r) ordered_by.0;
-      order = order_passes s (labels w) ordered_by.1;
-      object_order = each_list (λ (lines : List ObjectLine). IsInOrder s (map (λ line. line.label) lines)) r.objects tt
-          (all_true (λ (lines : List ObjectLine). IsInOrder s (map (λ line. line.label) lines)) of_order
-          (λ lines e. order_passes s (map (λ line. line.label) lines) e) r.objects ordered.1);
-      object_spans = everywhere (λ i. AreBehind (w.spans i) 1 0 (lines_of_object r i)) r.objects small.object_spans (λ i past.
-          subst (AreBehind (w.spans i) 1 0) (sym (get_or_past r.objects i [] past)) tt);
+      clock_order = order_passes s (clock_labels r) ordered.0;
+      order = order_passes s (labels w) ordered.1;
       calls = everywhere (λ lane. FitsLane w lane 0 unseen (calls_of s lane) (answers_of r lane)) r.answers
           (both 0 r.answers small.placed small.calls) (λ lane past.
           subst (λ ps. FitsLane w lane 0 unseen ps (answers_of r lane)) (sym (no_calls lane 0 s.rounds
@@ -201,10 +196,10 @@ small_fits w small =
     }
   where
     both : {X : Type 0} (n : ℕ) (xs : List X) → Along (λ lane. are_placed w lane 0 0 0 (calls_of w.script lane) ≡ true) n xs
-        → Along (λ lane. AreRight w lane 0 0 (calls_of w.script lane) (answers_of w.run lane)) n xs
+        → Along (λ lane. AreRight w lane 0 (calls_of w.script lane) (answers_of w.run lane)) n xs
         → Along (λ lane. FitsLane w lane 0 unseen (calls_of w.script lane) (answers_of w.run lane)) n xs
     both n [] placed each = tt
-    both n (x ∷ xs) placed each = (lane_fits w n 0 0 0 0 (calls_of w.script n) (answers_of w.run n) placed.0 each.0, both (n + 1) xs placed.1 each.1)
+    both n (x ∷ xs) placed each = (lane_fits w n 0 0 0 (calls_of w.script n) (answers_of w.run n) placed.0 each.0, both (n + 1) xs placed.1 each.1)
 
 -- law: the record of a small witness fits its script
 pub fits_by : (w : Witness) → IsSmall w → Fits w.script w.run

@@ -7,9 +7,10 @@ use Rattle.seq_timer.specs.declared.event.EventBy.{EventBy}
 use Rattle.seq_timer.specs.declared.event.EventBy.TheVariants as events
 use Rattle.record_text.specs.declared.record.Label.{Label}
 use Rattle.script_text.specs.declared.script.Script.{Script}
-use Rattle.run_history.specs.Actions.{Action, also, Entered, Looked, looked, Made, made, numbers_of_object, Shifted, Skipped, skipped, Wrote}
+use Rattle.run_history.specs.Actions.{Action, also, Entered, Looked, looked, Made, made, Shifted, Skipped, skipped, Wrote}
 use Rattle.run_history.specs.Order.{AreSorted, calls_of, is_before, is_label, is_lower, IsInOrder, IsLabel, IsPoint, made_by, NeverFall}
 use Rattle.run_history.specs.Witnesses.{Witness, labels}
+use Rattle.run_history.specs.Fits.{LabelsNeverFall}
 use Rattle.run_history.specs.Traces.{all_entered}
 use Rattle.run_history.specs.Truths.{AreTrue, OfClaim}
 
@@ -90,6 +91,16 @@ sorted_pass [] e = tt
 sorted_pass (c ∷ cs) e = let parts = and_parts (list_all (λ other. is_lower c other) cs) (are_sorted cs) e in
     (all_true (λ other. is_lower c other ≡ true) (λ other. is_lower c other) (λ x is. is) cs parts.0, sorted_pass cs parts.1)
 
+-- labels in an order in which one may stand more than once
+abbrev pub are_in_turn : List Label → Bool
+are_in_turn [] = true
+are_in_turn (c ∷ cs) = list_all (λ other. not (is_lower other c)) cs && are_in_turn cs
+
+pub turn_passes : (cs : List Label) → are_in_turn cs ≡ true → LabelsNeverFall cs
+turn_passes [] e = tt
+turn_passes (c ∷ cs) e = let parts = and_parts (list_all (λ other. not (is_lower other c)) cs) (are_in_turn cs) e in
+    (all_unless (λ other. is_lower other c) cs parts.0, turn_passes cs parts.1)
+
 -- ---- numbers
 
 -- numbers that never fall
@@ -158,36 +169,34 @@ plain_pass w c first from before (Shifted base number event ∷ ds) last e =
 pub other : (a n k : ℕ) → nat_lt a n ≡ true → n ≤ k → nat_eq a k ≡ false
 other a n k less past = grind (arith, nat_tests)
 
--- it looked at no timer past so many, made no entry of an object past so many, and had no expiry refused
+-- it looked at no timer past so many, and no object past so many had an entry of it or refused an expiry
 abbrev pub are_made : ℕ → ℕ → List Action → Bool
 are_made timers objects [] = true
 are_made timers objects (Wrote number write ∷ ds) = are_made timers objects ds
 are_made timers objects (Entered t number entry ∷ ds) = are_made timers objects ds
 are_made timers objects (Looked t number look ∷ ds) = nat_lt t timers && are_made timers objects ds
 are_made timers objects (Made i number entry ∷ ds) = nat_lt i objects && are_made timers objects ds
-are_made timers objects (Skipped i number generation ∷ ds) = false
+are_made timers objects (Skipped i number generation ∷ ds) = nat_lt i objects && are_made timers objects ds
 are_made timers objects (Shifted base number event ∷ ds) = are_made timers objects ds
 
 -- so past them there is nothing
 pub record IsPast (timers objects i : ℕ) (ds : List Action) : Type 0 where
   pub looked : timers ≤ i → looked i ds ≡ []
   pub made : objects ≤ i → made i ds ≡ []
-  pub numbers : objects ≤ i → numbers_of_object i ds ≡ []
-  pub skipped : skipped i ds ≡ []
+  pub skipped : objects ≤ i → skipped i ds ≡ []
 
 -- law: the same, of what passes the test
 pub made_past : (timers objects i : ℕ) (ds : List Action) → are_made timers objects ds ≡ true → IsPast timers objects i ds
-made_past timers objects i [] e = record { looked = λ p. refl; made = λ p. refl; numbers = λ p. refl; skipped = refl }
+made_past timers objects i [] e = record { looked = λ p. refl; made = λ p. refl; skipped = λ p. refl }
 made_past timers objects i (Wrote number write ∷ ds) e =
-    let rest = made_past timers objects i ds e in record { looked = rest.looked; made = rest.made; numbers = rest.numbers; skipped = rest.skipped }
+    let rest = made_past timers objects i ds e in record { looked = rest.looked; made = rest.made; skipped = rest.skipped }
 made_past timers objects i (Entered t number entry ∷ ds) e =
-    let rest = made_past timers objects i ds e in record { looked = rest.looked; made = rest.made; numbers = rest.numbers; skipped = rest.skipped }
+    let rest = made_past timers objects i ds e in record { looked = rest.looked; made = rest.made; skipped = rest.skipped }
 made_past timers objects i (Looked t number look ∷ ds) e =
     let parts = and_parts (nat_lt t timers) (are_made timers objects ds) e in
     let rest = made_past timers objects i ds parts.1 in record {
       looked = λ p. ap (λ b. also b (number, look) (looked i ds)) (other t timers i parts.0 p) ∙ rest.looked p;
       made = rest.made;
-      numbers = rest.numbers;
       skipped = rest.skipped;
     }
 made_past timers objects i (Made j number entry ∷ ds) e =
@@ -195,9 +204,14 @@ made_past timers objects i (Made j number entry ∷ ds) e =
     let rest = made_past timers objects i ds parts.1 in record {
       looked = rest.looked;
       made = λ p. ap (λ b. also b (number, entry) (made i ds)) (other j objects i parts.0 p) ∙ rest.made p;
-      numbers = λ p. ap (λ b. also b number (numbers_of_object i ds)) (other j objects i parts.0 p) ∙ rest.numbers p;
       skipped = rest.skipped;
     }
-made_past timers objects i (Skipped j number generation ∷ ds) e = absurd (cc)
+made_past timers objects i (Skipped j number generation ∷ ds) e =
+    let parts = and_parts (nat_lt j objects) (are_made timers objects ds) e in
+    let rest = made_past timers objects i ds parts.1 in record {
+      looked = rest.looked;
+      made = rest.made;
+      skipped = λ p. ap (λ b. also b (number, generation) (skipped i ds)) (other j objects i parts.0 p) ∙ rest.skipped p;
+    }
 made_past timers objects i (Shifted base number event ∷ ds) e =
-    let rest = made_past timers objects i ds e in record { looked = rest.looked; made = rest.made; numbers = rest.numbers; skipped = rest.skipped }
+    let rest = made_past timers objects i ds e in record { looked = rest.looked; made = rest.made; skipped = rest.skipped }

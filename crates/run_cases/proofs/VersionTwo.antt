@@ -13,7 +13,7 @@ use Rattle.run_history.specs.Fits.{Fits}
 use Rattle.run_cases.specs.Fitting.{early_record, early_script, waiting_record, waiting_script, contexts_record, contexts_script}
 use Rattle.run_cases.specs.Lines.{slack_entry, start}
 use Rattle.run_cases.proofs.Calls.{right}
-use Rattle.run_cases.proofs.Witnesses.{armed_as, armed_by, witness_by, did, done_by, fired, next, none_then, stays, stopped_by, ran, step, two}
+use Rattle.run_cases.proofs.Witnesses.{armed_as, armed_by, witness_by, did, done_by, fired, none_then, stays, stopped_by, ran, step, two}
 use Rattle.run_cases.proofs.Small.{fits_by}
 use Rattle.run_cases.proofs.Tests.{le, lt}
 
@@ -22,7 +22,7 @@ use Rattle.run_cases.proofs.Tests.{le, lt}
 -- its witness
 abbrev early_witness : Witness
 early_witness = witness_by early_script early_record (0 ∷ 0 ∷ 0 ∷ [])
-    ((did 0 (Entered 0 1 (slack_entry 0 100) ∷ []) 0 1 ∷ ran 0 0 (fired 2 1 [] 3 false ∷ []) 1 3 ∷ []) ∷ []) (λ i k. (0, 0))
+    ((did 0 (Entered 0 1 (slack_entry 0 100) ∷ []) 0 1 ∷ ran 0 0 (fired 2 1 [] 3 false ∷ []) 1 3 ∷ []) ∷ [])
 
 -- law: it fits
 pub early_fits : Fits early_script early_record
@@ -34,17 +34,17 @@ early_fits = fits_by early_witness (record {
   all = (refl, tt);
   bases = (refl, tt);
   clock = refl;
+  objects = (refl, tt);
   history = two (step refl (inr refl, inl (lt refl)) refl tt)
       (two (step refl (refl, refl, refl, refl, le refl) refl (refl, refl)) (two (step refl refl refl tt) tt));
   object_histories = (refl, tt);
-  object_spans = (tt, tt);
   placed = (refl, tt);
   calls = two (
-      next 0 (right refl refl refl (refl, tt) (refl, tt) (le refl, tt)
-      (armed_as 1 0 0 100, refl, refl, refl, refl, stays refl refl refl) (inl refl) tt tt)
-      (next 0 (right refl refl refl (refl, tt) (refl, tt) (le refl, tt)
+      two (right refl refl refl (refl, tt) (refl, tt) (refl, tt)
+      (armed_as 1 0 0 100, refl, refl, refl, refl, stays refl refl refl) (inl refl) tt)
+      (two (right refl refl refl (refl, tt) (refl, tt) (refl, tt)
       (record { one_reading = refl; claimed = refl; done = refl; contexts = (refl, tt); bodies = ((refl, refl), tt) }, lt refl)
-      (inl refl) (tt, tt) (done_by early_witness contexts.Hard 0 0 3 refl refl (refl, tt) (λ clock. (refl, tt)))) tt)
+      (inl refl) (done_by early_witness contexts.Hard 0 0 3 refl refl (refl, tt) (λ clock. (refl, tt)))) tt)
       ) tt;
 })
 
@@ -53,7 +53,7 @@ early_fits = fits_by early_witness (record {
 -- its witness
 abbrev waiting_witness : Witness
 waiting_witness = witness_by waiting_script waiting_record (0 ∷ 1 ∷ []) ((did 0 (Entered 0 1 (slack_entry 0 100) ∷ []) 0 1
-    ∷ did 0 (Entered 1 1 (start modes.Abs 50 50) ∷ []) 1 2 ∷ ran 0 0 [] 2 2 ∷ []) ∷ []) (λ i k. (0, 0))
+    ∷ did 0 (Entered 1 1 (start modes.Abs 50 50) ∷ []) 1 2 ∷ ran 0 0 [] 2 2 ∷ []) ∷ [])
 
 -- the second timer leads the one clock on which timers are kept, and has a soft expiry that isn't reached
 waiting_stopped : (clock : ClockId) → IsStopped (in_context contexts.Hard (timer_along waiting_witness 2)) 0 (reading_at [] 0) clock
@@ -79,18 +79,18 @@ waiting_fits = fits_by waiting_witness (record {
   all = (refl, (refl, tt));
   bases = (refl, tt);
   clock = refl;
+  objects = (refl, (refl, tt));
   history = two (step refl (inr refl, inl (lt refl)) refl tt) (two (step refl (inr refl, inl (lt refl)) refl tt) tt);
   object_histories = (refl, (refl, tt));
-  object_spans = (tt, (tt, tt));
   placed = (refl, tt);
   calls = two (
-      next 0 (right refl refl refl (refl, (refl, tt)) (refl, (refl, tt)) (le refl, (le refl, tt))
-      (armed_as 1 0 0 100, refl, refl, refl, refl, stays refl refl refl) (inl refl) tt tt)
-      (next 0 (right refl refl refl (refl, (refl, tt)) (refl, (refl, tt)) (le refl, (le refl, tt))
-      (armed_by 1 50, refl, refl, refl, refl, stays refl refl refl) (inl refl) tt tt)
-      (next 0 (right refl refl refl (refl, (refl, tt)) (refl, (refl, tt)) (le refl, (le refl, tt))
+      two (right refl refl refl (refl, (refl, tt)) (refl, (refl, tt)) (refl, (refl, tt))
+      (armed_as 1 0 0 100, refl, refl, refl, refl, stays refl refl refl) (inl refl) tt)
+      (two (right refl refl refl (refl, (refl, tt)) (refl, (refl, tt)) (refl, (refl, tt))
+      (armed_by 1 50, refl, refl, refl, refl, stays refl refl refl) (inl refl) tt)
+      (two (right refl refl refl (refl, (refl, tt)) (refl, (refl, tt)) (refl, (refl, tt))
       (record { one_reading = refl; claimed = refl; done = refl; contexts = tt; bodies = tt }, lt refl)
-      (inl refl) tt (stopped_by waiting_witness contexts.Hard 0 0 2 refl refl (refl, (refl, tt)) waiting_stopped)) tt))
+      (inl refl) (stopped_by waiting_witness contexts.Hard 0 0 2 refl refl (refl, (refl, tt)) waiting_stopped)) tt))
       ) tt;
 })
 
@@ -100,7 +100,7 @@ waiting_fits = fits_by waiting_witness (record {
 abbrev contexts_witness : Witness
 contexts_witness = witness_by contexts_script contexts_record (0 ∷ 1 ∷ 0 ∷ 0 ∷ 1 ∷ 1 ∷ []) ((did 0 (Entered 0 1 (start modes.Abs 0 0) ∷ []) 0 1
     ∷ did 0 (Entered 1 1 (start modes.Abs 0 0) ∷ []) 1 2 ∷ ran 0 0 (fired 2 1 [] 3 false ∷ []) 2 4
-    ∷ ran 0 0 (record (fired 2 1 [] 3 false) { timer = 1 } ∷ []) 4 6 ∷ []) ∷ []) (λ i k. (0, 0))
+    ∷ ran 0 0 (record (fired 2 1 [] 3 false) { timer = 1 } ∷ []) 4 6 ∷ []) ∷ [])
 
 -- law: it fits
 pub contexts_fit : Fits contexts_script contexts_record
@@ -112,22 +112,22 @@ contexts_fit = fits_by contexts_witness (record {
   all = (refl, (refl, tt));
   bases = (refl, tt);
   clock = refl;
+  objects = (refl, (refl, tt));
   history = two (step refl (inr refl, inl (lt refl)) refl tt) (two (step refl (inr refl, inl (lt refl)) refl tt)
       (two (step refl (refl, refl, refl, refl, le refl) refl (refl, refl))
       (two (step refl refl refl tt) (two (step refl (refl, refl, refl, refl, le refl) refl (refl, refl)) (two (step refl refl refl tt) tt)))));
   object_histories = (refl, (refl, tt));
-  object_spans = (tt, (tt, tt));
   placed = (refl, tt);
   calls = two (
-      next 0 (right refl refl refl (refl, (refl, tt)) (refl, (refl, tt)) (le refl, (le refl, tt))
-      (armed_by 1 0, refl, refl, refl, refl, stays refl refl refl) (inl refl) tt tt)
-      (next 0 (right refl refl refl (refl, (refl, tt)) (refl, (refl, tt)) (le refl, (le refl, tt))
-      (armed_by 1 0, refl, refl, refl, refl, stays refl refl refl) (inl refl) tt tt)
-      (next 0 (right refl refl refl (refl, (refl, tt)) (refl, (refl, tt)) (le refl, (le refl, tt))
+      two (right refl refl refl (refl, (refl, tt)) (refl, (refl, tt)) (refl, (refl, tt))
+      (armed_by 1 0, refl, refl, refl, refl, stays refl refl refl) (inl refl) tt)
+      (two (right refl refl refl (refl, (refl, tt)) (refl, (refl, tt)) (refl, (refl, tt))
+      (armed_by 1 0, refl, refl, refl, refl, stays refl refl refl) (inl refl) tt)
+      (two (right refl refl refl (refl, (refl, tt)) (refl, (refl, tt)) (refl, (refl, tt))
       (record { one_reading = refl; claimed = refl; done = refl; contexts = (refl, tt); bodies = ((refl, refl), tt) }, lt refl)
-      (inl refl) (tt, tt) (done_by contexts_witness contexts.Hard 0 0 4 refl refl (refl, (refl, tt)) (λ clock. (refl, (refl, tt)))))
-      (next 0 (right refl refl refl (refl, (refl, tt)) (refl, (refl, tt)) (le refl, (le refl, tt))
+      (inl refl) (done_by contexts_witness contexts.Hard 0 0 4 refl refl (refl, (refl, tt)) (λ clock. (refl, (refl, tt)))))
+      (two (right refl refl refl (refl, (refl, tt)) (refl, (refl, tt)) (refl, (refl, tt))
       (record { one_reading = refl; claimed = refl; done = refl; contexts = (refl, tt); bodies = ((refl, refl), tt) }, lt refl)
-      (inl refl) (tt, tt) (done_by contexts_witness contexts.Soft 0 0 6 refl refl (refl, (refl, tt)) (λ clock. (refl, (refl, tt))))) tt)))
+      (inl refl) (done_by contexts_witness contexts.Soft 0 0 6 refl refl (refl, (refl, tt)) (λ clock. (refl, (refl, tt))))) tt)))
       ) tt;
 })

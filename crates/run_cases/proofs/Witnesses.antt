@@ -16,6 +16,7 @@ use Rattle.seq_timer.specs.declared.system.TimerEntry.{TimerEntry}
 use Rattle.seq_timer.proofs.Systems.{after_entries-entries_of}
 use Rattle.record_text.specs.declared.record.ClockLine.{ClockLine}
 use Rattle.seq_timer.specs.declared.event.Restarted.TheVariants as restarts
+use Rattle.record_text.specs.declared.record.ObjectEntry.{ObjectEntry}
 use Rattle.record_text.specs.declared.record.RunRecord.{RunRecord}
 use Rattle.script_text.specs.declared.script.LaneCall.{LaneCall}
 use Rattle.script_text.specs.declared.script.Round.{Round}
@@ -28,7 +29,7 @@ use Rattle.run_history.specs.Starts.{Arming, IsArming, IsJustBefore, IsSentBy, f
 use Rattle.run_history.specs.Calls.{fires}
 use Rattle.run_history.specs.Witnesses.{Witness, entries_in, entry_of_move, Fired, is_owner, Move, moves_on, OfBase, OfRise, OfTimer, Owner, owner_of, Shown, system_along, timer_along, TimersList, Trace}
 use Rattle.run_history.specs.Receipts.{move_at}
-use Rattle.run_history.specs.Truths.{IsDone}
+use Rattle.run_history.specs.Truths.{HadFromFirst, IsDone, IsTrueEntry, MadeInTurn, StoodBefore}
 use Rattle.run_history.proofs.OwnHistories.{entries_on, own_entry}
 use Rattle.run_cases.proofs.Tests.{all_true, le, lt, other}
 
@@ -60,20 +61,18 @@ abbrev pub fired : ℕ → ℕ → List Action → ℕ → Bool → Fired
 fired claim generation body finish restart =
     record { timer = 0; claim = claim; generation = generation; body = body; finish = finish; restart = restart; restarted = restarts.No }
 
--- the witness of a script and a record, where entries of lists follow one another so, each lane's calls did these things, and objects' entries have
--- such spans
-abbrev pub witness_along : Script → RunRecord → List Owner → List (List Trace) → (ℕ → ℕ → ℕ × ℕ) → Witness
-witness_along s r order traces spans = record {
+-- the witness of a script and a record, where entries of lists follow one another so, and each lane's calls did these things
+abbrev pub witness_along : Script → RunRecord → List Owner → List (List Trace) → Witness
+witness_along s r order traces = record {
   script = s;
   run = r;
   moves = moves_by r [] order;
   traces = λ c. get_or (get_or traces c.lane []) c.call (did 0 [] 0 0);
-  spans = spans;
 }
 
 -- the same, where all entries are timers'
-abbrev pub witness_by : Script → RunRecord → List ℕ → List (List Trace) → (ℕ → ℕ → ℕ × ℕ) → Witness
-witness_by s r order traces spans = witness_along s r (map TimersList order) traces spans
+abbrev pub witness_by : Script → RunRecord → List ℕ → List (List Trace) → Witness
+witness_by s r order traces = witness_along s r (map TimersList order) traces
 
 -- a start with one entry, of this number, which puts the timer on a base with these expiries
 abbrev pub armed_as : ℕ → ℕ → ℕ → ℕ → Arming
@@ -96,8 +95,10 @@ two a b = (a, b)
 pub three : {A B C : Type 0} → A → B → C → A × B × C
 three a b c = (a, b, c)
 
-pub next : {P Q : ℕ → Type 0} (n : ℕ) → P n → Q n → (k : ℕ) × P k × Q k
-next n p q = (n, p, q)
+-- an entry of an object was made in its turn
+pub in_its_turn : {w : Witness} {first i number n : ℕ} {entry : ObjectEntry} → IsTrueEntry w i number entry n → HadFromFirst w first i number entry
+    → StoodBefore w i number n → MadeInTurn w first i number entry n
+in_its_turn true_start had stood = record { true_start = true_start; had = had; stood = stood }
 
 -- a start that makes one entry, on the base that is asked for, is made so
 pub stays : {Reached : ℕ → ℕ → Type 0} {limit base : ℕ} {a : Arming} → nat_le a.number limit ≡ true → a.outs ≡ [] → base ≡ a.asked
@@ -119,8 +120,8 @@ finds_pass false heir e is = absurd (true≢false (sym is))
 
 -- an entry of a timer may come next
 pub step : {bases count : ℕ} {w : System} {e : TimerEntry}
-    → (nat_lt e.timer count && finds (is_start (effect (w.timers e.timer) e.event)) (w.bases (w.timers e.timer).base).standing.heir) ≡ true → Needs (w.timers e.timer) e.event
-    → e.reply ≡ reply_to (w.timers e.timer) e.event
+    → (nat_lt e.timer count && finds (is_start (effect (w.timers e.timer) e.event)) (w.bases (w.timers e.timer).base).standing.heir) ≡ true
+    → Needs (w.timers e.timer) e.event → e.reply ≡ reply_to (w.timers e.timer) e.event
     → NeedsOfBases (BeginsInTurn (w.bases (w.timers e.timer).base) e.timer (w.timers e.timer)) bases (effect (w.timers e.timer) e.event).function
     (effect (w.timers e.timer) e.event).sent
     → IsSystemStep bases count w e

@@ -1,43 +1,35 @@
 -- The records that don't fit.
-use Rattle.std.proofs.Common.{◌≡◌, ◌<◌, ◌≤◌, ℕ, true, false, [], ◌∷◌, Some, arith, refl, sym, ap, ◌∙◌, subst, zero, suc, ◌+◌, ◌++◌, List, flat_map, length, take, map, if◌then◌else◌, nat_le}
+use Rattle.std.proofs.Common.{◌≡◌, ◌<◌, ◌≤◌, ℕ, true, false, [], ◌∷◌, Some, arith, refl, sym, ap, ◌∙◌, subst, zero, suc, List, take, map, if◌then◌else◌, nat_le}
 use Rattle.std.specs.List.{slice_get, AllByRecursion}
 use Rattle.std.proofs.Math.Logic.{⊎_elim}
-use Rattle.std.proofs.lemmas.Bool.{cases_lt, false≢true, eq-eqb}
+use Rattle.std.proofs.lemmas.Bool.{cases_lt, false≢true}
 use Rattle.ktime.specs.declared.clock_id.ClockId.TheVariants as clocks
 use Rattle.seq_timer.specs.declared.context.Context.TheVariants as contexts
 use Rattle.seq_timer.specs.declared.context.Context.{Context}
 use Rattle.seq_timer.specs.declared.context.Declared.{Declared}
-use Rattle.seq_timer.specs.Histories.{IsIdle}
 use Rattle.seq_timer.specs.Systems.{after_entry, changed}
 use Rattle.seq_timer.specs.Tables.{IsStopped, in_context, is_context, is_kept_on, no_timer, runs_on, seen_in}
-use Rattle.record_text.specs.declared.record.Entry.{Entry}
 use Rattle.record_text.specs.declared.record.Label.{Label}
-use Rattle.record_text.specs.declared.record.ObjectEntry.TheVariants as object_entries
-use Rattle.record_text.specs.declared.record.ObjectEntry.{ObjectEntry}
 use Rattle.seq_timer.proofs.Due.{stopped-unreached}
 use Rattle.seq_timer.proofs.Agreement.{soft_within_context}
 use Rattle.record_text.specs.declared.version.Version.TheVariants as versions
 use Rattle.script_text.specs.declared.script.Script.{Script}
-use Rattle.run_history.specs.Actions.{Action, also, Entered, made}
+use Rattle.run_history.specs.Actions.{made}
 use Rattle.run_history.specs.Histories.{reading_at, timer_after}
-use Rattle.script_text.specs.Declarations.{declared_of, declareds_of, terms_of, kind_of}
-use Rattle.run_history.specs.Order.{is_before, IsPoint, made_by}
-use Rattle.run_history.specs.Calls.{fires, IsBody, IsTrigger}
-use Rattle.run_history.specs.Witnesses.{CountersList, labels, Move, OfTimer, Shown, TimersList, timer_along, entries_in, Witness, Trace, Fired}
+use Rattle.script_text.specs.Declarations.{declared_of, declareds_of, terms_of}
+use Rattle.run_history.specs.Order.{is_before, IsPoint}
+use Rattle.run_history.specs.Witnesses.{CountersList, labels, Move, OfTimer, TimersList, timer_along, entries_in, Witness, Trace, Fired}
 use Rattle.run_history.specs.Fits.{Fits}
-use Rattle.run_history.specs.Traces.{all_entered}
-use Rattle.run_history.specs.Truths.{IsDone, IsClaimSpan}
+use Rattle.run_history.specs.Truths.{IsDone}
 use Rattle.fit_laws.proofs.EachTimer.{heads}
 use Rattle.run_history.proofs.Lists.{at_map}
-use Rattle.run_history.proofs.Expires.{claim_of, finish_of}
 use Rattle.fit_laws.proofs.OwnPoints.{declared_then, same_then, seen, seen_rises, stamp_then, turn_at}
 use Rattle.run_cases.specs.Lines.{at, claim_entry}
 use Rattle.run_cases.specs.Fitting.{waiting_script}
-use Rattle.run_cases.specs.Wrong.{both_record, both_script, tie_record, tie_script, due_record, due_script, uncancelled_record, uncancelled_script, crossed_record, crossed_script, set_entry_of, settimes_record, settimes_script, soon_record, soon_script, past_record, missed_record, missed_script, astray_record, astray_script, versions_record, versions_script}
+use Rattle.run_cases.specs.Wrong.{both_record, both_script, tie_record, tie_script, due_record, due_script, soon_record, soon_script, past_record, missed_record, missed_script, astray_record, astray_script, versions_record, versions_script}
 use Rattle.run_cases.proofs.Witnesses.{moves_by, timers_moves}
 use Rattle.run_cases.proofs.Tests.{upto}
 use Rattle.run_cases.proofs.Orders.{at_early, at_late, witness_with, found, opened, in_one_order, in_one_order_of}
-use Rattle.run_cases.proofs.Settimes.{idle_first, settime_span}
 
 -- ---- two functions run at once on one base, by what a lane is told before and behind its claim
 
@@ -49,8 +41,8 @@ claim = record { before = 1; label = at 1 1; shown = OfTimer 1 (claim_entry 0 0 
 pub both_dont_fit : Fits both_script both_record → ⊥
 both_dont_fit fits =
     let o = opened both_script both_record fits in
-    let w = witness_with both_script both_record o.0 o.1 o.2 in
-    let f = o.3 in
+    let w = witness_with both_script both_record o.0 o.1 in
+    let f = o.2 in
     let one = (f.calls 1).1.0 in
     let three = (f.calls 1).2.2.1.0 in
     let a = (o.1 (at 1 0)).last in
@@ -95,17 +87,17 @@ tie_moves = moves_by tie_record []
 pub tie_doesnt_fit : Fits tie_script tie_record → ⊥
 unfolding after_entry changed
 tie_doesnt_fit fits =
-    let o = in_one_order_of tie_script tie_record tie_moves refl (refl, (refl, tt)) (refl, tt) refl refl fits in
-    let w = witness_with tie_script tie_record tie_moves o.0 o.1 in
+    let o = in_one_order_of tie_script tie_record tie_moves refl (refl, (refl, tt)) (refl, tt) refl (refl, (refl, tt)) refl fits in
+    let w = witness_with tie_script tie_record tie_moves o.0 in
     -- at the fourth place, where the second timer is claimed
-    let wrong : 2 < 1 = (turn_at w o.2.history o.2.timers 3 1 _ (claim_entry 0 1 1) 0 1 refl refl refl).ties 0 (λ e. omega (arith, e)) refl refl in
+    let wrong : 2 < 1 = (turn_at w o.1.history o.1.timers 3 1 _ (claim_entry 0 1 1) 0 1 refl refl refl).ties 0 (λ e. omega (arith, e)) refl refl in
     omega (arith, wrong)
 
 -- ---- an expiry run has nothing left to do, though at each moment one timer or the other was due
 
 -- the one order: the first timer is started, the second is, and the first is cancelled
-abbrev due_witness : (Label → Trace) → (ℕ → ℕ → ℕ × ℕ) → Witness
-due_witness traces spans = witness_with due_script due_record (timers_moves due_record (0 ∷ 1 ∷ 0 ∷ [])) traces spans
+abbrev due_witness : (Label → Trace) → Witness
+due_witness traces = witness_with due_script due_record (timers_moves due_record (0 ∷ 1 ∷ 0 ∷ [])) traces
 
 -- a base is stopped for the monotonic clock, as the hard context's timers stand after so many entries of a witness
 abbrev IsStoppedHard : Witness → ℕ → ℕ → Type 0
@@ -122,154 +114,23 @@ not_stopped w reading n t stopped kept reached =
     let reached_so = upto (timers t).expires (reading_at w.run.clock reading).mono reached in
     omega (arith, late, reached_so)
 
-one_is_due : (traces : Label → Trace) (spans : ℕ → ℕ → ℕ × ℕ) (n made : ℕ)
-    → IsPoint due_script (at 1 0) made n (labels (due_witness traces spans)) → IsStoppedHard (due_witness traces spans) 0 n → ⊥
+one_is_due : (traces : Label → Trace) (n made : ℕ)
+    → IsPoint due_script (at 1 0) made n (labels (due_witness traces)) → IsStoppedHard (due_witness traces) 0 n → ⊥
 unfolding after_entry changed
-one_is_due traces spans zero made point stopped = false≢true (sym point.within.behind.0)
-one_is_due traces spans (suc zero) made point stopped = not_stopped (due_witness traces spans) 0 1 0 stopped refl refl
-one_is_due traces spans (suc (suc zero)) made point stopped = not_stopped (due_witness traces spans) 0 2 0 stopped refl refl
-one_is_due traces spans (suc (suc (suc zero))) made point stopped = not_stopped (due_witness traces spans) 0 3 1 stopped refl refl
-one_is_due traces spans (suc (suc (suc (suc n)))) made point stopped = omega (arith, point.within.small)
+one_is_due traces zero made point stopped = false≢true (sym point.within.behind.0)
+one_is_due traces (suc zero) made point stopped = not_stopped (due_witness traces) 0 1 0 stopped refl refl
+one_is_due traces (suc (suc zero)) made point stopped = not_stopped (due_witness traces) 0 2 0 stopped refl refl
+one_is_due traces (suc (suc (suc zero))) made point stopped = not_stopped (due_witness traces) 0 3 1 stopped refl refl
+one_is_due traces (suc (suc (suc (suc n)))) made point stopped = omega (arith, point.within.small)
 
 -- law: it does not fit
 pub due_doesnt_fit : Fits due_script due_record → ⊥
 due_doesnt_fit fits =
-    let o = in_one_order due_script due_record (0 ∷ 1 ∷ 0 ∷ []) refl (refl, (refl, tt)) refl (refl, tt) refl fits in
-    let call = (o.2.calls 1).1.0 in
-    let done : IsDone (due_witness o.0 o.1) contexts.Hard 0 0 (o.0 (at 1 0)).last =
-    subst (λ k. IsDone (due_witness o.0 o.1) contexts.Hard k 0 (o.0 (at 1 0)).last) (sym call.does.0.one_reading) call.seen in
-    one_is_due o.0 o.1 (o.0 (at 1 0)).last _ call.ends (done.stopped clocks.Monotonic)
-
--- ---- a settime of an armed POSIX timer starts it with no cancel before
-
--- the one order: both starts
-abbrev uncancelled_witness : (Label → Trace) → (ℕ → ℕ → ℕ × ℕ) → Witness
-uncancelled_witness traces spans = witness_with uncancelled_script uncancelled_record (timers_moves uncancelled_record (0 ∷ 0 ∷ [])) traces spans
-
--- where the second settime begins the timer is armed by the first
-armed_there : (traces : Label → Trace) (spans : ℕ → ℕ → ℕ × ℕ) (n : ℕ)
-    → IsPoint uncancelled_script (at 0 1) 0 n (labels (uncancelled_witness traces spans))
-    → IsIdle (timer_along (uncancelled_witness traces spans) n 0) → ⊥
-unfolding after_entry changed
-armed_there traces spans zero point idle = false≢true (sym point.within.behind.0)
-armed_there traces spans (suc zero) point idle = let armed = idle.armed in cc
-armed_there traces spans (suc (suc zero)) point idle = let many = point.so_many in cc
-armed_there traces spans (suc (suc (suc n))) point idle = omega (arith, point.within.small)
-
--- law: it does not fit
-pub uncancelled_doesnt_fit : Fits uncancelled_script uncancelled_record → ⊥
-uncancelled_doesnt_fit fits =
-    let o = in_one_order uncancelled_script uncancelled_record (0 ∷ 0 ∷ []) refl (refl, tt) refl (refl, tt) refl fits in
-    let call = (o.2.calls 0).2.1.0 in
-    armed_there o.0 o.1 (o.0 (at 0 1)).first call.begins
-    (idle_first (uncancelled_witness o.0 o.1) 0 (o.0 (at 0 1)).actions (o.0 (at 0 1)).first _ _ _ _ (λ is. cc) call.traced.moves call.seen)
-
--- ---- a settime's start stands behind the claim of an expiry, but its entry stands before that expiry's
-
--- the one order: the start, the write, the claim, the finish, the start
-abbrev crossed_moves : List Move
-crossed_moves = moves_by crossed_record [] (TimersList 0 ∷ CountersList 0 ∷ TimersList 0 ∷ TimersList 0 ∷ TimersList 0 ∷ [])
-
-abbrev crossed_witness : (Label → Trace) → (ℕ → ℕ → ℕ × ℕ) → Witness
-crossed_witness traces spans = witness_with crossed_script crossed_record crossed_moves traces spans
-
--- the settime ended behind the fifth move, which is its start
-set_there : (traces : Label → Trace) (spans : ℕ → ℕ → ℕ × ℕ) (n : ℕ) → n ≤ 5 → made_by (at 0 2) (take n (labels (crossed_witness traces spans))) ≡ 1
-    → (timer_along (crossed_witness traces spans) n 0).stamp ≡ 4
-unfolding after_entry changed
-set_there traces spans zero small many = absurd (cc)
-set_there traces spans (suc zero) small many = absurd (cc)
-set_there traces spans (suc (suc zero)) small many = absurd (cc)
-set_there traces spans (suc (suc (suc zero))) small many = absurd (cc)
-set_there traces spans (suc (suc (suc (suc zero)))) small many = absurd (cc)
-set_there traces spans (suc (suc (suc (suc (suc zero))))) small many = refl
-set_there traces spans (suc (suc (suc (suc (suc (suc n)))))) small many = absurd (omega (arith, small))
-
--- the span of an expiry's entry is just its claim
-module _ (w : Witness) (base reading claim number : ℕ) (entry : ObjectEntry) where
-  claimed_span : (f : Fired) → f.timer ≡ 0 → f.claim ≡ claim → IsTrigger reading f → (number, entry) ∷ [] ≡ made 0 (fires base reading f ++ [])
-      → IsClaimSpan w f f.body → (w.spans 0 number).0 + 1 ≡ claim
-  claimed_span f timer claim_is trigger its span = ⊎_elim
-      (λ m. let e = object_entries.Trigger f.generation reading m.1 in
-      let one : (number, entry) ∷ [] ≡ (m.0, e) ∷ [] = its ∙ ap (λ body. made 0 (of_body f body)) m.2
-      ∙ ap (λ b. also b (m.0, e) []) (eq-eqb f.timer 0 timer) in
-      let same : number ≡ m.0 = ap (λ (x : ℕ × ObjectEntry). x.0) (heads (number, entry) (m.0, e) [] [] one) in
-      let there = subst (IsClaimSpan w f) m.2 span in
-      ap (λ (x : ℕ × ℕ). x.0 + 1) (ap (w.spans 0) same ∙ ap (λ i. w.spans i m.0) (sym timer) ∙ there.2) ∙ there.1 ∙ claim_is)
-      (λ s. absurd (let none = its ∙ ap (λ body. made 0 (of_body f body)) s.1 in cc))
-      trigger.0
-    where
-      of_body : Fired → List Action → List Action
-      of_body f body = Entered f.timer f.claim (claim_of base reading f) ∷ (body ++ Entered f.timer f.finish (finish_of f) ∷ []) ++ []
-
-  one_span : (Reached : ℕ → ℕ → Type 0) (fired : List Fired) (claimed : Entry) (rest : List (ℕ × Shown)) → length fired ≡ 1
-      → (claim, OfTimer 0 claimed) ∷ rest ≡ all_entered (flat_map (fires base reading) fired)
-      → (number, entry) ∷ [] ≡ made 0 (flat_map (fires base reading) fired)
-      → AllByRecursion (λ f. IsBody Reached crossed_script.limit (kind_of crossed_script f.timer) reading f) fired
-      → AllByRecursion (λ f. IsClaimSpan w f f.body) fired
-      → (w.spans 0 number).0 + 1 ≡ claim
-  one_span Reached [] claimed rest one entered its bodies spans = absurd (cc)
-  one_span Reached (f ∷ g ∷ fs) claimed rest one entered its bodies spans = absurd (cc)
-  one_span Reached (f ∷ []) claimed rest one entered its bodies spans =
-      let first = heads (claim, OfTimer 0 claimed) (f.claim, OfTimer f.timer (claim_of base reading f)) rest _ entered in
-      let shown : OfTimer 0 claimed ≡ OfTimer f.timer (claim_of base reading f) = ap (λ (x : ℕ × Shown). x.1) first in
-      let timer : f.timer ≡ 0 = cc in
-      claimed_span f timer (sym (ap (λ (x : ℕ × Shown). x.0) first))
-      (subst (λ t. IsBody Reached crossed_script.limit (kind_of crossed_script t) reading f) timer bodies.0) its spans.0
-
--- law: it does not fit
-pub crossed_doesnt_fit : Fits crossed_script crossed_record → ⊥
-crossed_doesnt_fit fits =
-    let o = in_one_order_of crossed_script crossed_record crossed_moves refl (refl, tt) (refl, tt) refl refl fits in
-    let w = crossed_witness o.0 o.1 in
-    let t = o.0 (at 1 0) in
-    let run = (o.2.calls 1).1.0 in
-    let settime = settime_span {w = w} {c = at 0 2} 0 2 (set_entry_of 50 1 4 1) (o.2.calls 0).2.2.1.0 refl in
-    let expiry = one_span w 0 t.at 2 3 (object_entries.Trigger 1 1 false) _ t.fired _ _ run.does.1 (run.traced.moves ∙ ap all_entered run.does.0.done)
-    (run.traced.objects 0 ∙ ap (made 0) run.does.0.done) run.does.0.bodies run.expiries in
-    let behind = (o.2.object_spans 0).2.2.0 in
-    omega (arith, behind, settime.high, expiry, set_there o.0 o.1 settime.end settime.small settime.many)
-
--- ---- of two lanes' settimes the one whose start stands first has its entry last
-
--- the one order: the first settime's start, the other's cancel and start
-abbrev settimes_witness : (Label → Trace) → (ℕ → ℕ → ℕ × ℕ) → Witness
-settimes_witness traces spans = witness_with settimes_script settimes_record (timers_moves settimes_record (0 ∷ 0 ∷ 0 ∷ [])) traces spans
-
--- lane 0 began before its own start, which is the first entry; lane 1 ended behind the third
-begins_there : (traces : Label → Trace) (spans : ℕ → ℕ → ℕ × ℕ) (n : ℕ) → made_by (at 0 0) (take n (labels (settimes_witness traces spans))) ≡ 0
-    → (timer_along (settimes_witness traces spans) n 0).stamp ≡ 0
-unfolding after_entry changed
-begins_there traces spans zero many = refl
-begins_there traces spans (suc n) many = absurd (cc)
-
-ends_there : (traces : Label → Trace) (spans : ℕ → ℕ → ℕ × ℕ) (n : ℕ) → n ≤ 3 → made_by (at 1 0) (take n (labels (settimes_witness traces spans))) ≡ 2
-    → (timer_along (settimes_witness traces spans) n 0).stamp ≡ 3
-unfolding after_entry changed
-ends_there traces spans zero small many = absurd (cc)
-ends_there traces spans (suc zero) small many = absurd (cc)
-ends_there traces spans (suc (suc zero)) small many = absurd (cc)
-ends_there traces spans (suc (suc (suc zero))) small many = refl
-ends_there traces spans (suc (suc (suc (suc n)))) small many = absurd (omega (arith, small))
-
--- law: it does not fit
-pub settimes_dont_fit : Fits settimes_script settimes_record → ⊥
-settimes_dont_fit fits =
-    let o = in_one_order settimes_script settimes_record (0 ∷ 0 ∷ 0 ∷ []) refl (refl, tt) refl (refl, tt) refl fits in
-    let w = settimes_witness o.0 o.1 in
-    let zero_call = (o.2.calls 0).1.0 in
-    let one_call = (o.2.calls 1).1.0 in
-    let early = settime_span {w = w} {c = at 1 0} 0 1 (set_entry_of 200 0 3 0) one_call refl in
-    let late = settime_span {w = w} {c = at 0 0} 0 2 (set_entry_of 100 0 1 200) zero_call refl in
-    let behind = (o.2.object_spans 0).2.0 in
-    omega (
-      arith,
-      behind,
-      early.high,
-      late.low,
-      ends_there o.0 o.1 early.end early.small early.many,
-      begins_there o.0 o.1 (o.0 (at 0 0)).first zero_call.begins.so_many,
-    )
+    let o = in_one_order due_script due_record (0 ∷ 1 ∷ 0 ∷ []) refl (refl, (refl, tt)) refl (refl, tt) refl (refl, (refl, tt)) fits in
+    let call = (o.1.calls 1).1.0 in
+    let done : IsDone (due_witness o.0) contexts.Hard 0 0 (o.0 (at 1 0)).last =
+    subst (λ k. IsDone (due_witness o.0) contexts.Hard k 0 (o.0 (at 1 0)).last) (sym call.does.0.one_reading) call.seen in
+    one_is_due o.0 (o.0 (at 1 0)).last _ call.ends (done.stopped clocks.Monotonic)
 
 -- ---- a timer is claimed before its soft expiry
 
@@ -277,9 +138,9 @@ settimes_dont_fit fits =
 pub soon_doesnt_fit : Fits soon_script soon_record → ⊥
 unfolding after_entry changed
 soon_doesnt_fit fits =
-    let o = in_one_order soon_script soon_record (0 ∷ 0 ∷ 0 ∷ []) refl (refl, tt) refl (refl, tt) refl fits in
-    let w = witness_with soon_script soon_record (timers_moves soon_record (0 ∷ 0 ∷ 0 ∷ [])) o.0 o.1 in
-    let due : false ≡ true = (turn_at w o.2.history o.2.timers 1 0 _ (claim_entry 0 0 1) 0 0 refl refl refl).next.due in
+    let o = in_one_order soon_script soon_record (0 ∷ 0 ∷ 0 ∷ []) refl (refl, tt) refl (refl, tt) refl (refl, tt) fits in
+    let w = witness_with soon_script soon_record (timers_moves soon_record (0 ∷ 0 ∷ 0 ∷ [])) o.0 in
+    let due : false ≡ true = (turn_at w o.1.history o.1.timers 1 0 _ (claim_entry 0 0 1) 0 0 refl refl refl).next.due in
     false≢true due
 
 -- ---- a claim looks past the timer with the earliest hard expiry, whose soft one isn't reached, to a timer whose soft one is
@@ -288,10 +149,10 @@ soon_doesnt_fit fits =
 pub past_doesnt_fit : Fits waiting_script past_record → ⊥
 unfolding after_entry changed
 past_doesnt_fit fits =
-    let o = in_one_order waiting_script past_record (0 ∷ 1 ∷ 0 ∷ 0 ∷ []) refl (refl, (refl, tt)) refl (refl, tt) refl fits in
-    let w = witness_with waiting_script past_record (timers_moves past_record (0 ∷ 1 ∷ 0 ∷ 0 ∷ [])) o.0 o.1 in
+    let o = in_one_order waiting_script past_record (0 ∷ 1 ∷ 0 ∷ 0 ∷ []) refl (refl, (refl, tt)) refl (refl, tt) refl (refl, (refl, tt)) fits in
+    let w = witness_with waiting_script past_record (timers_moves past_record (0 ∷ 1 ∷ 0 ∷ 0 ∷ [])) o.0 in
     -- at the third place, where the first timer is claimed, the second one's expiry is earlier
-    let smaller : true ≡ false = (turn_at w o.2.history o.2.timers 2 0 _ (claim_entry 0 0 1) 0 0 refl refl refl).next.smaller 1 in
+    let smaller : true ≡ false = (turn_at w o.1.history o.1.timers 2 0 _ (claim_entry 0 0 1) 0 0 refl refl refl).next.smaller 1 in
     false≢true (sym smaller)
 
 -- ---- nothing was left to do, though a timer's hard expiry was reached
@@ -300,25 +161,25 @@ past_doesnt_fit fits =
 abbrev missed_moves : List Move
 missed_moves = moves_by missed_record [] (TimersList 0 ∷ CountersList 0 ∷ [])
 
-abbrev missed_witness : (Label → Trace) → (ℕ → ℕ → ℕ × ℕ) → Witness
-missed_witness traces spans = witness_with missed_script missed_record missed_moves traces spans
+abbrev missed_witness : (Label → Trace) → Witness
+missed_witness traces = witness_with missed_script missed_record missed_moves traces
 
-one_is_missed : (traces : Label → Trace) (spans : ℕ → ℕ → ℕ × ℕ) (n made : ℕ)
-    → IsPoint missed_script (at 0 2) made n (labels (missed_witness traces spans)) → IsStoppedHard (missed_witness traces spans) 1 n → ⊥
+one_is_missed : (traces : Label → Trace) (n made : ℕ)
+    → IsPoint missed_script (at 0 2) made n (labels (missed_witness traces)) → IsStoppedHard (missed_witness traces) 1 n → ⊥
 unfolding after_entry changed
-one_is_missed traces spans zero made point stopped = false≢true (sym point.within.behind.0)
-one_is_missed traces spans (suc zero) made point stopped = false≢true (sym point.within.behind.0)
-one_is_missed traces spans (suc (suc zero)) made point stopped = not_stopped (missed_witness traces spans) 1 2 0 stopped refl refl
-one_is_missed traces spans (suc (suc (suc n))) made point stopped = omega (arith, point.within.small)
+one_is_missed traces zero made point stopped = false≢true (sym point.within.behind.0)
+one_is_missed traces (suc zero) made point stopped = false≢true (sym point.within.behind.0)
+one_is_missed traces (suc (suc zero)) made point stopped = not_stopped (missed_witness traces) 1 2 0 stopped refl refl
+one_is_missed traces (suc (suc (suc n))) made point stopped = omega (arith, point.within.small)
 
 -- law: it does not fit
 pub missed_doesnt_fit : Fits missed_script missed_record → ⊥
 missed_doesnt_fit fits =
-    let o = in_one_order_of missed_script missed_record missed_moves refl (refl, tt) (refl, tt) refl refl fits in
-    let call = (o.2.calls 0).2.2.1.0 in
-    let done : IsDone (missed_witness o.0 o.1) contexts.Hard 1 0 (o.0 (at 0 2)).last =
-    subst (λ k. IsDone (missed_witness o.0 o.1) contexts.Hard k 0 (o.0 (at 0 2)).last) (sym call.does.0.one_reading) call.seen in
-    one_is_missed o.0 o.1 (o.0 (at 0 2)).last _ call.ends (done.stopped clocks.Monotonic)
+    let o = in_one_order_of missed_script missed_record missed_moves refl (refl, tt) (refl, tt) refl (refl, tt) refl fits in
+    let call = (o.1.calls 0).2.2.1.0 in
+    let done : IsDone (missed_witness o.0) contexts.Hard 1 0 (o.0 (at 0 2)).last =
+    subst (λ k. IsDone (missed_witness o.0) contexts.Hard k 0 (o.0 (at 0 2)).last) (sym call.does.0.one_reading) call.seen in
+    one_is_missed o.0 (o.0 (at 0 2)).last _ call.ends (done.stopped clocks.Monotonic)
 
 -- ---- a hard expiry run claims a timer of the soft context
 
@@ -333,7 +194,7 @@ first_context s x t ts (f ∷ fs) claimed all =
 pub astray_doesnt_fit : Fits astray_script astray_record → ⊥
 astray_doesnt_fit fits =
     let o = opened astray_script astray_record fits in
-    let run = (o.3.calls 0).2.1.0.does.0 in
+    let run = (o.2.calls 0).2.1.0.does.0 in
     let same : contexts.Soft ≡ contexts.Hard = first_context astray_script contexts.Hard 0 [] (o.1 (at 0 1)).fired run.claimed run.contexts in
     cc
 
@@ -341,4 +202,4 @@ astray_doesnt_fit fits =
 
 -- law: it does not fit
 pub versions_dont_fit : Fits versions_script versions_record → ⊥
-versions_dont_fit fits = let same : versions.One ≡ versions.Two = (opened versions_script versions_record fits).3.version in cc
+versions_dont_fit fits = let same : versions.One ≡ versions.Two = (opened versions_script versions_record fits).2.version in cc

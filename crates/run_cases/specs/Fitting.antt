@@ -1,9 +1,12 @@
 -- Scripts, each with a record that fits it.
-use Rattle.std.specs.Prelude.{true, false, List, [], ◌∷◌}
+use Rattle.std.specs.Prelude.{ℕ, true, false, List, [], ◌∷◌, map}
+use Rattle.ktime.specs.declared.clock_id.ClockId.TheVariants as clocks
 use Rattle.ktime.specs.declared.mode.Mode.TheVariants as modes
 use Rattle.clock_model.specs.declared.write.Write.TheVariants as writes
 use Rattle.record_text.specs.declared.record.AcceptReply.TheVariants as acceptances
 use Rattle.seq_timer.specs.declared.context.Context.TheVariants as contexts
+use Rattle.seq_timer.specs.declared.event.EventBy.TheVariants as events
+use Rattle.seq_timer.specs.declared.event.Reply.TheVariants as start_replies
 use Rattle.seq_timer.specs.declared.standing.BaseEvent.TheVariants as shifts
 use Rattle.record_text.specs.declared.record.Answer.TheVariants as answers
 use Rattle.record_text.specs.declared.record.Answer.{Answer}
@@ -12,15 +15,17 @@ use Rattle.record_text.specs.declared.record.CallbackReply.TheVariants as replie
 use Rattle.record_text.specs.declared.record.Entry.{Entry}
 use Rattle.record_text.specs.declared.record.ObjectEntry.TheVariants as object_entries
 use Rattle.record_text.specs.declared.record.ObjectEntry.{ObjectEntry}
+use Rattle.record_text.specs.declared.record.ReadReply.TheVariants as reads
 use Rattle.record_text.specs.declared.record.RunRecord.{RunRecord}
 use Rattle.record_text.specs.declared.record.SettimeReply.TheVariants as settings
 use Rattle.record_text.specs.declared.record.TimerLine.{TimerLine}
 use Rattle.record_text.specs.declared.version.Version.TheVariants as versions
+use Rattle.script_text.specs.declared.script.Call.{Call}
 use Rattle.script_text.specs.declared.script.Call.TheVariants as calls
 use Rattle.script_text.specs.declared.script.Callback.TheVariants as callbacks
 use Rattle.script_text.specs.declared.script.Kind.TheVariants as kinds
 use Rattle.script_text.specs.declared.script.Script.{Script}
-use Rattle.run_cases.specs.Lines.{advance_line, at, base_line, by, case_object_line, case_script, case_start, claim_lines, hard_expire, hard_raw, line, off_line_record, case_start_entry, raw_record, case_record_in, case_script_in, slack_entry, slack_start, start, cancel_entry, claim_entry, finish_entry, out_entry}
+use Rattle.run_cases.specs.Lines.{advance_line, at, object_record, set_entry_of, set_start, settime_to, base_line, by, case_object_line, case_script, case_start, claim_lines, hard_expire, hard_raw, line, off_line_record, case_start_entry, raw_record, case_record_in, case_script_in, slack_entry, slack_start, start, cancel_entry, claim_entry, finish_entry, out_entry}
 
 -- ---- a timer is started, expires, is cancelled when it is idle, and is looked at
 
@@ -192,6 +197,153 @@ accepted_record = record {
   answers = (answers.Old 0 0 ∷ answers.Clock 1 ∷ answers.Done 1 (0 ∷ []) ∷ answers.Clock 2 ∷ answers.Accepted 3 ∷ answers.NoSignal
       ∷ answers.Overrun 3 4 ∷ []) ∷ [];
 }
+
+-- ---- a lane looks at a timer, and then whether its descriptor is readable, beside another lane's expiry run
+
+-- the script
+abbrev pub unreadable_script : Script
+unreadable_script = case_script 1 2 (kinds.Fd 0 ∷ []) ((by 0 (calls.Clock (writes.Advance 10)) ∷ by 0 (settime_to 5) ∷ [])
+    ∷ (by 0 (hard_expire 0 4) ∷ by 1 (calls.Peek 0) ∷ by 1 (calls.Readable 0) ∷ []) ∷ [])
+
+-- what the look at the timer was answered, and all else
+abbrev pub unreadable_by : Answer → RunRecord
+unreadable_by looked = object_record (advance_line 0 0 10 ∷ [])
+    ((line 0 1 (set_start 5 1 false) ∷ line 0 2 (claim_entry 0 1 1) ∷ line 0 2 (finish_entry false 1) ∷ []) ∷ [])
+    ((case_object_line 0 1 (set_entry_of 5 1 1 0) ∷ case_object_line 0 2 (object_entries.Trigger 1 1 true) ∷ []) ∷ [])
+    ((answers.Clock 1 ∷ answers.Old 0 0 ∷ answers.Done 1 (0 ∷ []) ∷ []) ∷ (looked ∷ answers.Readable false 1 1 ∷ []) ∷ [])
+
+-- its record: the looks were before the expiry
+abbrev pub unreadable_record : RunRecord
+unreadable_record = unreadable_by (answers.Peek 1 0 true false false)
+
+-- ---- of two lanes each disarms a descriptor, and looks whether the other is readable
+
+-- a settime that disarms an object
+abbrev pub disarming : ℕ → Call
+disarming timer = calls.Settime timer 0 (record { sec = 0; nsec = 0 }) (record { sec = 0; nsec = 0 })
+
+-- the entry that it makes
+abbrev pub disarmed_entry : ObjectEntry
+disarmed_entry = object_entries.Settime 0 0 0 0 armings.None (settings.Old 0 0)
+
+-- the script
+abbrev pub seen_script : Script
+seen_script = case_script 1 2 (kinds.Fd 0 ∷ kinds.Fd 0 ∷ [])
+    ((by 0 (disarming 0) ∷ by 0 (calls.Readable 1) ∷ by 1 (disarming 1) ∷ by 1 (calls.Readable 0) ∷ []) ∷ [])
+
+-- how many entries of the first descriptor the second lane saw, and all else
+abbrev pub seen_by : ℕ → RunRecord
+seen_by entries = object_record [] ([] ∷ [] ∷ []) ((case_object_line 0 0 disarmed_entry ∷ []) ∷ (case_object_line 1 0 disarmed_entry ∷ []) ∷ [])
+    ((answers.Old 0 0 ∷ answers.Readable false 0 0 ∷ []) ∷ (answers.Old 0 0 ∷ answers.Readable false 0 entries ∷ []) ∷ [])
+
+-- its record: the first lane came first
+abbrev pub seen_record : RunRecord
+seen_record = seen_by 1
+
+-- ---- two lanes accept signals of two POSIX timers, and there is none
+
+-- the script
+abbrev pub accepts_script : Script
+accepts_script = case_script 1 2 (kinds.Posix 0 ∷ kinds.Posix 0 ∷ [])
+    ((by 0 (calls.Accept 0) ∷ by 0 (calls.Accept 1) ∷ by 1 (calls.Accept 1) ∷ by 1 (calls.Accept 0) ∷ []) ∷ [])
+
+-- the entry of an acceptance
+abbrev pub nothing_accepted : ObjectEntry
+nothing_accepted = object_entries.Accept 0 armings.None acceptances.NoSignal
+
+-- the lanes in the order of their entries of the first timer's object, the first lane with its first call and the second with its second, and all else
+abbrev pub accepts_by : List ℕ → RunRecord
+accepts_by lanes = object_record [] ([] ∷ [] ∷ [])
+    (map (λ lane. case_object_line lane lane nothing_accepted) lanes
+    ∷ (case_object_line 0 1 nothing_accepted ∷ case_object_line 1 0 nothing_accepted ∷ []) ∷ [])
+    ((answers.NoSignal ∷ answers.NoSignal ∷ []) ∷ (answers.NoSignal ∷ answers.NoSignal ∷ []) ∷ [])
+
+-- its record: the first lane came first on both
+abbrev pub accepts_record : RunRecord
+accepts_record = accepts_by (0 ∷ 1 ∷ [])
+
+-- ---- a lane looks at a timer and then accepts, which makes its object full, beside another lane's expiry run, whose expiry is skipped
+
+-- the script, in which each history has two entries
+abbrev pub skipped_script : Script
+skipped_script = record (case_script 1 2 (kinds.Posix 0 ∷ []) ((by 0 (calls.Clock (writes.Advance 10)) ∷ by 0 (settime_to 5) ∷ [])
+    ∷ (by 0 (hard_expire 0 4) ∷ by 1 (calls.Peek 0) ∷ by 1 (calls.Accept 0) ∷ []) ∷ [])) { limit = 2 }
+
+-- what the look was answered, and all else
+abbrev pub skipped_by : Answer → RunRecord
+skipped_by looked = object_record (advance_line 0 0 10 ∷ [])
+    ((line 0 1 (set_start 5 1 false) ∷ line 0 2 (claim_entry 0 1 1) ∷ line 0 2 (finish_entry false 1) ∷ []) ∷ [])
+    ((case_object_line 0 1 (set_entry_of 5 1 1 0) ∷ record (case_object_line 1 1 (object_entries.Accept 1 armings.None acceptances.NoSignal)) {
+      skips = record { label = at 0 2; generation = 1 } ∷ [];
+    } ∷ []) ∷ [])
+    ((answers.Clock 1 ∷ answers.Old 0 0 ∷ answers.Done 1 (0 ∷ []) ∷ []) ∷ (looked ∷ answers.NoSignal ∷ []) ∷ [])
+
+-- its record: the look and the acceptance were before the expiry
+abbrev pub skipped_record : RunRecord
+skipped_record = skipped_by (answers.Peek 1 0 true false false)
+
+-- ---- a lane looks at a descriptor and then sets the clock, which cancels another lane's read
+
+-- the script
+abbrev pub canceled_script : Script
+canceled_script = record (case_script 1 2 (kinds.Fd 0 ∷ [])
+    ((by 0 (calls.Settime 0 3 (record { sec = 0; nsec = 50 }) (record { sec = 0; nsec = 0 })) ∷ [])
+    ∷ (by 0 (calls.Read 0 8) ∷ by 1 (calls.Readable 0) ∷ by 1 (calls.Clock (writes.Set 100)) ∷ []) ∷ [])) {
+      timers = record { clock = clocks.Realtime; kind = kinds.Fd 0 } ∷ [];
+    }
+
+-- the start of its timer
+abbrev pub real_start : Entry
+real_start = record {
+  event = events.Start (record { mode = modes.Abs; ns = 50; slack = 0; reading = 0; base = 0 });
+  reply = start_replies.Start (record { base = 0; clock = clocks.Realtime; soft = 50; expires = 50 }) false;
+}
+
+-- the entry of the settime
+abbrev pub cancelable_entry : ObjectEntry
+cancelable_entry = object_entries.Settime 3 50 0 0 (armings.Generation 1) (settings.Old 0 0)
+
+-- that of the read
+abbrev pub canceled_entry : ObjectEntry
+canceled_entry = object_entries.Read 1 armings.None reads.Canceled
+
+-- how many entries the look found, and all else
+abbrev pub canceled_by : ℕ → RunRecord
+canceled_by entries = object_record (record { label = at 1 1; write = writes.Set 100; mono = 0; real = 100; boot = 0; changes = 1 } ∷ [])
+    ((line 0 0 real_start ∷ []) ∷ []) ((case_object_line 0 0 cancelable_entry ∷ case_object_line 0 1 canceled_entry ∷ []) ∷ [])
+    ((answers.Old 0 0 ∷ answers.Canceled ∷ []) ∷ (answers.Readable false 0 entries ∷ answers.Clock 1 ∷ []) ∷ [])
+
+-- its record: the look was before the read
+abbrev pub canceled_record : RunRecord
+canceled_record = canceled_by 1
+
+-- ---- a lane looks how an object is set, and then at its timer, beside another lane's settime
+
+-- the script
+abbrev pub armed_script : Script
+armed_script = case_script 1 2 (kinds.Posix 0 ∷ [])
+    ((by 0 (settime_to 50) ∷ by 1 (calls.Gettime 0) ∷ by 1 (calls.Peek 0) ∷ []) ∷ [])
+
+-- what the look at the timer was answered, and all else
+abbrev pub armed_seen_by : Answer → RunRecord
+armed_seen_by looked = object_record [] ((line 0 0 (set_start 50 0 false) ∷ []) ∷ []) ((case_object_line 0 0 (set_entry_of 50 0 1 0) ∷ []) ∷ [])
+    ((answers.Old 0 0 ∷ []) ∷ (answers.LeftAt 50 0 0 1 ∷ looked ∷ []) ∷ [])
+
+-- its record: the looks were behind the settime
+abbrev pub armed_record : RunRecord
+armed_record = armed_seen_by (answers.Peek 1 0 true false false)
+
+-- ---- a lane looks at a timer, and then how its object is set, between the start of another lane's settime and its entry of the object
+
+-- the script
+abbrev pub between_script : Script
+between_script = case_script 1 2 (kinds.Posix 0 ∷ [])
+    ((by 0 (settime_to 50) ∷ by 1 (calls.Peek 0) ∷ by 1 (calls.Gettime 0) ∷ []) ∷ [])
+
+-- its record: the timer is started, and the object not yet armed
+abbrev pub between_record : RunRecord
+between_record = object_record [] ((line 0 0 (set_start 50 0 false) ∷ []) ∷ []) ((case_object_line 0 0 (set_entry_of 50 0 1 0) ∷ []) ∷ [])
+    ((answers.Old 0 0 ∷ []) ∷ (answers.Peek 1 0 true false false ∷ answers.LeftAt 0 0 0 0 ∷ []) ∷ [])
 
 -- ---- a timer with slack expires when its soft expiry is reached and its hard one isn't
 

@@ -12,7 +12,10 @@ use Rattle.seq_timer.specs.declared.event.EventBy.TheVariants as events
 use Rattle.seq_timer.specs.declared.event.Reply.TheVariants as replies
 use Rattle.record_text.specs.declared.record.Entry.{Entry}
 use Rattle.record_text.specs.declared.record.Label.{Label}
+use Rattle.record_text.specs.declared.record.Armed.TheVariants as armings
 use Rattle.record_text.specs.declared.record.ObjectEntry.{ObjectEntry}
+use Rattle.record_text.specs.declared.record.ObjectEntry.TheVariants as object_entries
+use Rattle.record_text.specs.declared.record.SettimeReply.TheVariants as settings
 use Rattle.record_text.specs.declared.record.ObjectLine.{ObjectLine}
 use Rattle.seq_timer.specs.declared.event.Restarted.TheVariants as restarts
 use Rattle.seq_timer.specs.declared.standing.BaseEvent.{BaseEvent}
@@ -148,3 +151,26 @@ raw_record clock timers answers = case_record_in versions.One clock timers answe
 -- an entry of an object that a lane's call made
 abbrev pub case_object_line : ℕ → ℕ → ObjectEntry → ObjectLine
 case_object_line lane call entry = record { label = at lane call; entry = entry; skips = [] }
+
+-- a settime of timer 0 to an absolute time, once
+abbrev pub settime_to : ℕ → Call
+settime_to value = calls.Settime 0 1 (record { sec = 0; nsec = value }) (record { sec = 0; nsec = 0 })
+
+-- the start that it makes by the reading of a stamp, and its entry
+abbrev pub set_start : ℕ → ℕ → Bool → Entry
+set_start value stamp was_armed = case_start_entry modes.Abs value stamp 0 0 value was_armed
+
+-- the entry that it makes: the value, the stamp of its reading, the generation that it armed, and what was left before
+abbrev pub set_entry_of : ℕ → ℕ → ℕ → ℕ → ObjectEntry
+set_entry_of value stamp generation left = object_entries.Settime 1 value 0 stamp (armings.Generation generation) (settings.Old left 0)
+
+-- a record of version 1 of timers and their objects, on one base that stays on line
+abbrev pub object_record : List ClockLine → List (List TimerLine) → List (List ObjectLine) → List (List Answer) → RunRecord
+object_record clock timers objects answers = record {
+  version = versions.One;
+  clock = clock;
+  bases = [] ∷ [];
+  timers = timers;
+  objects = objects;
+  answers = answers;
+}

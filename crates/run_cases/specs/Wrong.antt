@@ -1,16 +1,13 @@
 -- Scripts, each with a record that doesn't fit it, though each timer's lines by themselves are a history in all but one of them.
-use Rattle.std.specs.Prelude.{ℕ, Bool, true, false, List, [], ◌∷◌, ◌++◌, map}
+use Rattle.std.specs.Prelude.{ℕ, true, false, List, [], ◌∷◌, ◌++◌, map}
 use Rattle.ktime.specs.declared.mode.Mode.TheVariants as modes
 use Rattle.clock_model.specs.declared.write.Write.TheVariants as writes
 use Rattle.seq_timer.specs.declared.context.Context.TheVariants as contexts
 use Rattle.seq_timer.specs.declared.standing.BaseEvent.TheVariants as shifts
 use Rattle.record_text.specs.declared.record.Answer.TheVariants as answers
-use Rattle.record_text.specs.declared.record.Armed.TheVariants as armings
 use Rattle.record_text.specs.declared.record.Entry.{Entry}
 use Rattle.record_text.specs.declared.record.ObjectEntry.TheVariants as object_entries
-use Rattle.record_text.specs.declared.record.ObjectEntry.{ObjectEntry}
 use Rattle.record_text.specs.declared.record.RunRecord.{RunRecord}
-use Rattle.record_text.specs.declared.record.SettimeReply.TheVariants as settings
 use Rattle.record_text.specs.declared.record.TimerLine.{TimerLine}
 use Rattle.record_text.specs.declared.version.Version.TheVariants as versions
 use Rattle.script_text.specs.declared.script.Call.TheVariants as calls
@@ -19,8 +16,8 @@ use Rattle.script_text.specs.declared.script.Callback.TheVariants as callbacks
 use Rattle.script_text.specs.declared.script.Kind.TheVariants as kinds
 use Rattle.script_text.specs.declared.script.Kind.{Kind}
 use Rattle.script_text.specs.declared.script.Script.{Script}
-use Rattle.run_cases.specs.Fitting.{awaited_by, nothing_by, started_by}
-use Rattle.run_cases.specs.Lines.{at, base_line, by, case_object_line, case_script, case_start, claim_lines, hard_expire, hard_raw, line, off_line_record, out_entry, case_start_entry, raw_record, case_record_in, case_script_in, slack_entry, slack_start, start, cancel_entry, claim_entry, finish_entry}
+use Rattle.run_cases.specs.Fitting.{accepts_by, armed_seen_by, awaited_by, canceled_by, nothing_by, seen_by, skipped_by, started_by, unreadable_by}
+use Rattle.run_cases.specs.Lines.{advance_line, at, object_record, set_entry_of, set_start, settime_to, base_line, by, case_object_line, case_script, case_start, claim_lines, hard_expire, hard_raw, line, off_line_record, out_entry, case_start_entry, raw_record, case_record_in, case_script_in, slack_entry, slack_start, start, cancel_entry, claim_entry, finish_entry}
 
 -- two timers whose callbacks do nothing
 abbrev pub two_timers : List Kind
@@ -91,32 +88,15 @@ stale_record = nothing_by (answers.Peek 1 0 true false false)
 
 -- ---- a settime of an armed POSIX timer starts it with no cancel before
 
--- a settime of timer 0 to an absolute time, once
-abbrev pub settime_to : ℕ → Call
-settime_to value = calls.Settime 0 1 (record { sec = 0; nsec = value }) (record { sec = 0; nsec = 0 })
-
--- the start that it makes by the reading of a stamp, and its entry
-abbrev pub set_start : ℕ → ℕ → Bool → Entry
-set_start value stamp was_armed = case_start_entry modes.Abs value stamp 0 0 value was_armed
-
--- the entry that it makes: the value, the stamp of its reading, the generation that it armed, and what was left before
-abbrev pub set_entry_of : ℕ → ℕ → ℕ → ℕ → ObjectEntry
-set_entry_of value stamp generation left = object_entries.Settime 1 value 0 stamp (armings.Generation generation) (settings.Old left 0)
-
 -- the script
 abbrev pub uncancelled_script : Script
 uncancelled_script = case_script 1 1 (kinds.Posix 0 ∷ []) ((by 0 (settime_to 100) ∷ by 0 (settime_to 200) ∷ []) ∷ [])
 
 -- a record that breaks it
 abbrev pub uncancelled_record : RunRecord
-uncancelled_record = record {
-  version = versions.One;
-  clock = [];
-  bases = [] ∷ [];
-  timers = (line 0 0 (set_start 100 0 false) ∷ line 0 1 (set_start 200 0 true) ∷ []) ∷ [];
-  objects = (case_object_line 0 0 (set_entry_of 100 0 1 0) ∷ case_object_line 0 1 (set_entry_of 200 0 2 100) ∷ []) ∷ [];
-  answers = (answers.Old 0 0 ∷ answers.Old 100 0 ∷ []) ∷ [];
-}
+uncancelled_record = object_record [] ((line 0 0 (set_start 100 0 false) ∷ line 0 1 (set_start 200 0 true) ∷ []) ∷ [])
+    ((case_object_line 0 0 (set_entry_of 100 0 1 0) ∷ case_object_line 0 1 (set_entry_of 200 0 2 100) ∷ []) ∷ [])
+    ((answers.Old 0 0 ∷ answers.Old 100 0 ∷ []) ∷ [])
 
 -- ---- a settime's start stands behind the claim of an expiry, but its entry stands before that expiry's
 
@@ -127,16 +107,11 @@ crossed_script = case_script 1 2 (kinds.Posix 0 ∷ []) ((by 0 (settime_to 1) �
 
 -- a record that breaks it
 abbrev pub crossed_record : RunRecord
-crossed_record = record {
-  version = versions.One;
-  clock = record { label = at 0 1; write = writes.Advance 1; mono = 1; real = 1; boot = 1; changes = 0 } ∷ [];
-  bases = [] ∷ [];
-  timers = (line 0 0 (set_start 1 0 false) ∷ line 1 0 (claim_entry 0 1 1) ∷ line 1 0 (finish_entry false 1)
-      ∷ line 0 2 (set_start 50 1 false) ∷ []) ∷ [];
-  objects = (case_object_line 0 0 (set_entry_of 1 0 1 0) ∷ case_object_line 0 2 (set_entry_of 50 1 4 1)
-      ∷ case_object_line 1 0 (object_entries.Trigger 1 1 false) ∷ []) ∷ [];
-  answers = (answers.Old 0 0 ∷ answers.Clock 1 ∷ answers.Old 1 0 ∷ []) ∷ (answers.More 1 (0 ∷ []) ∷ []) ∷ [];
-}
+crossed_record = object_record (advance_line 0 1 1 ∷ [])
+    ((line 0 0 (set_start 1 0 false) ∷ line 1 0 (claim_entry 0 1 1) ∷ line 1 0 (finish_entry false 1) ∷ line 0 2 (set_start 50 1 false) ∷ []) ∷ [])
+    ((case_object_line 0 0 (set_entry_of 1 0 1 0) ∷ case_object_line 0 2 (set_entry_of 50 1 4 1)
+    ∷ case_object_line 1 0 (object_entries.Trigger 1 1 false) ∷ []) ∷ [])
+    ((answers.Old 0 0 ∷ answers.Clock 1 ∷ answers.Old 1 0 ∷ []) ∷ (answers.More 1 (0 ∷ []) ∷ []) ∷ [])
 
 -- ---- of two lanes' settimes the one whose start stands first has its entry last
 
@@ -146,14 +121,45 @@ settimes_script = case_script 1 2 (kinds.Posix 0 ∷ []) ((by 0 (settime_to 100)
 
 -- a record that breaks it
 abbrev pub settimes_record : RunRecord
-settimes_record = record {
-  version = versions.One;
-  clock = [];
-  bases = [] ∷ [];
-  timers = (line 0 0 (set_start 100 0 false) ∷ line 1 0 (cancel_entry 1) ∷ line 1 0 (set_start 200 0 false) ∷ []) ∷ [];
-  objects = (case_object_line 1 0 (set_entry_of 200 0 3 0) ∷ case_object_line 0 0 (set_entry_of 100 0 1 200) ∷ []) ∷ [];
-  answers = (answers.Old 200 0 ∷ []) ∷ (answers.Old 0 0 ∷ []) ∷ [];
-}
+settimes_record = object_record [] ((line 0 0 (set_start 100 0 false) ∷ line 1 0 (cancel_entry 1) ∷ line 1 0 (set_start 200 0 false) ∷ []) ∷ [])
+    ((case_object_line 1 0 (set_entry_of 200 0 3 0) ∷ case_object_line 0 0 (set_entry_of 100 0 1 200) ∷ []) ∷ [])
+    ((answers.Old 200 0 ∷ []) ∷ (answers.Old 0 0 ∷ []) ∷ [])
+
+-- ---- a look at a descriptor misses an expiry whose function its lane has seen to end: the script of that look beside the expiry
+
+-- a record that breaks it
+abbrev pub missed_expiry_record : RunRecord
+missed_expiry_record = unreadable_by (answers.Peek 3 0 false false false)
+
+-- ---- of two lanes each sets its descriptor, and sees the other's as it was before: the script of these settimes and looks
+
+-- a record that breaks it
+abbrev pub unseen_record : RunRecord
+unseen_record = seen_by 0
+
+-- ---- the entries of two objects are crossed: the script of lanes that accept of both
+
+-- a record that breaks it
+abbrev pub crossed_accepts_record : RunRecord
+crossed_accepts_record = accepts_by (1 ∷ 0 ∷ [])
+
+-- ---- an expiry is skipped before its object was full: the script of an acceptance that makes it full
+
+-- a record that breaks it
+abbrev pub hasty_skip_record : RunRecord
+hasty_skip_record = skipped_by (answers.Peek 3 0 false false false)
+
+-- ---- a read is canceled by a set of the clock that came later: the script of this read, and this set beside it
+
+-- a record that breaks it
+abbrev pub foreseen_set_record : RunRecord
+foreseen_set_record = canceled_by 2
+
+-- ---- an object is armed before the start of its timer: the script of a settime beside looks at both
+
+-- a record that breaks it
+abbrev pub unstarted_record : RunRecord
+unstarted_record = armed_seen_by (answers.Peek 0 0 false false false)
 
 -- ---- a timer is claimed before its soft expiry: its lines aren't a history either
 

@@ -43,6 +43,40 @@ pub fn an_accepted_signal_arms_a_timer_again()
     ensures { Fits fitting.accepted_script fitting.accepted_record }
 {}
 
+/// A lane looks at an object beside another lane's calls: it finds a descriptor unreadable before an expiry that it hasn't seen; of two lanes that each set
+/// their own the one that comes first doesn't see the other's entry; and an object is armed where its timer is started.
+#[tactic(auto, using(crate::proofs::ObjectsFitting::unreadable_fits, crate::proofs::ObjectsFitting::seen_fits, crate::proofs::ObjectsFitting::armed_fits))]
+pub fn a_look_at_an_object_beside_another_lane()
+    ensures unreadable { Fits fitting.unreadable_script fitting.unreadable_record }
+    ensures first { Fits fitting.seen_script fitting.seen_record }
+    ensures armed { Fits fitting.armed_script fitting.armed_record }
+{}
+
+/// Two lanes accept of two POSIX timers, and one of them comes first on both.
+#[tactic(auto, using(crate::proofs::ObjectsFitting::accepts_fit))]
+pub fn two_lanes_accept_of_two_timers()
+    ensures { Fits fitting.accepts_script fitting.accepts_record }
+{}
+
+/// An expiry is skipped, as another lane's acceptance has filled the object's history.
+#[tactic(auto, using(crate::proofs::ObjectsFitting::skipped_fits))]
+pub fn a_full_object_skips_an_expiry()
+    ensures { Fits fitting.skipped_script fitting.skipped_record }
+{}
+
+/// A read is canceled by another lane's set of the clock.
+#[tactic(auto, using(crate::proofs::ObjectsFitting::canceled_fits))]
+pub fn a_set_clock_cancels_a_read()
+    ensures { Fits fitting.canceled_script fitting.canceled_record }
+{}
+
+/// A look at an object between the start of another lane's settime and its entry of the object fits, though no lane gets such a look of an object whose
+/// lock the settime holds.
+#[tactic(auto, using(crate::proofs::ObjectsFitting::between_fits))]
+pub fn a_look_between_a_start_and_its_settimes_entry()
+    ensures { Fits fitting.between_script fitting.between_record }
+{}
+
 /// A timer with slack expires when its soft expiry is reached and its hard one isn't.
 #[tactic(auto, using(crate::proofs::VersionTwo::early_fits))]
 pub fn a_soft_expiry_is_enough()

@@ -40,16 +40,52 @@ pub fn no_run_is_done_by_an_old_reading()
 {}
 
 /// A settime of an armed POSIX timer doesn't leave its cancel out.
-#[tactic(auto, using(crate::proofs::WrongRecords::uncancelled_doesnt_fit))]
+#[tactic(auto, using(crate::proofs::ObjectsWrong::uncancelled_doesnt_fit))]
 pub fn a_settime_cancels_first()
     ensures { Fits wrong.uncancelled_script wrong.uncancelled_record → ⊥ }
 {}
 
 /// An object's entries stand in the order of its timer's: those of a settime and of an expiry, and those of two settimes.
-#[tactic(auto, using(crate::proofs::WrongRecords::crossed_doesnt_fit, crate::proofs::WrongRecords::settimes_dont_fit))]
+#[tactic(auto, using(crate::proofs::ObjectsWrong::crossed_doesnt_fit, crate::proofs::ObjectsWrong::settimes_dont_fit))]
 pub fn entries_of_objects_and_timers_dont_cross()
     ensures expiry { Fits wrong.crossed_script wrong.crossed_record → ⊥ }
     ensures settimes { Fits wrong.settimes_script wrong.settimes_record → ⊥ }
+{}
+
+/// A look at an object doesn't miss an expiry whose function its lane has seen to end.
+#[tactic(auto, using(crate::proofs::ObjectsWrong::missed_expiry_doesnt_fit))]
+pub fn no_look_misses_an_expiry_that_was_over()
+    ensures { Fits fitting.unreadable_script wrong.missed_expiry_record → ⊥ }
+{}
+
+/// Of two lanes that each make an entry of one object and then look at the other's, not both see none.
+#[tactic(auto, using(crate::proofs::ObjectsWrong::unseen_doesnt_fit))]
+pub fn two_lanes_dont_both_come_first()
+    ensures { Fits fitting.seen_script wrong.unseen_record → ⊥ }
+{}
+
+/// The entries that two lanes make of two objects don't cross: no lane comes second on that object where it came first.
+#[tactic(auto, using(crate::proofs::ObjectsWrong::crossed_accepts_dont_fit))]
+pub fn entries_of_two_objects_dont_cross()
+    ensures { Fits fitting.accepts_script wrong.crossed_accepts_record → ⊥ }
+{}
+
+/// An expiry isn't skipped before its object's history is full: a lane doesn't see its function end and then make the entry that fills the history.
+#[tactic(auto, using(crate::proofs::ObjectsWrong::hasty_skip_doesnt_fit))]
+pub fn no_expiry_is_skipped_before_its_object_is_full()
+    ensures { Fits fitting.skipped_script wrong.hasty_skip_record → ⊥ }
+{}
+
+/// A read isn't canceled by a set of the clock that came later: a lane doesn't see the read's entry and then make that set.
+#[tactic(auto, using(crate::proofs::ObjectsWrong::foreseen_set_doesnt_fit))]
+pub fn no_read_is_canceled_by_a_later_set()
+    ensures { Fits fitting.canceled_script wrong.foreseen_set_record → ⊥ }
+{}
+
+/// An object isn't armed before its timer is started: a lane doesn't see it armed and then the timer without that start.
+#[tactic(auto, using(crate::proofs::ObjectsWrong::unstarted_doesnt_fit))]
+pub fn no_object_is_armed_before_its_timers_start()
+    ensures { Fits fitting.armed_script wrong.unstarted_record → ⊥ }
 {}
 
 /// A timer isn't claimed before its soft expiry.

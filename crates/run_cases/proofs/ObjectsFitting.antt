@@ -1,0 +1,337 @@
+-- Records that fit, of two lanes beside each other that call and look at objects: a witness for each, and what makes it fit.
+use Rattle.std.proofs.Common.{ℕ, true, false, [], ◌∷◌, None, refl, inl, inr}
+use Rattle.clock_model.specs.declared.write.Write.TheVariants as writes
+use Rattle.ktime.specs.Times.{passed}
+use Rattle.ktime.specs.declared.clock_id.ClockId.TheVariants as clocks
+use Rattle.seq_timer.specs.declared.context.Context.TheVariants as contexts
+use Rattle.seq_timer.specs.Systems.{after_entry, changed}
+use Rattle.record_text.specs.declared.record.AcceptReply.TheVariants as acceptances
+use Rattle.record_text.specs.declared.record.Armed.{Armed}
+use Rattle.record_text.specs.declared.record.Armed.TheVariants as armings
+use Rattle.record_text.specs.declared.record.ObjectEntry.TheVariants as object_entries
+use Rattle.record_text.specs.declared.record.ObjectEntry.{ObjectEntry}
+use Rattle.record_text.specs.declared.record.SettimeReply.TheVariants as settings
+use Rattle.script_text.specs.declared.script.Kind.{Kind}
+use Rattle.script_text.specs.declared.script.Kind.TheVariants as kinds
+use Rattle.run_history.specs.Actions.{Entered, Made, Skipped, Wrote}
+use Rattle.run_history.specs.Fits.{Fits}
+use Rattle.run_history.specs.ObjectCalls.{MakesRearming, MakesSettime}
+use Rattle.run_history.specs.Witnesses.{CountersList, TimersList, Witness}
+use Rattle.run_cases.specs.Fitting.{accepts_record, accepts_script, armed_record, armed_script, between_record, between_script, cancelable_entry, canceled_entry, canceled_record, canceled_script, disarmed_entry, nothing_accepted, real_start, seen_record, seen_script, skipped_record, skipped_script, unreadable_record, unreadable_script}
+use Rattle.run_cases.specs.Lines.{set_entry_of, set_start}
+use Rattle.run_cases.proofs.Calls.{right}
+use Rattle.run_cases.proofs.Small.{fits_by}
+use Rattle.run_cases.proofs.Tests.{le, lt, point_passes}
+use Rattle.run_cases.proofs.Witnesses.{armed_by, did, done_by, fired, in_its_turn, ran, stays, step, three, two, witness_along}
+
+-- ---- calls that make an entry of an object
+
+-- one that starts no timer
+none_armed : {Reached : ℕ → ℕ → Type 0} {limit timer reading : ℕ} {kind : Kind} {entry : Armed → ObjectEntry} (number : ℕ)
+    → MakesRearming Reached limit kind timer reading entry (Made timer number (entry armings.None) ∷ [])
+none_armed number = record { arm = armings.None; ns = 0; start = []; number = number; timely = le refl; arms = refl; done = refl }
+
+-- a settime that disarms an object, and was the first
+disarmed : {Reached : ℕ → ℕ → Type 0} {limit timer : ℕ}
+    → MakesSettime Reached limit (kinds.Fd 0) timer 0 (record { sec = 0; nsec = 0 }) (record { sec = 0; nsec = 0 }) 0 (settings.Old 0 0)
+    (Made timer 1 disarmed_entry ∷ [])
+disarmed = record {
+  taken = record { known = refl; good_value = lt refl; good_interval = lt refl };
+  cancel = None;
+  arm = armings.None;
+  start = [];
+  number = 1;
+  arms = refl;
+  done = refl;
+}
+
+-- ---- a lane looks at a timer, and then whether its descriptor is readable, beside another lane's expiry run
+
+-- its witness
+abbrev unreadable_witness : Witness
+unreadable_witness = witness_along unreadable_script unreadable_record
+    (CountersList 0 ∷ TimersList 0 ∷ CountersList 1 ∷ TimersList 0 ∷ CountersList 1 ∷ TimersList 0 ∷ [])
+    ((did 0 (Wrote 1 (writes.Advance 10) ∷ []) 0 1 ∷ did 1 (Entered 0 1 (set_start 5 1 false) ∷ Made 0 1 (set_entry_of 5 1 1 0) ∷ []) 1 3
+    ∷ ran 0 1 (fired 2 1 (Made 0 2 (object_entries.Trigger 1 1 true) ∷ []) 3 false ∷ []) 3 6 ∷ []) ∷ (did 1 [] 3 3 ∷ did 1 [] 3 3 ∷ []) ∷ [])
+
+-- law: it fits
+pub unreadable_fits : Fits unreadable_script unreadable_record
+unfolding after_entry changed passed
+unreadable_fits = fits_by unreadable_witness (record {
+  version = refl;
+  passed = refl;
+  writes = (record { counted = lt refl; timely = le refl }, record { mono = refl; real = refl; boot = refl; changes = refl }, tt);
+  all = (refl, tt);
+  bases = (refl, tt);
+  clock = refl;
+  objects = (refl, tt);
+  history = two tt (two (step refl (inr refl, inl (lt refl)) refl tt) (two tt
+      (two (step refl (refl, refl, refl, refl, le refl) refl (refl, refl)) (two tt (two (step refl refl refl tt) tt)))));
+  object_histories = two (two (refl, (refl, tt)) (three (lt refl, refl, le refl, le refl, (λ e. absurd (cc), λ e. absurd (cc))) refl
+      (three (lt refl) refl tt))) tt;
+  placed = (refl, (refl, tt));
+  calls = two (
+      two (right refl refl refl (refl, tt) (refl, tt) (refl, tt) refl (inl refl) tt)
+      (two (right refl refl refl (refl, tt) (refl, tt) (refl, tt) (record {
+        taken = record { known = refl; good_value = lt refl; good_interval = lt refl };
+        cancel = None;
+        arm = armings.Generation 1;
+        start = Entered 0 1 (set_start 5 1 false) ∷ [];
+        number = 1;
+        arms = (armed_by 1 5, refl, refl, stays refl refl refl);
+        done = refl;
+      }) (inr (1, le refl, tt, (2, le refl, (point_passes _ _ _ _ _ refl, in_its_turn (refl, (refl, refl, λ e. refl)) refl refl), le refl)))
+      (record { armed = refl; running = refl; moving = refl }))
+      (two (right refl refl refl (refl, tt) (refl, tt) (refl, tt)
+      (record { one_reading = refl; claimed = refl; done = refl; contexts = (refl, tt); bodies = ((inl (2, true, refl), refl), tt) }, lt refl)
+      (inr (3, le refl, point_passes _ _ _ _ _ refl, (4, le refl, (point_passes _ _ _ _ _ refl, in_its_turn tt tt refl), (5, le refl, tt, le refl))))
+      (done_by unreadable_witness contexts.Hard 1 0 6 refl refl (refl, tt) (λ clock. (refl, tt)))) tt))
+      ) (two (
+      two (right refl refl refl (refl, tt) (refl, tt) (refl, tt) refl (inl refl) (record { stamp = refl; holds = refl }))
+      (two (right refl refl refl (refl, tt) (refl, tt) (refl, tt) (refl, refl) (inl refl) (refl, refl)) tt)
+      ) tt);
+})
+
+-- ---- of two lanes each disarms a descriptor, and looks whether the other is readable
+
+-- its witness
+abbrev seen_witness : Witness
+seen_witness = witness_along seen_script seen_record (CountersList 1 ∷ CountersList 2 ∷ [])
+    ((did 0 (Made 0 1 disarmed_entry ∷ []) 0 1 ∷ did 0 [] 1 1 ∷ []) ∷ (did 0 (Made 1 1 disarmed_entry ∷ []) 1 2 ∷ did 0 [] 2 2 ∷ []) ∷ [])
+
+-- law: it fits
+pub seen_fits : Fits seen_script seen_record
+unfolding after_entry changed passed
+seen_fits = fits_by seen_witness (record {
+  version = refl;
+  passed = refl;
+  writes = tt;
+  all = (refl, (refl, tt));
+  bases = (refl, tt);
+  clock = refl;
+  objects = (refl, (refl, tt));
+  history = two tt (two tt tt);
+  object_histories = two (two (refl, tt) (three (lt refl, refl, le refl, le refl, (λ e. refl, λ e. refl)) refl tt))
+      (two (two (refl, tt) (three (lt refl, refl, le refl, le refl, (λ e. refl, λ e. refl)) refl tt)) tt);
+  placed = (refl, (refl, tt));
+  calls = two (
+      two (right refl refl refl (refl, (refl, tt)) (refl, (refl, tt)) (refl, (refl, tt)) disarmed
+      (inr (0, le refl, (point_passes _ _ _ _ _ refl, in_its_turn tt refl refl), le refl))
+      (record { armed = refl; running = refl; moving = refl }))
+      (two (right refl refl refl (refl, (refl, tt)) (refl, (refl, tt)) (refl, (refl, tt)) (refl, refl) (inl refl) (refl, refl)) tt)
+      ) (two (
+      two (right refl refl refl (refl, (refl, tt)) (refl, (refl, tt)) (refl, (refl, tt)) disarmed
+      (inr (1, le refl, (point_passes _ _ _ _ _ refl, in_its_turn tt refl refl), le refl))
+      (record { armed = refl; running = refl; moving = refl }))
+      (two (right refl refl refl (refl, (refl, tt)) (refl, (refl, tt)) (refl, (refl, tt)) (refl, refl) (inl refl) (refl, refl)) tt)
+      ) tt);
+})
+
+-- ---- two lanes accept signals of two POSIX timers, and there is none
+
+-- its witness
+abbrev accepts_witness : Witness
+accepts_witness = witness_along accepts_script accepts_record (CountersList 1 ∷ CountersList 2 ∷ CountersList 2 ∷ CountersList 1 ∷ [])
+    ((did 0 (Made 0 1 nothing_accepted ∷ []) 0 1 ∷ did 0 (Made 1 1 nothing_accepted ∷ []) 1 2 ∷ [])
+    ∷ (did 0 (Made 1 2 nothing_accepted ∷ []) 2 3 ∷ did 0 (Made 0 2 nothing_accepted ∷ []) 3 4 ∷ []) ∷ [])
+
+-- law: it fits
+pub accepts_fit : Fits accepts_script accepts_record
+unfolding after_entry changed passed
+accepts_fit = fits_by accepts_witness (record {
+  version = refl;
+  passed = refl;
+  writes = tt;
+  all = (refl, (refl, tt));
+  bases = (refl, tt);
+  clock = refl;
+  objects = (refl, (refl, tt));
+  history = two tt (two tt (two tt (two tt tt)));
+  object_histories = two (two (refl, (refl, tt)) (three (lt refl, (λ e. refl, λ e. refl)) refl (three (lt refl, (λ e. refl, λ e. refl)) refl tt)))
+      (two (two (refl, (refl, tt)) (three (lt refl, (λ e. refl, λ e. refl)) refl (three (lt refl, (λ e. refl, λ e. refl)) refl tt))) tt);
+  placed = (refl, (refl, tt));
+  calls = two (
+      two (right refl refl refl (refl, (refl, tt)) (refl, (refl, tt)) (refl, (refl, tt))
+      (none_armed 1)
+      (inr (0, le refl, (point_passes _ _ _ _ _ refl, in_its_turn tt refl refl), le refl)) tt)
+      (two (right refl refl refl (refl, (refl, tt)) (refl, (refl, tt)) (refl, (refl, tt))
+      (none_armed 1)
+      (inr (1, le refl, (point_passes _ _ _ _ _ refl, in_its_turn tt refl refl), le refl)) tt) tt)
+      ) (two (
+      two (right refl refl refl (refl, (refl, tt)) (refl, (refl, tt)) (refl, (refl, tt))
+      (none_armed 2)
+      (inr (2, le refl, (point_passes _ _ _ _ _ refl, in_its_turn tt refl refl), le refl)) tt)
+      (two (right refl refl refl (refl, (refl, tt)) (refl, (refl, tt)) (refl, (refl, tt))
+      (none_armed 2)
+      (inr (3, le refl, (point_passes _ _ _ _ _ refl, in_its_turn tt refl refl), le refl)) tt) tt)
+      ) tt);
+})
+
+-- ---- a lane looks at a timer and then accepts, which makes its object full, beside another lane's expiry run, whose expiry is skipped
+
+-- its witness
+abbrev skipped_witness : Witness
+skipped_witness = witness_along skipped_script skipped_record
+    (CountersList 0 ∷ TimersList 0 ∷ CountersList 1 ∷ CountersList 1 ∷ TimersList 0 ∷ TimersList 0 ∷ [])
+    ((did 0 (Wrote 1 (writes.Advance 10) ∷ []) 0 1 ∷ did 1 (Entered 0 1 (set_start 5 1 false) ∷ Made 0 1 (set_entry_of 5 1 1 0) ∷ []) 1 3
+    ∷ ran 0 1 (fired 2 1 (Skipped 0 2 1 ∷ []) 3 false ∷ []) 4 6 ∷ [])
+    ∷ (did 1 [] 3 3 ∷ did 1 (Made 0 2 (object_entries.Accept 1 armings.None acceptances.NoSignal) ∷ []) 3 4 ∷ []) ∷ [])
+
+-- law: it fits
+pub skipped_fits : Fits skipped_script skipped_record
+unfolding after_entry changed passed
+skipped_fits = fits_by skipped_witness (record {
+  version = refl;
+  passed = refl;
+  writes = (record { counted = lt refl; timely = le refl }, record { mono = refl; real = refl; boot = refl; changes = refl }, tt);
+  all = (refl, tt);
+  bases = (refl, tt);
+  clock = refl;
+  objects = (refl, tt);
+  history = two tt (two (step refl (inr refl, inl (lt refl)) refl tt) (two tt (two tt
+      (two (step refl (refl, refl, refl, refl, le refl) refl (refl, refl)) (two (step refl refl refl tt) tt)))));
+  object_histories = two (two (refl, (refl, tt)) (three (lt refl, refl, le refl, le refl, (λ e. absurd (cc), λ e. absurd (cc))) refl
+      (three (lt refl, (λ e. refl, λ e. refl)) refl tt))) tt;
+  placed = (refl, (refl, tt));
+  calls = two (
+      two (right refl refl refl (refl, tt) (refl, tt) (refl, tt) refl (inl refl) tt)
+      (two (right refl refl refl (refl, tt) (refl, tt) (refl, tt) (record {
+        taken = record { known = refl; good_value = lt refl; good_interval = lt refl };
+        cancel = None;
+        arm = armings.Generation 1;
+        start = Entered 0 1 (set_start 5 1 false) ∷ [];
+        number = 1;
+        arms = (armed_by 1 5, refl, refl, stays refl refl refl);
+        done = refl;
+      }) (inr (1, le refl, tt, (2, le refl, (point_passes _ _ _ _ _ refl, in_its_turn (refl, (refl, refl, λ e. refl)) refl refl), le refl)))
+      (record { armed = refl; running = refl; moving = refl }))
+      (two (right refl refl refl (refl, tt) (refl, tt) (refl, tt)
+      (record { one_reading = refl; claimed = refl; done = refl; contexts = (refl, tt); bodies = ((inr (2, refl), refl), tt) }, lt refl)
+      (inr (4, le refl, point_passes _ _ _ _ _ refl, (5, le refl, (point_passes _ _ _ _ _ refl, (refl, le refl)), (5, le refl, tt, le refl))))
+      (done_by skipped_witness contexts.Hard 1 0 6 refl refl (refl, tt) (λ clock. (refl, tt)))) tt))
+      ) (two (
+      two (right refl refl refl (refl, tt) (refl, tt) (refl, tt) refl (inl refl) (record { stamp = refl; holds = refl }))
+      (two (right refl refl refl (refl, tt) (refl, tt) (refl, tt)
+      (none_armed 2)
+      (inr (3, le refl, (point_passes _ _ _ _ _ refl, in_its_turn tt refl refl), le refl)) tt) tt)
+      ) tt);
+})
+
+-- ---- a lane looks at a descriptor and then sets the clock, which cancels another lane's read
+
+-- its witness
+abbrev canceled_witness : Witness
+canceled_witness = witness_along canceled_script canceled_record (TimersList 0 ∷ CountersList 1 ∷ CountersList 0 ∷ CountersList 1 ∷ [])
+    ((did 0 (Entered 0 1 real_start ∷ Made 0 1 cancelable_entry ∷ []) 0 2 ∷ did 1 (Made 0 2 canceled_entry ∷ []) 3 4 ∷ [])
+    ∷ (did 0 [] 2 2 ∷ did 0 (Wrote 1 (writes.Set 100) ∷ []) 2 3 ∷ []) ∷ [])
+
+-- law: it fits
+pub canceled_fits : Fits canceled_script canceled_record
+unfolding after_entry changed passed
+canceled_fits = fits_by canceled_witness (record {
+  version = refl;
+  passed = refl;
+  writes = (record { counted = lt refl; timely = le refl }, record { mono = refl; real = refl; boot = refl; changes = refl }, tt);
+  all = (refl, tt);
+  bases = (refl, tt);
+  clock = refl;
+  objects = (refl, tt);
+  history = two (step refl (inr refl, inl (lt refl)) refl tt) (two tt (two tt (two tt tt)));
+  object_histories = two (two (refl, (refl, tt)) (three (lt refl, refl, le refl, le refl, (λ e. absurd (cc), λ e. absurd (cc))) refl
+      (three (lt refl, (λ e. refl, λ e. refl)) refl tt))) tt;
+  placed = (refl, (refl, tt));
+  calls = two (
+      two (right refl refl refl (refl, tt) (refl, tt) (refl, tt) (record {
+        taken = record { known = refl; good_value = lt refl; good_interval = lt refl };
+        cancel = None;
+        arm = armings.Generation 1;
+        start = Entered 0 1 real_start ∷ [];
+        number = 1;
+        arms = (record (armed_by 1 50) { placement = record { base = 0; clock = clocks.Realtime; soft = 50; expires = 50 } }, refl, refl, stays refl refl refl);
+        done = refl;
+      }) (inr (0, le refl, tt, (1, le refl, (point_passes _ _ _ _ _ refl, in_its_turn (refl, (refl, refl, λ e. refl)) refl refl), le refl)))
+      (record { armed = refl; running = refl; moving = refl }))
+      (two (right refl refl refl (refl, tt) (refl, tt) (refl, tt)
+      (le refl, none_armed 2)
+      (inr (3, le refl, (point_passes _ _ _ _ _ refl, in_its_turn tt refl refl), le refl)) tt) tt)
+      ) (two (
+      two (right refl refl refl (refl, tt) (refl, tt) (refl, tt) (refl, refl) (inl refl) (refl, refl))
+      (two (right refl refl refl (refl, tt) (refl, tt) (refl, tt) refl (inl refl) tt) tt)
+      ) tt);
+})
+
+-- ---- a lane looks how an object is set, and then at its timer, beside another lane's settime
+
+-- its witness
+abbrev armed_witness : Witness
+armed_witness = witness_along armed_script armed_record (TimersList 0 ∷ CountersList 1 ∷ [])
+    ((did 0 (Entered 0 1 (set_start 50 0 false) ∷ Made 0 1 (set_entry_of 50 0 1 0) ∷ []) 0 2 ∷ []) ∷ (did 0 [] 2 2 ∷ did 0 [] 2 2 ∷ []) ∷ [])
+
+-- law: it fits
+pub armed_fits : Fits armed_script armed_record
+unfolding after_entry changed passed
+armed_fits = fits_by armed_witness (record {
+  version = refl;
+  passed = refl;
+  writes = tt;
+  all = (refl, tt);
+  bases = (refl, tt);
+  clock = refl;
+  objects = (refl, tt);
+  history = two (step refl (inr refl, inl (lt refl)) refl tt) (two tt tt);
+  object_histories = two (two (refl, tt) (three (lt refl, refl, le refl, le refl, (λ e. absurd (cc), λ e. absurd (cc))) refl tt)) tt;
+  placed = (refl, (refl, tt));
+  calls = two (
+      two (right refl refl refl (refl, tt) (refl, tt) (refl, tt) (record {
+        taken = record { known = refl; good_value = lt refl; good_interval = lt refl };
+        cancel = None;
+        arm = armings.Generation 1;
+        start = Entered 0 1 (set_start 50 0 false) ∷ [];
+        number = 1;
+        arms = (armed_by 1 50, refl, refl, stays refl refl refl);
+        done = refl;
+      }) (inr (0, le refl, tt, (1, le refl, (point_passes _ _ _ _ _ refl, in_its_turn (refl, (refl, refl, λ e. refl)) refl refl), le refl)))
+      (record { armed = refl; running = refl; moving = refl })) tt
+      ) (two (
+      two (right refl refl refl (refl, tt) (refl, tt) (refl, tt) (refl, refl) (inl refl) (refl, refl))
+      (two (right refl refl refl (refl, tt) (refl, tt) (refl, tt) refl (inl refl) (record { stamp = refl; holds = refl })) tt)
+      ) tt);
+})
+
+-- ---- a lane looks at a timer, and then how its object is set, between the start of another lane's settime and its entry of the object
+
+-- its witness
+abbrev between_witness : Witness
+between_witness = witness_along between_script between_record (TimersList 0 ∷ CountersList 1 ∷ [])
+    ((did 0 (Entered 0 1 (set_start 50 0 false) ∷ Made 0 1 (set_entry_of 50 0 1 0) ∷ []) 0 2 ∷ []) ∷ (did 0 [] 1 1 ∷ did 0 [] 1 1 ∷ []) ∷ [])
+
+-- law: it fits
+pub between_fits : Fits between_script between_record
+unfolding after_entry changed passed
+between_fits = fits_by between_witness (record {
+  version = refl;
+  passed = refl;
+  writes = tt;
+  all = (refl, tt);
+  bases = (refl, tt);
+  clock = refl;
+  objects = (refl, tt);
+  history = two (step refl (inr refl, inl (lt refl)) refl tt) (two tt tt);
+  object_histories = two (two (refl, tt) (three (lt refl, refl, le refl, le refl, (λ e. absurd (cc), λ e. absurd (cc))) refl tt)) tt;
+  placed = (refl, (refl, tt));
+  calls = two (
+      two (right refl refl refl (refl, tt) (refl, tt) (refl, tt) (record {
+        taken = record { known = refl; good_value = lt refl; good_interval = lt refl };
+        cancel = None;
+        arm = armings.Generation 1;
+        start = Entered 0 1 (set_start 50 0 false) ∷ [];
+        number = 1;
+        arms = (armed_by 1 50, refl, refl, stays refl refl refl);
+        done = refl;
+      }) (inr (0, le refl, tt, (1, le refl, (point_passes _ _ _ _ _ refl, in_its_turn (refl, (refl, refl, λ e. refl)) refl refl), le refl)))
+      (record { armed = refl; running = refl; moving = refl })) tt
+      ) (two (
+      two (right refl refl refl (refl, tt) (refl, tt) (refl, tt) refl (inl refl) (record { stamp = refl; holds = refl }))
+      (two (right refl refl refl (refl, tt) (refl, tt) (refl, tt) (refl, refl) (inl refl) (refl, refl)) tt)
+      ) tt);
+})
