@@ -1,8 +1,7 @@
-use Rattle.std.proofs.Common.{◌≡◌, ◌+◌, List, replicate, rules, refl, ap, ◌∙◌, arith}
+use Rattle.std.proofs.Common.{◌≡◌, ◌+◌, replicate, rules, refl, ◌∙◌, arith}
 use Rattle.ktime.specs.declared.clock_id.ClockId.TheVariants as clocks
 use Rattle.seq_timer.specs.Steps.{limited}
 use Rattle.seq_timer.specs.Tables.{hard_on}
-use Rattle.seq_timer.specs.declared.context.Declared.{Declared}
 use Rattle.base_row.specs.Calls.{opening_with}
 use Rattle.timer_objects.specs.declared.object.Decl.{Decl}
 use Rattle.timer_objects.specs.declared.object.Kind.TheVariants as kinds
@@ -12,7 +11,7 @@ use Rattle.object_uses.proofs.tests.greatest.posix_timers.Goals as goal
 pub returns-clause-passes : goal.returns-clause-passes
 returns-clause-passes c =
     let same : c.deref.result.now ≡ replicate c.args.count (hard_on clocks.Monotonic) = search rules in
-    let about = c.in_ok-timers.ensures.about ∙ ap (λ (l : List Declared). opening_with 1 l (limited 281474976710640) (c.args.count + 1)) same in
+    let about = c.in_ok-timers.ensures.about ∙ (λ i. opening_with 1 (same i) (c.limited.ensures i) (c.args.count + 1)) in
     let decl : Decl = record { kind = kinds.Posix; clock = clocks.Monotonic; base = 0 } in
     let made : c.in-Ok.objects.decls ≡ replicate c.args.count decl = search rules in
     record {

@@ -16,7 +16,7 @@ returns c =
         unclaimed = search rules;
         objects = search rules;
         objects_last = search rules;
-        suits = subst (λ o. Suits c.in-Ok.objects o) (sym (c.in_ok-timers.ensures.about ∙ ap (λ l. opening_with 1 l (limited 1099511627776) (c.args.count + 1)) declared))
+        suits = subst (λ o. Suits c.in-Ok.objects o) (sym (c.in_ok-timers.ensures.about ∙ (λ i. opening_with 1 (declared i) (c.limited.ensures i) (c.args.count + 1))))
             (suits c.in-Ok.objects c.args.kind c.args.count (limited 1099511627776) decls);
         bases = search rules;
         many = search rules;
