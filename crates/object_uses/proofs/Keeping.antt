@@ -29,6 +29,7 @@ use Rattle.timer_objects.specs.declared.answers.BlockingRead.{BlockingRead}
 use Rattle.timer_objects.specs.declared.answers.BlockingRead.TheVariants as blocking
 use Rattle.timer_objects.specs.Calls.{Accepts, Caller, FindsFull, RearmingMade, ReadsFd, RearmsFor, SetsTimer, SettimeMade}
 use Rattle.timer_objects.specs.Known.{ObjectsOf}
+use Rattle.timer_objects.specs.Turns.{HasTurn}
 use Rattle.timer_objects.proofs.Lending.{keeps_added, keeps_read, keeps_same}
 use Rattle.object_uses.specs.Callers.{KeepsBoth}
 
@@ -50,6 +51,11 @@ keeps_armed o v w t None base reading arm log log' arms =
     subst (λ (k : KnownOfTimers). KeepsPass v k) (sym arms.1) (record { id = refl; claims = refl; seen = begins_refl v.seen; mine = begins_refl v.mine })
 keeps_armed o v w t (Some wanted) base reading arm log log' starts = keeps_made v w t starts.starts.at _ starts.starts.made starts.starts.claims
 
+-- what a call leaves that has a turn of an object, where what it did in that left it so
+keeps_turn : {id n : ℕ} {old begun worked new : KnownOfTimers} → HasTurn id n old begun worked new → KeepsPass begun worked → KeepsPass old new
+keeps_turn {id} {n} {old} {begun} {worked} {new} turn keeps =
+    keeps_trans old begun new (keeps_looks old begun turn.looks) (keeps_trans begun worked new keeps (keeps_looks worked new turn.ends))
+
 module _ (x : ObjectsOf) (o : Opening) (old new : Caller) (id flags value interval : ℕ) (reading : ClockReading) where
   keeps_full : (n : ℕ) → FindsFull x old new id n → KeepsBoth old new
   keeps_full n full = (keeps_looks old.timers new.timers full.looks, keeps_read old.objects new.objects full.reads.pass)
@@ -57,8 +63,8 @@ module _ (x : ObjectsOf) (o : Opening) (old new : Caller) (id flags value interv
   keeps_set : (a : SettimeAnswer) → SetsTimer x o old new id flags value interval reading a → KeepsBoth old new
   keeps_set a sets =
       let off = sets.disarms.cancelled in (
-        keeps_trans old.timers sets.disarmed new.timers (keeps_made old.timers sets.disarmed id off.at _ off.made off.claims)
-            (keeps_armed o sets.disarmed new.timers id _ _ reading sets.arm sets.cancel_log new.log sets.arms),
+        keeps_turn sets.turn (keeps_trans sets.begun sets.disarmed sets.worked (keeps_made sets.begun sets.disarmed id off.at _ off.made off.claims)
+            (keeps_armed o sets.disarmed sets.worked id _ _ reading sets.arm sets.cancel_log new.log sets.arms)),
         keeps_added old.objects new.objects id _ sets.enters.commits.adds,
       )
 
@@ -79,17 +85,16 @@ module _ (x : ObjectsOf) (o : Opening) (old new : Caller) (id flags value interv
   keeps_unless None a made = keeps_settime a made
   keeps_unless (Some r) a refused = keeps_none refused.1
 
-  keeps_rearmed : (t last : ℕ) (wanted : Option Wanted) (base : ℕ) (arm : Arm) (span : Span)
-      → RearmsFor o old.timers new.timers t last wanted base reading arm span old.log new.log → KeepsPass old.timers new.timers
-  keeps_rearmed t last None base arm span rearms = keeps_looks old.timers new.timers rearms.1.looks
-  keeps_rearmed t last (Some wanted) base arm span rearms =
+  keeps_rearmed : (v w : KnownOfTimers) (t last : ℕ) (wanted : Option Wanted) (base : ℕ) (arm : Arm) (span : Span)
+      → RearmsFor o v w t last wanted base reading arm span old.log new.log → KeepsPass v w
+  keeps_rearmed v w t last None base arm span rearms = keeps_looks v w rearms.1.looks
+  keeps_rearmed v w t last (Some wanted) base arm span rearms =
       let s = rearms.starts.starts in
-      keeps_trans old.timers rearms.begin new.timers (keeps_looks old.timers rearms.begin rearms.looks)
-      (keeps_made rearms.begin new.timers t s.at _ s.made s.claims)
+      keeps_trans v rearms.begin w (keeps_looks v rearms.begin rearms.looks) (keeps_made rearms.begin w t s.at _ s.made s.claims)
 
   keeps_call : (r : Rearming) (reply : ObjectReply) → RearmingMade x o old new id r reading reply → KeepsBoth old new
   keeps_call r reply made =
-      (keeps_rearmed id _ _ _ made.arm made.span made.rearms, keeps_added old.objects new.objects id _ made.enters.commits.adds)
+      (keeps_turn made.turn (keeps_rearmed made.begun made.worked id _ _ _ made.arm made.span made.rearms), keeps_added old.objects new.objects id _ made.enters.commits.adds)
 
   pub keeps_accept : (a : AcceptAnswer) → Accepts x o old new id reading a → KeepsBoth old new
   keeps_accept (acceptances.Spent n) full = keeps_full n full

@@ -1,5 +1,5 @@
 //! An expiry run whose functions trigger objects, with a pass of theirs that is lent to it.
-ghost use Rattle.std.specs.Prelude.{◌≡◌, ◌≤◌, ◌+◌, ◌*◌, length, OnErr};
+ghost use Rattle.std.specs.Prelude.{◌≡◌, ◌≤◌, ◌<◌, ◌+◌, ◌*◌, length, OnErr};
 ghost use Rattle.hr_timers.specs.Known.{IsPassOf};
 ghost use Rattle.timer_objects.specs.Known.{IsObjectsPass};
 ghost use Rattle.object_uses.specs.Callers.{KeepsPasses, MayRun};
@@ -38,6 +38,7 @@ pub fn expire_objects<R: Wait>(
     requires timers { IsPassOf timers.now pass.old }
     requires objects { IsObjectsPass objects.now objects_pass.old }
     requires many { length timers.now.about.timers ≤ length objects.now.decls }
+    requires counters { length objects.now.decls < timers.now.about.counters }
     requires run { MayRun timers.now objects.now callbacks.now base }
     requires room { 2 * budget ≤ log.old.spare }
     ensures keeps { KeepsPasses timers.now objects.now pass.old pass.new objects_pass.old objects_pass.new }

@@ -6,6 +6,7 @@ use expire_pass::Log;
 use hr_timers::{Pass, Timers};
 use ktime::{ClockId, Reading};
 use object_uses::{expire_objects, read_count, set_timer};
+use seq_timer::{Declared, Terms};
 use std::alloc::{AllocError, Global};
 use std::marker::Model;
 use std::sync::Wait;
@@ -42,7 +43,9 @@ impl Model for Ticker {
 impl Ticker {
     /// A descriptor that isn't armed.
     pub fn make(alloc: Global) -> Result<Ticker, AllocError> {
-        let (timers, pass) = Timers::make(alloc, 1, &[ClockId::Monotonic], 1000)?;
+        let timer = Declared::hard(ClockId::Monotonic);
+        // One counter more than objects: the first is the clock's.
+        let (timers, pass) = Timers::make_counting(alloc, 1, &[timer], Terms::limited(1000), 2)?;
         let decl = Decl {
             kind: Kind::Fd,
             clock: ClockId::Monotonic,

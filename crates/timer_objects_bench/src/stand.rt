@@ -8,6 +8,7 @@ use hr_timers::{Pass, Timers};
 use ktime::{ClockId, Reading};
 use object_uses::{accept_signal, expire_objects, read_count, set_timer};
 use posix_timer::AcceptAnswer;
+use seq_timer::{Declared, Terms};
 use std::alloc::{AllocError, Global};
 use std::sync::Wait;
 use timer_fd::{ReadAnswer, SettimeAnswer};
@@ -40,14 +41,14 @@ impl Stand {
     {
         let clock = ClockId::Monotonic;
         let callbacks = vec![in alloc; Callback::Once; count as usize]?;
-        let clocks = vec![in alloc; clock; count as usize]?;
+        let declared = vec![in alloc; Declared::hard(clock); count as usize]?;
         let decl = Decl {
             kind,
             clock,
             base: 0,
         };
         let decls = vec![in alloc; decl; count as usize]?;
-        let (timers, pass) = Timers::make(alloc, 1, &clocks, LIMIT)?;
+        let (timers, pass) = Timers::make_counting(alloc, 1, &declared, Terms::limited(LIMIT), count + 1)?;
         let Ok((objects, objects_pass)) = Objects::make(alloc, &decls, LIMIT) else {
             timers.close(pass);
             return Err(AllocError);

@@ -13,6 +13,7 @@ use counted_row::RowPass;
 use expire_pass::Log;
 use hr_timers::{Pass, Timers};
 use ktime::{ClockId, Reading};
+use seq_timer::{Declared, Terms};
 use std::alloc::{AllocError, Global};
 use std::sync::Wait;
 use std::sync::atomic::{AtomicBool, Ordering};
@@ -40,7 +41,8 @@ pub(super) fn awaited(
         clock,
         base: 0,
     };
-    let (timers, pass) = Timers::make(alloc, 1, &[clock], 1000)?;
+    let declared = [Declared::hard(clock)];
+    let (timers, pass) = Timers::make_counting(alloc, 1, &declared, Terms::limited(1000), 2)?;
     let Ok((objects, objects_pass, readers)) = Objects::make_blocking(alloc, &[decl], 1000) else {
         timers.close(pass);
         return Err(AllocError);

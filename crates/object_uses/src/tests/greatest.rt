@@ -12,6 +12,7 @@ use counted_row::RowPass;
 use expire_pass::Log;
 use hr_timers::{Pass, Timers};
 use ktime::{ClockId, Reading};
+use seq_timer::{Declared, Terms};
 use std::alloc::{AllocError, Global};
 use std::test::Fail;
 use timer_objects::{Decl, Kind, ObjectCell, ObjectLog, Objects};
@@ -40,9 +41,10 @@ fn posix_timers(
         clock,
         base: 0,
     };
-    let clocks = vec![in alloc; clock; count]?;
+    let declared = vec![in alloc; Declared::hard(clock); count]?;
     let decls = vec![in alloc; decl; count]?;
-    let (timers, pass) = Timers::make(alloc, 1, &clocks, LIMIT)?;
+    let counters = count as u32 + 1;
+    let (timers, pass) = Timers::make_counting(alloc, 1, &declared, Terms::limited(LIMIT), counters)?;
     let Ok((objects, objects_pass)) = Objects::make(alloc, &decls, LIMIT) else {
         timers.close(pass);
         return Err(AllocError);

@@ -13,7 +13,7 @@ use counted_row::RowPass;
 use expire_pass::{Log, Noted, Receipt};
 use hr_timers::{Pass, Timers};
 use ktime::{ClockId, Mode, Reading};
-use seq_timer::{Event, Moved, Observation, Reply};
+use seq_timer::{Declared, Event, Moved, Observation, Reply, Terms};
 use std::alloc::{AllocError, Global};
 use std::sync::Wait;
 use std::test::Fail;
@@ -94,7 +94,8 @@ fn fired<R: Wait>(
     log.reserve(4)?;
     calls.reserve(1)?;
     let clock = ClockId::Monotonic;
-    let (timers, mut pass) = Timers::make(alloc, 1, &[clock], 100)?;
+    let declared = [Declared::hard(clock)];
+    let (timers, mut pass) = Timers::make_counting(alloc, 1, &declared, Terms::limited(100), 2)?;
     let Ok((objects, mut lent)) = Objects::make(alloc, &[decl_of(kind, clock)], limit) else {
         timers.close(pass);
         return Err(AllocError);

@@ -15,7 +15,7 @@ use counted_row::RowPass;
 use expire_pass::{ExpireAnswer, Log};
 use hr_timers::{OfflineAnswer, Pass, Timers};
 use ktime::{ClockId, Reading};
-use seq_timer::Declared;
+use seq_timer::{Declared, Terms};
 use std::alloc::{AllocError, Global};
 use std::sync::Wait;
 use std::test::Fail;
@@ -40,7 +40,12 @@ fn evacuable(alloc: Global) -> Result<(Timers, Pass, Objects, RowPass<ObjectCell
         clock,
         base: 1,
     };
-    let (timers, pass) = Timers::make_evacuable(alloc, 2, &[Declared::hard(clock)], 100, 1024)?;
+    let declared = [Declared::hard(clock)];
+    let terms = Terms {
+        limit: 100,
+        reach: 1024,
+    };
+    let (timers, pass) = Timers::make_counting(alloc, 2, &declared, terms, 2)?;
     let Ok((objects, objects_pass)) = Objects::make(alloc, &[decl], 100) else {
         timers.close(pass);
         return Err(AllocError);

@@ -7,6 +7,7 @@ use expire_pass::{ExpireAnswer, Log};
 use hr_timers::{Pass, Timers};
 use ktime::{ClockId, Reading};
 use posix_timer::AcceptAnswer;
+use seq_timer::{Declared, Terms};
 use std::alloc::{AllocError, Global};
 use std::marker::Model;
 use std::sync::Wait;
@@ -93,7 +94,8 @@ impl Stand {
         requires limit { (0 < limit) × (limit ≤ 1000) }
     {
         let decls = [decl_of(Kind::Posix, clock), decl_of(Kind::Fd, clock)];
-        let (timers, pass) = Timers::make(alloc, 1, &[clock, clock], limit)?;
+        let declared = [Declared::hard(clock), Declared::hard(clock)];
+        let (timers, pass) = Timers::make_counting(alloc, 1, &declared, Terms::limited(limit), 3)?;
         let Ok((objects, objects_pass)) = Objects::make(alloc, &decls, limit) else {
             timers.close(pass);
             return Err(AllocError);

@@ -36,12 +36,18 @@ struct Gated<'a, 'b> {
 }
 
 impl Handler for Gated<'_, '_> {
-    ghost use Rattle.std.specs.Prelude.{◌≡◌, length};
+    ghost use Rattle.std.specs.Prelude.{◌≡◌, ◌+◌, length};
     ghost use Rattle.timer_objects.specs.Callbacks.{bases_of};
     ghost use Rattle.timer_objects.specs.Firings.{ready_of};
     ghost use Rattle.object_uses.specs.Waiting.{FiresLater};
 
-    ghost meaning = { record { did = λ o h h' v w c reading restart. (h'.firing.ghost_name ≡ h.firing.ghost_name) × FiresLater o h.firing.now h'.firing.now v w c reading restart; ready = λ h. ready_of h.firing.now; timers = λ h. length h.firing.now.objects.now.decls; bases = λ h. bases_of h.firing.now.callbacks.now } };
+    ghost meaning = { record {
+      did = λ o h h' v w c reading restart. (h'.firing.ghost_name ≡ h.firing.ghost_name) × FiresLater o h.firing.now h'.firing.now v w c reading restart;
+      ready = λ h. ready_of h.firing.now;
+      timers = λ h. length h.firing.now.objects.now.decls;
+      bases = λ h. bases_of h.firing.now.callbacks.now;
+      counters = λ h. length h.firing.now.objects.now.decls + 1;
+    } };
 
     fn fire<R: Wait>(
         &mut self,

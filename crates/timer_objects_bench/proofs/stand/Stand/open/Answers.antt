@@ -1,7 +1,6 @@
-use Rattle.std.proofs.Common.{map, rules, refl, sym, ap, subst, ◌∙◌}
+use Rattle.std.proofs.Common.{replicate, ◌+◌, rules, refl, sym, ap, subst, ◌∙◌}
 use Rattle.seq_timer.specs.Steps.{limited}
-use Rattle.seq_timer.specs.Tables.{hard_on}
-use Rattle.base_row.specs.Calls.{opening_of}
+use Rattle.base_row.specs.Calls.{opening_with}
 use Rattle.timer_objects.specs.Callbacks.{bases_of}
 use Rattle.timer_objects.specs.Known.{Suits}
 use Rattle.timer_objects_bench.proofs.Opened.{still, suits}
@@ -9,7 +8,7 @@ use Rattle.timer_objects_bench.proofs.stand.Stand.open.Goals as goal
 
 pub returns : goal.returns
 returns c =
-    let clocks = c.deref.ensures.value ∙ c.in_ok-clocks.ensures.items_if_clones_equal (λ y e. e) in
+    let declared = c.deref.ensures.value ∙ (c.in_ok-declared.ensures.items_if_clones_equal (λ y e. e) ∙ ap (λ d. replicate c.args.count d) c.hard.ensures) in
     let decls = c.in-Ok.ensures.made.0 ∙ (c.deref-2.ensures.value ∙ c.in_ok-decls.ensures.items_if_clones_equal (λ y e. e)) in (
       record {
         timers = search rules;
@@ -17,7 +16,7 @@ returns c =
         unclaimed = search rules;
         objects = search rules;
         objects_last = search rules;
-        suits = subst (λ o. Suits c.in-Ok.objects o) (sym (c.in_ok-timers.ensures.about ∙ ap (λ l. opening_of 1 (map hard_on l) (limited 1099511627776)) clocks))
+        suits = subst (λ o. Suits c.in-Ok.objects o) (sym (c.in_ok-timers.ensures.about ∙ (λ i. opening_with 1 (declared i) (c.limited.ensures i) (c.args.count + 1))))
             (suits c.in-Ok.objects c.args.kind c.args.count (limited 1099511627776) decls);
         bases = search rules;
         many = search rules;
