@@ -1,4 +1,4 @@
--- The first passes, looking at one object after another.
+-- The first passes, looking at one object after another, and the run that ends so.
 use Rattle.std.proofs.Common.{◌≡◌, ◌<◌, ◌≤◌, ℕ, ◌+◌, [], length, arith, refl, sym, ap, ◌∙◌, subst, ⊎_elim}
 use Rattle.std.proofs.lemmas.Bool.{cases_lt}
 use Rattle.clock_cell.specs.Views.{IsPassOfClock, KnowsClock}
@@ -12,8 +12,12 @@ use Rattle.timer_objects.specs.Rearming.{FindsObject}
 use Rattle.timer_objects.specs.Turns.{entries_counter, entries_told}
 use Rattle.timer_objects.specs.declared.object.Object.{Object}
 use Rattle.lane_world.proofs.SeenMore.{begins_same, count_begins}
-use Rattle.lane_world.specs.Rounds.{IsMain}
-use Rattle.lane_world.specs.Runs.{LooksAtAll}
+use Rattle.lane_world.specs.Rounds.{IsMain, LeftOf, MakesRounds, none_left}
+use Rattle.lane_world.specs.Runs.{LooksAtAll, MakesRun, Settles, ShowsLeft}
+use Rattle.record_text.specs.declared.record.RunRecord.{RunRecord}
+use Rattle.script_text.specs.declared.script.Script.{Script}
+use Rattle.std.specs.Prelude.{Err, IfOk, Ok, Result}
+use Rattle.std.specs.declared.alloc.AllocError.{AllocError}
 use Rattle.lane_world.specs.Worlds.{WorldOf}
 use Rattle.lane_world.specs.declared.WorldPass.{WorldPass}
 use Rattle.lane_run.proofs.Mains.{main_ran}
@@ -77,3 +81,19 @@ looked_more {x = x} {p = p} {q = q} {r = r} {id = id} {n = n} before timers obje
       )))
       (cases_lt i id);
 }
+
+-- law: rounds in turn, after which the clock was settled and each object looked at, make a run, where the record of what they left wanted no memory
+pub run_made : {x : WorldOf} (s : Script) (p : WorldPass) {before settled q : WorldPass} (left : LeftOf) (made : Result RunRecord AllocError)
+    → MakesRounds x s.rounds p (none_left s.lanes) before left → IsMain x settled [] → Settles before settled → LooksAtAll x settled q
+    → IfOk made (ShowsLeft s left) → IfOk made (λ r. MakesRun x s p r q)
+run_made s p {before = before} {settled = settled} left (Ok r) rounds of settles looks shows = record {
+  left = left;
+  before = before;
+  rounds = rounds;
+  settled = settled;
+  of = of;
+  settles = settles;
+  looks = looks;
+  shows = shows;
+}
+run_made s p left (Err fault) rounds of settles looks shows = tt

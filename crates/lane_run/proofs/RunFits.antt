@@ -128,8 +128,19 @@ of_run s x p r q range world first main run =
       range = range;
       world = world;
       whole = whole;
-      passes = record main.pass { timers = run.of.pass.timers };
-      last = record (main_last main) { timers = (main_last run.of).timers; unclaimed = (main_last run.of).unclaimed };
+      passes = record {
+        timers = run.of.pass.timers;
+        objects = main.pass.objects;
+        clock = main.pass.clock;
+        known = main.pass.known;
+        heard = main.pass.heard;
+      };
+      last = record {
+        timers = (main_last run.of).timers;
+        objects = (main_last main).objects;
+        clock = (main_last main).clock;
+        unclaimed = (main_last run.of).unclaimed;
+      };
     } in
     let of : AreLastOf s x w = record {
       of = still;

@@ -2,12 +2,13 @@ use Rattle.std.specs.Prelude.{OnOk, Result}
 use Rattle.std.specs.declared.alloc.AllocError.{AllocError}
 use Rattle.std.proofs.Common.{◌<◌, List, [], ◌∷◌, ◌++◌, length, get_or, take, arith, sym, ap, ◌∙◌, subst}
 use Rattle.std.specs.List.{AllByRecursion}
-use Rattle.std.proofs.lemmas.List.{take_more}
+use Rattle.std.proofs.lemmas.List.{take_all, take_more}
 use Rattle.script_text.specs.declared.script.LaneCall.{LaneCall}
 use Rattle.script_text.specs.declared.script.Round.{Round}
 use Rattle.lane_world.specs.Rounds.{MakesRound, MakesRounds, none_left}
 use Rattle.lane_world.specs.Worlds.{CanCall}
 use Rattle.lane_run.proofs.Greatest.{lanes_few}
+use Rattle.lane_run.proofs.Looking.{run_made}
 use Rattle.lane_run.proofs.Ranges.{round_can}
 use Rattle.script_text.proofs.VersionOne.{version_one_is_hard}
 use Rattle.lane_run.proofs.Taking.{rounds_push}
@@ -47,3 +48,12 @@ loop-round-preserved g c =
           (subst (λ (made : Result Unit AllocError). OnOk made (MakesRound x c.round-item.result old.main old.left q after.new.left)) c.in_default.is
           after.ensures.round)));
     }
+
+pub returns-clause-run : goal.returns-clause-run
+returns-clause-run g c =
+    let old = c.loop-round in
+    let items = c.as_slice-round-items in
+    let all = take_all old.round-index items.result.now (omega (arith, c.loop-round-test.false)) ∙ items.ensures in
+    let none = none_left c.args.script.now.lanes in
+    let rounds = subst (λ (rs : List Round). MakesRounds c.args.world.now rs c.args.main none old.main old.left) all old.invariant.rounds in
+    run_made c.args.script.now c.args.main old.left c.record_left.result rounds c.settle.ensures.main c.settle.ensures.settles c.look_at_all.ensures.looks c.record_left.ensures
