@@ -12,7 +12,7 @@ use Rattle.timer_objects.specs.declared.answers.Gettime.{Gettime}
 use Rattle.timer_objects.specs.declared.answers.Gettime.TheVariants as gettimes
 use Rattle.timer_objects.specs.declared.log.ObjectReceipt.{ObjectReceipt}
 use Rattle.base_row.specs.declared.log.Receipt.{Receipt}
-use Rattle.timer_objects.specs.Cells.{cell_meaning}
+use Rattle.timer_objects.specs.Meaning.{object_meaning}
 use Rattle.timer_objects.specs.declared.object.Kind.TheVariants as over
 use Rattle.timer_objects.specs.declared.object.Object.TheVariants as objects
 use Rattle.timer_objects.specs.declared.object.Object.{Object}
@@ -59,7 +59,7 @@ module _ {s : Script} {x : WorldOf} {l : LaneOf} (m : LaneOf) {call : Call} (nex
         clock = clock;
         notes = notes_alone l m looks.log looks.object_log notes;
       } in
-      let at = subst (λ made. StateAfter cell_meaning made i (seen_of m.pass.objects i) looks.reads.state) next.objects looks.reads.at in
+      let at = subst (λ made. StateAfter object_meaning made i (seen_of m.pass.objects i) looks.reads.state) next.objects looks.reads.at in
       keeps_sight next a only does (λ e follows joined has. seen e follows (entries_had i stamp m.pass.timers.known joined follows.timers looks.told)
       (looks.state ∙ object_seen s x next.world i (seen_of m.pass.objects i) looks.reads.state at e (follows.objects i)
       ∙ ap (λ n. object_after s e.run i n (kind_of s i)) (sym looks.stamp)))

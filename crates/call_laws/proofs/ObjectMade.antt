@@ -45,7 +45,6 @@ use Rattle.call_laws.proofs.Armed.{IsArmedSo, IsLike, start_true, TimerPart}
 use Rattle.call_laws.proofs.CallKept.{clock_left, reading_goes_on}
 use Rattle.call_laws.proofs.PartKept.{keeps_part}
 use Rattle.call_laws.proofs.Parts.{IsNotedAs}
-use Rattle.timer_objects.specs.declared.cell.SpannedCall.{SpannedCall}
 use Rattle.timer_setting.specs.declared.arming.Arm.TheVariants as arms
 use Rattle.std.proofs.lemmas.List.{append-nil}
 use Rattle.timer_objects.specs.Steps.{object_answer}
@@ -54,8 +53,8 @@ use Rattle.std.proofs.Common.{length-append}
 use Rattle.std.specs.List.{AllByRecursion}
 use Rattle.counted_row.specs.Views.{StateAfter}
 use Rattle.counted_row.proofs.Histories.{after_push}
-use Rattle.timer_objects.specs.Cells.{cell_meaning, opened_cells}
-use Rattle.timer_objects.specs.declared.cell.ObjectCell.{ObjectCell}
+use Rattle.timer_objects.specs.Meaning.{object_meaning, opened_objects}
+use Rattle.timer_objects.specs.declared.object.Object.{Object}
 use Rattle.run_history.specs.Objects.{object_armed_after}
 use Rattle.script_text.specs.Declarations.{kind_of}
 use Rattle.script_text.specs.declared.script.Kind.TheVariants as kinds
@@ -70,7 +69,7 @@ armed_after s r i n (kinds.Raw context callback) = refl
 armed_after s r i n k = refl
 
 module _ {s : Script} {x : WorldOf} {l : LaneOf} (m : LaneOf) {call : Call} (next : IsNextCall s x l call) {timer : ℕ} {log : List Receipt}
-    {object_log : List ObjectReceipt} {made : SpannedCall} {reply : ObjectReply}
+    {object_log : List ObjectReceipt} {made : ObjectCall} {reply : ObjectReply}
     (enters : EntersCall x.objects (lane_caller l.pass [] []) (lane_caller m.pass log object_log) timer made reply)
     {begun w : KnownOfTimers} (turn : HasTurn timer (length enters.commits.adds.before) l.pass.timers.known begun w m.pass.timers.known) {mode : Mode} {ns base : ℕ}
     {reading : ClockReading} {arm : Arm} {cancel : Option (ℕ × ℕ)} {begin : KnownOfTimers}
@@ -81,10 +80,10 @@ module _ {s : Script} {x : WorldOf} {l : LaneOf} (m : LaneOf) {call : Call} (nex
 
   -- the entry, and the object's phase behind it
   abbrev step : ObjectMove
-  step = record { call = made; reply = object_answer enters.commits.state.object made.call }
+  step = record { call = made; reply = object_answer enters.commits.state made }
 
   abbrev phase : Phase
-  phase = phase_of (object_step enters.commits.state.object made.call)
+  phase = phase_of (object_step enters.commits.state made)
 
   -- the receipts of the call: those of its part of the timer, and that of the object's entry
   abbrev pub receipts : List PlacedEntry
@@ -130,17 +129,17 @@ module _ {s : Script} {x : WorldOf} {l : LaneOf} (m : LaneOf) {call : Call} (nex
     -- the object after the entry is the record's
     phase_is : object_armed_after s e.run timer number (kind_of s timer) ≡ armed_in_phase phase
     phase_is =
-        let made_cells = opened_cells x.objects.decls x.objects.limit in
+        let opened = opened_objects x.objects.decls x.objects.limit in
         let before = enters.commits.adds.before in
-        let cell : ObjectCell = record { object = object_step enters.commits.state.object made.call; last = made.to } in
-        let at = subst (λ cells. StateAfter cell_meaning cells timer before enters.commits.state) next.objects enters.commits.at in
-        let after = subst (λ ys. StateAfter cell_meaning made_cells timer ys cell) (sym enters.commits.adds.last)
-        (after_push cell_meaning made_cells timer before step enters.commits.state at enters.may refl) in
+        let now : Object = object_step enters.commits.state made in
+        let at = subst (λ cells. StateAfter object_meaning cells timer before enters.commits.state) next.objects enters.commits.at in
+        let after = subst (λ ys. StateAfter object_meaning opened timer ys now) (sym enters.commits.adds.last)
+        (after_push object_meaning opened timer before step enters.commits.state at enters.may refl) in
         let count : length (seen_of m.pass.objects timer) ≡ number =
         omega (arith, ap length enters.commits.adds.last, length-append before (step ∷ [])) in
         armed_after s e.run timer number (kind_of s timer)
         ∙ ap (λ n. armed_in_phase (phase_of (object_after s e.run timer n (kind_of s timer)))) (sym count)
-        ∙ ap (λ o. armed_in_phase (phase_of o)) (sym (object_seen s x next.world timer (seen_of m.pass.objects timer) cell after e (follows.objects timer)))
+        ∙ ap (λ o. armed_in_phase (phase_of o)) (sym (object_seen s x next.world timer (seen_of m.pass.objects timer) now after e (follows.objects timer)))
 
     -- law: the object's entry tells the truth of it, where the object's phase bears it
     pub start_is : (on_clock : Bool) → IsLike on_clock arm (armed_in_phase phase) (timer_then x.timers.about w.seen timer)
@@ -160,7 +159,7 @@ module _ {s : Script} {x : WorldOf} {l : LaneOf} (m : LaneOf) {call : Call} (nex
   -- ---- the call
 
   module _ (reads : ReadsClock l.pass m.pass reading) (notes : m.notes ≡ with_done l.notes l.label log object_log) {entry : ObjectEntry}
-      (noted : IsNotedAs (HasRead reading) made.call reply entry) where
+      (noted : IsNotedAs (HasRead reading) made reply entry) where
     -- law: a lane keeps the call, where it fits
     pub keeps_made : (a : Answer) → ((e : Ending) → Follows m.pass e → IsJoined s e → IsKept (witness_of s e) (moves_spans e) l.label
         (plain reading.stamp (length begin.seen) (length m.pass.timers.known.seen) (settime_actions timer cancel k.start number entry)) receipts call a
@@ -174,7 +173,7 @@ module _ {s : Script} {x : WorldOf} {l : LaneOf} (m : LaneOf) {call : Call} (nex
         let this = receipt_of step.reply ∷ [] in
         let log_is : object_log ≡ this = enters.object_log ∙ ap (λ r. receipt_of r ∷ []) enters.reply in
         let entered = part_made {label = l.label} {q = q.objects} {step = step} enters.commits.adds enters.commits.opening
-        (subst (λ r. IsNotedAs (HasRead reading) made.call r entry) enters.reply noted) (enters_entry turn s (HasRead reading)) in
+        (subst (λ r. IsNotedAs (HasRead reading) made r entry) enters.reply noted) (enters_entry turn s (HasRead reading)) in
         let whole = part_then (part_none {v = p.timers.known} {p = p.objects} {w = begin} k.seen k.mine) (part_then k.part.1 entered) in
         keeps_part next m a (plain reading.stamp (length begin.seen) (length q.timers.known.seen) (settime_actions timer cancel k.start number entry)) whole
         (reading_goes_on p q reading reads) (clock_left reads.same)

@@ -74,7 +74,7 @@ pub record IsMadeIn (IsSo : List ClockLine → Type 0) (p q : ObjectsPass) (i nu
   pub behind : length (seen_of p i) ≤ before
   pub step : ObjectMove
   pub there : slice_get (seen_of q i) before ≡ Some step
-  pub shows : (clock : List ClockLine) → IsSo clock → ShowsObjectCall clock step.call.call step.reply entry
+  pub shows : (clock : List ClockLine) → IsSo clock → ShowsObjectCall clock step.call step.reply entry
 
 -- a call on an object and its reply are noted as this entry, which a record shows whose clock is so
 pub record IsNotedAs (IsSo : List ClockLine → Type 0) (call : ObjectCall) (reply : ObjectReply) (entry : ObjectEntry) : Type 0 where
@@ -214,7 +214,7 @@ module _ {s : Script} {IsSo : List ClockLine → Type 0} {label : Label} where
 
   -- law: an entry of an object, with the rise of its counter
   pub part_made : {v w : KnownOfTimers} {p q : ObjectsPass} {id : ℕ} {step : ObjectMove} {entry : ObjectEntry}
-      (adds : Adds p.knows.pass q.knows.pass id (step ∷ [])) → q.knows.opening ≡ p.knows.opening → IsNotedAs IsSo step.call.call step.reply entry
+      (adds : Adds p.knows.pass q.knows.pass id (step ∷ [])) → q.knows.opening ≡ p.knows.opening → IsNotedAs IsSo step.call step.reply entry
       → let number = length adds.before + 1 in (one : EntersOne s IsSo v w (number, OfRise (suc id)))
       → IsPart s IsSo label v p w q (Made id number entry ∷ []) (one.0 ∷ [])
       (notes_of label [] (record { object = id; number = number; call = step.call; reply = step.reply } ∷ []))

@@ -16,8 +16,8 @@ use Rattle.timer_setting.specs.declared.arming.Arm.{Arm}
 use Rattle.timer_setting.specs.declared.arming.Wanted.{Wanted}
 use Rattle.timer_setting.specs.declared.phase.Phase.TheVariants as phases
 use Rattle.timer_setting.specs.declared.phase.Phase.{Phase}
-use Rattle.timer_objects.specs.Calls.{BearsRestart, RearmsFor, wanted_by}
-use Rattle.timer_objects.specs.declared.cell.Span.{Span}
+use Rattle.timer_objects.specs.Arming.{ArmsFor}
+use Rattle.timer_objects.specs.Calls.{BearsRestart, wanted_by}
 use Rattle.timer_objects.specs.declared.object.Object.TheVariants as objects
 use Rattle.timer_objects.specs.declared.object.Object.{Object}
 use Rattle.timer_objects.specs.declared.wanting.Rearming.TheVariants as rearmings
@@ -54,35 +54,27 @@ wanted_timely rearmings.Reading (objects.Fd t) reading wanted is =
 wanted_timely rearmings.Getting (objects.Fd t) reading wanted is = next_timely t.phase t.interval reading wanted is
 wanted_timely r object reading wanted is = absurd (cc)
 
--- what such a call did to its timer, from where it had found it on, behind the moment at which it took the object
+-- what such a call did to its timer while it had the object
 pub record RearmPart (s : Script) (x : WorldOf) (l : LaneOf) (t : ℕ) (v w : KnownOfTimers) (base : ℕ) (reading : ClockReading) (arm : Arm)
     (log : List Receipt) : Type 0 where
-  pub begin : KnownOfTimers
-  pub behind : Begins v.seen begin.seen
   pub ns : ℕ
   pub timely : ns ≤ last_time
-  pub does : TimerPart s x l t begin w modes.Keep ns base reading arm None log
+  pub does : TimerPart s x l t v w modes.Keep ns base reading arm None log
 
 -- law: a start that is wanted where the timer has expired, or none, is a part of the call
 pub rearm_part : {s : Script} {x : WorldOf} {l : LaneOf} {call : Call} (next : IsNextCall s x l call) (t : ℕ) (reading : ClockReading) {v w : KnownOfTimers}
-    {base : ℕ} (span : Span) {log : List Receipt} (last : ℕ) (wanted : Option Wanted) (arm : Arm) → ((its : Wanted) → wanted ≡ Some its → IsTimely its)
-    → LooksOn l.pass.timers.known v → RearmsFor x.timers.about v w t last wanted base reading arm span [] log → RearmPart s x l t v w base reading arm log
-rearm_part {s = s} {x = x} {l = l} next t reading {v = v} {w = w} {base = base} span {log = log} last None arm timely found r =
-    let looks = r.1.looks in
-    let does = start_none next t reading {cancel = None} [] (begins_trans found.seen looks.seen) (looks.mine ∙ found.mine) ([], part_none (begins_same refl) refl)
-    modes.Keep 0 refl r.2 in
-    subst (λ a. RearmPart s x l t v w base reading a log) (sym r.0)
-    (record { begin = w; behind = looks.seen; ns = 0; timely = omega arith; does = does })
-rearm_part {s = s} {x = x} {l = l} next t reading {v = v} {w = w} {base = base} span {log = log} last (Some wanted) arm timely found r =
+    {base : ℕ} {log : List Receipt} (wanted : Option Wanted) (arm : Arm) → ((its : Wanted) → wanted ≡ Some its → IsTimely its)
+    → LooksOn l.pass.timers.known v → ArmsFor x.timers.about v w t wanted base reading arm [] log → RearmPart s x l t v w base reading arm log
+rearm_part {s = s} {x = x} {l = l} next t reading {v = v} {w = w} {base = base} {log = log} None arm timely found r =
+    let does = start_none next t reading {begin = v} {cancel = None} [] found.seen found.mine ([], part_none (begins_same refl) refl) modes.Keep 0 r.1 r.2 in
+    subst (λ a. RearmPart s x l t v w base reading a log) (sym r.0) (record { ns = 0; timely = omega arith; does = does })
+rearm_part {s = s} {x = x} {l = l} next t reading {v = v} {w = w} {base = base} {log = log} (Some wanted) arm timely found r =
     let its = timely wanted refl in
     record {
-      begin = r.begin;
-      behind = r.looks.seen;
       ns = wanted.ns;
       timely = its.1;
-      does = subst (λ k. TimerPart s x l t r.begin w k wanted.ns base reading arm None log) its.0
-          (start_part next t reading {cancel = None} [] (begins_trans found.seen r.looks.seen) (r.looks.mine ∙ found.mine)
-          ([], part_none (begins_same refl) refl) r.starts);
+      does = subst (λ k. TimerPart s x l t v w k wanted.ns base reading arm None log) its.0
+          (start_part next t reading {cancel = None} [] found.seen found.mine ([], part_none (begins_same refl) refl) r);
     }
 
 -- law: the object's phase after the call has its timer's start

@@ -59,7 +59,7 @@ use Rattle.run_history.specs.Truths.{WasOffLine}
 use Rattle.run_history.proofs.Kept.{IsKept}
 use Rattle.run_history.proofs.ObjectsMade.{IsRearmed, rearming_actions}
 use Rattle.run_history.proofs.OthersMade.{plain}
-use Rattle.pass_names.proofs.Passes.{begins_length}
+use Rattle.pass_names.proofs.Passes.{begins_length, begins_refl}
 use Rattle.timer_objects.specs.Calls.{Caller}
 use Rattle.call_laws.proofs.CallKept.{clock_left}
 use Rattle.call_laws.proofs.Parts.{noted_at}
@@ -88,31 +88,30 @@ module _ {s : Script} {x : WorldOf} {l m : LaneOf} {call : Call} (next : IsNextC
     (entry : Armed → ObjectEntry) where
   part : RearmPart s x l timer made.begun made.worked (decl_at x.objects timer).base c.reading made.arm c.log
   part =
-      let object = made.enters.commits.state.object in
-      rearm_part next timer c.reading made.span made.enters.commits.state.last (wanted_by r object c.reading) made.arm (wanted_timely r object c.reading)
-      made.turn.looks made.rearms
+      let object = made.enters.commits.state in
+      rearm_part next timer c.reading (wanted_by r object c.reading) made.arm (wanted_timely r object c.reading) made.turn.looks made.arms
 
   rearmed : {e : Ending} → Follows m.pass e → IsJoined s e
-      → IsRearmed (witness_of s e) l.label (receipts m next made.enters made.turn part.does part.behind) c.reading.stamp (length part.begin.seen) (length m.pass.timers.known.seen) timer
+      → IsRearmed (witness_of s e) l.label (receipts m next made.enters made.turn part.does (begins_refl made.begun.seen)) c.reading.stamp (length made.begun.seen) (length m.pass.timers.known.seen) timer
       (arm_noted made.arm) part.does.start (length made.enters.commits.adds.before + 1)
   rearmed {e = e} follows joined = record {
     ns = part.ns;
     timely = part.timely;
-    arms = arms_wider (WasOffLine (witness_of s e) (length part.begin.seen) (length made.worked.seen))
-        (WasOffLine (witness_of s e) (length part.begin.seen) (length m.pass.timers.known.seen))
+    arms = arms_wider (WasOffLine (witness_of s e) (length made.begun.seen) (length made.worked.seen))
+        (WasOffLine (witness_of s e) (length made.begun.seen) (length m.pass.timers.known.seen))
         (was_wider (witness_of s e) (omega arith) (begins_length made.turn.ends.seen)) s.limit timer modes.Keep part.ns c.reading.stamp
-        (base_of (kind_of s timer)) (arm_noted made.arm) part.does.start (subst (λ b. Arms (WasOffLine (witness_of s e) (length part.begin.seen) (length made.worked.seen)) s.limit timer
+        (base_of (kind_of s timer)) (arm_noted made.arm) part.does.start (subst (λ b. Arms (WasOffLine (witness_of s e) (length made.begun.seen) (length made.worked.seen)) s.limit timer
         modes.Keep part.ns c.reading.stamp b (arm_noted made.arm) part.does.start) (declared_base s x timer next.world)
         (part.does.arms e joined (goes_before made.turn.ends.seen follows.timers)));
     ends = length made.worked.seen;
     between = begins_length part.does.part.1.enters.seen;
     high = begins_length made.turn.ends.seen;
-    behind = stop_first m next made.enters made.turn part.does part.behind;
-    stops = stop_last m next made.enters made.turn part.does part.behind;
-    holds = start_is m next made.enters made.turn part.does part.behind follows joined false
+    behind = stop_first m next made.enters made.turn part.does (begins_refl made.begun.seen);
+    stops = stop_last m next made.enters made.turn part.does (begins_refl made.begun.seen);
+    holds = start_is m next made.enters made.turn part.does (begins_refl made.begun.seen) follows joined false
         (like_restart x.timers.about made.worked timer made.arm _ made.bears);
-    had = stood_first m next made.enters made.turn part.does part.behind follows joined;
-    stood = stood_last m next made.enters made.turn part.does part.behind follows joined;
+    had = stood_first m next made.enters made.turn part.does (begins_refl made.begun.seen) follows joined;
+    stood = stood_last m next made.enters made.turn part.does (begins_refl made.begun.seen) follows joined;
   }
 
   -- law: a lane keeps a call on an object that may arm the object's timer again and made an entry, where such calls fit
@@ -128,7 +127,7 @@ module _ {s : Script} {x : WorldOf} {l m : LaneOf} {call : Call} (next : IsNextC
       → FitsCall (witness_of s e) l.label call b (seen_by l.pass) (seen_by m.pass))
       → KeepsCall s l call b m
   keeps_rearming noted no_skip shows b fits =
-      keeps_made m next made.enters made.turn part.does part.behind c.reads c.notes
+      keeps_made m next made.enters made.turn part.does (begins_refl made.begun.seen) c.reads c.notes
       (noted_at c.reading (λ r'. rearming_call r r' made.arm) reply (entry (arm_noted made.arm)) noted no_skip shows) b
       (λ e follows joined kept low. fits e _ _ (arm_noted made.arm) part.does.start _ _ kept low (rearmed follows joined))
 

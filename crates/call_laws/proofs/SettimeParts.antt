@@ -31,11 +31,10 @@ use Rattle.timer_objects.specs.Calls.{BearsStart}
 use Rattle.lane_world.specs.Runs.{ObjectMove}
 use Rattle.timer_setting.specs.declared.arming.Arm.TheVariants as arms
 use Rattle.timer_objects.proofs.Counting.{state_is}
-use Rattle.timer_objects.specs.declared.cell.ObjectCell.{ObjectCell}
 use Rattle.base_row.specs.declared.view.Opening.{Opening}
 use Rattle.timer_setting.specs.declared.phase.Phase.{Phase}
 use Rattle.counted_row.specs.Views.{StateAfter}
-use Rattle.timer_objects.specs.Cells.{cell_meaning}
+use Rattle.timer_objects.specs.Meaning.{object_meaning}
 use Rattle.run_history.specs.Objects.{armed_in_phase}
 use Rattle.script_text.specs.Declarations.{kind_of}
 use Rattle.hr_timers.specs.Known.{timer_then}
@@ -74,11 +73,11 @@ takes_valid (kinds.Raw context callback) d flags value interval is object = absu
 takes_valid k d flags value interval is object = (λ valid. subst (λ o. AreValid (bits_beyond (flags_of o) flags) value interval) is valid, refl)
 
 -- law: what was seen over a timer by itself is no object, and it has no entries
-pub raw_object : {s : Script} {x : WorldOf} {l : LaneOf} {c : Call} (next : IsNextCall s x l c) {t : ℕ} {seen : List ObjectMove} {state : ObjectCell}
-    → StateAfter cell_meaning l.pass.objects.knows.opening t seen state → over_of (kind_of s t) ≡ over.Raw
-    → (state.object ≡ objects.Raw) × (length seen ≡ 0)
+pub raw_object : {s : Script} {x : WorldOf} {l : LaneOf} {c : Call} (next : IsNextCall s x l c) {t : ℕ} {seen : List ObjectMove} {state : Object}
+    → StateAfter object_meaning l.pass.objects.knows.opening t seen state → over_of (kind_of s t) ≡ over.Raw
+    → (state ≡ objects.Raw) × (length seen ≡ 0)
 raw_object {s = s} {x = x} next {t = t} {seen = seen} {state = state} at raw =
-    by_object state.object (state_is x.objects t seen state (subst (λ made. StateAfter cell_meaning made t seen state) next.objects at))
+    by_object state (state_is x.objects t seen state (subst (λ made. StateAfter object_meaning made t seen state) next.objects at))
   where
     by_object : (y : Object) → IsObjectOf (decl_at x.objects t) x.objects.limit (length seen) y → (y ≡ objects.Raw) × (length seen ≡ 0)
     by_object objects.Raw is = (refl, is.1)

@@ -74,7 +74,7 @@ module _ {s : Script} {x : WorldOf} {l : LaneOf} (m : LaneOf) {timer flags : ℕ
       let made : MadeAt begin set.disarmed timer begin.seen (cancel_entries d.answer) =
       record { from = begins_same refl; seen = c.made.seen; own = c.made.own; mine = c.made.mine; id = c.made.id } in
       disarmed_part next timer reading d.answer (record { at = begin.seen; made = made; fits = c.fits; claims = c.claims }) d.ended
-      (d.receipts ∙ ap (λ k. receipts_of timer k (cancel_entries d.answer)) d.from)
+      d.receipts
 
   part : TimerPart s x l timer begin w (mode_by flags) (time_of value) (decl_at x.objects timer).base reading set.arm disarmed.0 log
   part = settime_start next timer reading set.cancel_log (begins_trans set.turn.looks.seen set.disarms.cancelled.made.from) set.turn.looks.mine disarmed.1 flags
@@ -88,7 +88,7 @@ module _ {s : Script} {x : WorldOf} {l : LaneOf} (m : LaneOf) {timer flags : ℕ
   noted =
       let d = decl_at x.objects timer in
       subst (SettimeNoted flags (time_of value) (time_of interval) reading a d.kind set.arm) (sym set.enters.reply)
-      (settime_noted flags (time_of value) (time_of interval) reading a d.kind set.enters.commits.state.object set.arm set.enters.may.allowed
+      (settime_noted flags (time_of value) (time_of interval) reading a d.kind set.enters.commits.state set.arm set.enters.may
       (subst (λ r. SettimeTells r a) set.enters.reply set.answer))
 
   module _ {e : Ending} (follows : Follows m.pass e) (joined : IsJoined s e) where
@@ -96,7 +96,7 @@ module _ {s : Script} {x : WorldOf} {l : LaneOf} (m : LaneOf) {timer flags : ℕ
         (length m.pass.timers.known.seen) timer flags value interval disarmed.0 (arm_noted set.arm) part.start (length set.enters.commits.adds.before + 1)
     is_set =
         let takes = takes_valid (kind_of s timer) _ flags value interval (declared_over s x timer next.world)
-        (λ raw. let none = raw_object next set.enters.commits.at raw in subst (λ y. ObjectAllows y call) none.0 set.enters.may.allowed) in
+        (λ raw. let none = raw_object next set.enters.commits.at raw in subst (λ y. ObjectAllows y call) none.0 set.enters.may) in
         let off = WasOffLine (witness_of s e) (length begin.seen) (length w.seen) in
         record {
           taken = takes.0 valid;

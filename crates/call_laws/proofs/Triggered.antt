@@ -16,10 +16,9 @@ use Rattle.hr_timers.specs.declared.numbers.ClaimNumbers.{ClaimNumbers}
 use Rattle.expire_pass.specs.Handlers.{asks}
 use Rattle.expire_pass.specs.declared.handler.Restart.TheVariants as wishes
 use Rattle.expire_pass.specs.declared.handler.Restart.{Restart}
-use Rattle.timer_objects.specs.Cells.{spanned}
 use Rattle.timer_objects.specs.Known.{ObjectsOf, ObjectsPass, seen_of}
 use Rattle.timer_objects.specs.Steps.{object_answer, ObjectAllows}
-use Rattle.timer_objects.specs.Triggers.{EntersTrigger, trigger_refused, SkipsTrigger, span_of, Triggers}
+use Rattle.timer_objects.specs.Triggers.{EntersTrigger, trigger_refused, SkipsTrigger, Triggers}
 use Rattle.timer_objects.specs.declared.log.ObjectReceipt.{ObjectReceipt}
 use Rattle.timer_objects.specs.declared.object.Object.TheVariants as objects
 use Rattle.timer_objects.specs.declared.object.Object.{Object}
@@ -93,14 +92,14 @@ module _ (s : Script) (x : ObjectsOf) (limit : x.limit ≡ s.limit) (some : 1 �
   q = h'.objects_pass.now
 
   -- a trigger that made an entry
-  entered_trigger : EntersTrigger x p q h.object_log.receipts h'.object_log.receipts v w c.timer (spanned call (span_of c))
+  entered_trigger : EntersTrigger x p q h.object_log.receipts h'.object_log.receipts v w c.timer call
       → BodyKept s label claim restart w h h'
   entered_trigger t =
       let adds = t.commits.adds in
       let state = t.commits.state in
-      let n = noted state.object t.may.allowed in
+      let n = noted state t.may in
       let many = length adds.before in
-      let step : ObjectMove = record { call = spanned call (span_of c); reply = object_answer state.object call } in
+      let step : ObjectMove = record { call = call; reply = object_answer state call } in
       let body = Made c.timer (many + 1) (object_entries.Trigger c.generation reading.stamp n.0) ∷ [] in
       let r : ObjectReceipt = record { object = c.timer; number = many + 1; call = step.call; reply = step.reply } in
       let one = enters_entry t.turn s (HasRead reading) in
@@ -119,11 +118,11 @@ module _ (s : Script) (x : ObjectsOf) (limit : x.limit ≡ s.limit) (some : 1 �
       }
 
   -- a trigger that a full history refused
-  refused_trigger : SkipsTrigger x p q h.object_log.receipts h'.object_log.receipts v w c.timer (spanned call (span_of c))
+  refused_trigger : SkipsTrigger x p q h.object_log.receipts h'.object_log.receipts v w c.timer call
       → BodyKept s label claim restart w h h'
   refused_trigger t =
       let many = length (seen_of q c.timer) in
-      let r : ObjectReceipt = record { object = c.timer; number = many; call = spanned call (span_of c); reply = trigger_refused call many } in
+      let r : ObjectReceipt = record { object = c.timer; number = many; call = call; reply = trigger_refused call many } in
       let body = Skipped c.timer many c.generation ∷ [] in
       let grows = objects_grow p q t.reads.pass.seen in
       let part : IsPart s (HasRead reading) label v p w q body [] (notes_of label [] (r ∷ [])) = record {

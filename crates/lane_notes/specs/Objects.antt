@@ -29,7 +29,7 @@ skip_generation call reply = None
 -- the note of a receipt, where it is one of an entry
 abbrev pub object_note : Label → ObjectReceipt → Option ObjectNote
 object_note label r =
-    option_map (λ entry. record { label = label; object = r.object; number = r.number; entry = entry }) (object_entry_noted r.call.call r.reply)
+    option_map (λ entry. record { label = label; object = r.object; number = r.number; entry = entry }) (object_entry_noted r.call r.reply)
 
 -- the notes of a call's receipts, in their order
 abbrev pub object_notes : Label → List ObjectReceipt → List ObjectNote
@@ -38,7 +38,7 @@ object_notes label receipts = present (map (object_note label) receipts)
 -- the note of a receipt, where it is one of an expiry that was refused
 abbrev pub skip_note : Label → ObjectReceipt → Option SkipNote
 skip_note label r =
-    option_map (λ generation. record { label = label; object = r.object; number = r.number; generation = generation }) (skip_generation r.call.call r.reply)
+    option_map (λ generation. record { label = label; object = r.object; number = r.number; generation = generation }) (skip_generation r.call r.reply)
 
 abbrev pub skip_notes : Label → List ObjectReceipt → List SkipNote
 skip_notes label receipts = present (map (skip_note label) receipts)

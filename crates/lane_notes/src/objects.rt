@@ -35,7 +35,7 @@ fn note_object_receipt(
 {
     let object = receipt.object;
     let number = receipt.number;
-    let (entry, skipped) = told(receipt.call.call, receipt.reply);
+    let (entry, skipped) = told(receipt.call, receipt.reply);
     if let Some(entry) = entry {
         notes.objects.push(ObjectNote {
             label,

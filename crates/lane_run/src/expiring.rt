@@ -22,7 +22,7 @@ use record_text::{Answer, ItemList, Label};
 use seq_timer::{Context, Event};
 use std::alloc::{AllocError, Global};
 use std::sync::Wait;
-use timer_objects::{Firing, FiringWith, ObjectCell, ObjectLog};
+use timer_objects::{Firing, FiringWith, Object, ObjectLog};
 
 /// The handler of objects and callbacks, with the gate's point before each function.
 #[derive(Drop)]
@@ -115,7 +115,7 @@ fn run_gated<R: Wait, G: Gate>(
     gate: &G,
     label: Label,
     pass: &mut Pass,
-    objects_pass: &mut RowPass<ObjectCell>,
+    objects_pass: &mut RowPass<Object>,
     context: Context,
     base: u32,
     budget: u64,

@@ -233,7 +233,7 @@ pub record IsObjectLeft (q : WorldPass) (n : ObjectNote) : Type 0 where
   pub number : before + 1 ≡ n.number
   pub step : ObjectMove
   pub there : slice_get (seen_of q.objects n.object) before ≡ Some step
-  pub shows : (e : Ending) → GoesOnClock (writes q.clock.knows) e → ShowsObjectCall e.run.clock step.call.call step.reply n.entry
+  pub shows : (e : Ending) → GoesOnClock (writes q.clock.knows) e → ShowsObjectCall e.run.clock step.call step.reply n.entry
 
 -- A note is of something that was seen, and that its call did; of an entry the receipts say it. A look stands behind an entry of its timer that was
 -- seen, and a refused expiry behind one of its object.

@@ -9,9 +9,8 @@ use Rattle.timer_fd.specs.States.{Descriptor, fd_opening}
 use Rattle.timer_fd.specs.Steps.{fd_answer, fd_table}
 use Rattle.timer_fd.specs.declared.calls.Call as fd_call
 use Rattle.timer_setting.specs.StepTables.{after_calls, AnsweredCall, AreCalls, StepTable}
-use Rattle.timer_objects.specs.Cells.{cell_meaning, opened_cell, opened_cells}
-use Rattle.timer_objects.specs.Steps.{object_answer, object_step, ObjectAllows}
-use Rattle.timer_objects.specs.declared.cell.ObjectCell.{ObjectCell}
+use Rattle.timer_objects.specs.Meaning.{object_meaning, opened_objects}
+use Rattle.timer_objects.specs.Steps.{object_answer, object_step, ObjectAllows, opened_object}
 use Rattle.timer_objects.proofs.Counting.{opened_at}
 use Rattle.timer_objects.specs.declared.object.Object.TheVariants as objects
 use Rattle.timer_objects.specs.declared.object.ObjectCall.TheVariants as of_kind
@@ -93,10 +92,9 @@ fd_kind = record { table = fd_table; object = objects.Fd; entry_of = fd_entry; t
     told clock t (of_kind.Posix c) reply entry allows is shows = absurd allows
 
 -- a timer by itself stays one
-raw_leads : (last : ℕ) (log : List ObjectMove) (cell : ObjectCell) → Leads cell_meaning (record { object = objects.Raw; last = last }) log cell
-    → cell.object ≡ objects.Raw
-raw_leads last [] cell leads = ap (λ (c : ObjectCell). c.object) leads
-raw_leads last (e ∷ es) cell leads = absurd leads.0.allowed
+raw_leads : (log : List ObjectMove) (now : Object) → Leads object_meaning objects.Raw log now → now ≡ objects.Raw
+raw_leads [] now leads = leads
+raw_leads (e ∷ es) now leads = absurd leads.0
 
 module _ {S C R : Type 0} (k : LineKind S C R) (clock : List ClockLine) where
   -- the calls that lines tell, with their answers
@@ -104,30 +102,26 @@ module _ {S C R : Type 0} (k : LineKind S C R) (clock : List ClockLine) where
   calls_in lines = present (map (k.entry_of clock) (map (λ line. line.entry) lines))
 
   -- law: an object after calls that the first of these lines show is that after the calls that these lines tell
-  pub leads_to : (t : S) (last : ℕ) (log rest : List ObjectMove) (lines : List ObjectLine) (cell : ObjectCell)
-      → Leads cell_meaning (record { object = k.object t; last = last }) log cell → AreObjectLines clock (log ++ rest) lines
-      → cell.object ≡ k.object (after_calls k.table t (take (length log) (calls_in lines)))
-  leads_to t last [] rest lines cell leads are =
-      ap (λ (c : ObjectCell). c.object) leads ∙ ap (λ xs. k.object (after_calls k.table t xs)) (sym (take_none (calls_in lines)))
-  leads_to t last (e ∷ es) rest [] cell leads are = absurd are
-  leads_to t last (e ∷ es) rest (line ∷ lines) cell leads are =
-      let one = k.told clock t e.call.call e.reply line.entry leads.0.allowed leads.1 are.0 in
-      leads_to (k.table.next t one.0.call) e.call.to es rest lines cell
-      (subst (λ o. Leads cell_meaning (record { object = o; last = e.call.to }) es cell) one.4 leads.2) are.1
+  pub leads_to : (t : S) (log rest : List ObjectMove) (lines : List ObjectLine) (now : Object) → Leads object_meaning (k.object t) log now
+      → AreObjectLines clock (log ++ rest) lines → now ≡ k.object (after_calls k.table t (take (length log) (calls_in lines)))
+  leads_to t [] rest lines now leads are =
+      leads ∙ ap (λ xs. k.object (after_calls k.table t xs)) (sym (take_none (calls_in lines)))
+  leads_to t (e ∷ es) rest [] now leads are = absurd are
+  leads_to t (e ∷ es) rest (line ∷ lines) now leads are =
+      let one = k.told clock t e.call e.reply line.entry leads.0 leads.1 are.0 in
+      leads_to (k.table.next t one.0.call) es rest lines now (subst (λ o. Leads object_meaning o es now) one.4 leads.2) are.1
       ∙ ap (λ o. k.object (after_calls k.table t (take (suc (length es)) (present (o ∷ map (k.entry_of clock) (map (λ (y : ObjectLine). y.entry) lines))))))
       (sym one.1)
 
   -- law: lines that show all calls of an object are a legal history of it
-  pub legal : (t : S) (last : ℕ) (to : ObjectCell) (hs : List ObjectMove) (lines : List ObjectLine)
-      → Leads cell_meaning (record { object = k.object t; last = last }) hs to → AreObjectLines clock hs lines
+  pub legal : (t : S) (to : Object) (hs : List ObjectMove) (lines : List ObjectLine) → Leads object_meaning (k.object t) hs to → AreObjectLines clock hs lines
       → AllByRecursion (λ e. is_some (k.entry_of clock e) ≡ true) (map (λ line. line.entry) lines) × AreCalls k.table t (calls_in lines)
-  legal t last to [] [] leads are = (tt, tt)
-  legal t last to [] (line ∷ lines) leads are = absurd are
-  legal t last to (h ∷ hs) [] leads are = absurd are
-  legal t last to (h ∷ hs) (line ∷ lines) leads are =
-      let one = k.told clock t h.call.call h.reply line.entry leads.0.allowed leads.1 are.0 in
-      let rest = legal (k.table.next t one.0.call) h.call.to to hs lines
-      (subst (λ o. Leads cell_meaning (record { object = o; last = h.call.to }) hs to) one.4 leads.2) are.1 in (
+  legal t to [] [] leads are = (tt, tt)
+  legal t to [] (line ∷ lines) leads are = absurd are
+  legal t to (h ∷ hs) [] leads are = absurd are
+  legal t to (h ∷ hs) (line ∷ lines) leads are =
+      let one = k.told clock t h.call h.reply line.entry leads.0 leads.1 are.0 in
+      let rest = legal (k.table.next t one.0.call) to hs lines (subst (λ o. Leads object_meaning o hs to) one.4 leads.2) are.1 in (
         (ap is_some one.1, rest.0),
         subst (λ o. AreCalls k.table t (present (o ∷ map (k.entry_of clock) (map (λ (y : ObjectLine). y.entry) lines)))) (sym one.1)
             (one.2, one.3, rest.1),
@@ -141,28 +135,28 @@ object_after s r i n (kinds.Raw context callback) = objects.Raw
 object_after s r i n (kinds.Posix base) = objects.Posix (posix_after s r i base n)
 object_after s r i n (kinds.Fd base) = objects.Fd (fd_after s r i base n)
 
-module _ (s : Script) (x : WorldOf) (world : IsWorldOf s x) (i : ℕ) (seen : List ObjectMove) (cell : ObjectCell)
-    (after : StateAfter cell_meaning (opened_cells x.objects.decls x.objects.limit) i seen cell) where
+module _ (s : Script) (x : WorldOf) (world : IsWorldOf s x) (i : ℕ) (seen : List ObjectMove) (now : Object)
+    (after : StateAfter object_meaning (opened_objects x.objects.decls x.objects.limit) i seen now) where
   -- law: an object leads from where its declaration opens it
-  pub leads_from : (k : Kind) → kind_of s i ≡ k → Leads cell_meaning (opened_cell s.limit (decl_as k (clock_of s i))) seen cell
+  pub leads_from : (k : Kind) → kind_of s i ≡ k → Leads object_meaning (opened_object s.limit (decl_as k (clock_of s i))) seen now
   leads_from k is =
-      subst (λ c. Leads cell_meaning c seen cell) (opened_at x.objects.limit x.objects.decls i after.from no_decl after.at
-      ∙ ap (opened_cell x.objects.limit) (declared_in s x i world ∙ ap (λ k. decl_as k (clock_of s i)) is)
-      ∙ ap (λ n. opened_cell n (decl_as k (clock_of s i))) world.limit) after.leads
+      subst (λ c. Leads object_meaning c seen now) (opened_at x.objects.limit x.objects.decls i after.from no_decl after.at
+      ∙ ap (opened_object x.objects.limit) (declared_in s x i world ∙ ap (λ k. decl_as k (clock_of s i)) is)
+      ∙ ap (λ n. opened_object n (decl_as k (clock_of s i))) world.limit) after.leads
 
   module _ (e : Ending) (follows : FollowsObject e i seen) where
     shown : AreObjectLines e.run.clock (seen ++ follows.goes_on.rest) (lines_of_object e.run i)
     shown = subst (λ hs. AreObjectLines e.run.clock hs (lines_of_object e.run i)) follows.goes_on.whole follows.lines
 
     -- law: an object after what was seen of it is the record's after so many entries
-    pub object_seen : cell.object ≡ object_after s e.run i (length seen) (kind_of s i)
+    pub object_seen : now ≡ object_after s e.run i (length seen) (kind_of s i)
     object_seen = by_kind (kind_of s i) refl
       where
-        by_kind : (k : Kind) → kind_of s i ≡ k → cell.object ≡ object_after s e.run i (length seen) k
-        by_kind (kinds.Raw context callback) is = raw_leads 0 seen cell (leads_from (kinds.Raw context callback) is)
+        by_kind : (k : Kind) → kind_of s i ≡ k → now ≡ object_after s e.run i (length seen) k
+        by_kind (kinds.Raw context callback) is = raw_leads seen now (leads_from (kinds.Raw context callback) is)
         by_kind (kinds.Posix base) is =
-            leads_to posix_kind e.run.clock (posix_opening (clock_of s i) base s.limit) 0 seen follows.goes_on.rest
-            (lines_of_object e.run i) cell (leads_from (kinds.Posix base) is) shown
+            leads_to posix_kind e.run.clock (posix_opening (clock_of s i) base s.limit) seen follows.goes_on.rest
+            (lines_of_object e.run i) now (leads_from (kinds.Posix base) is) shown
         by_kind (kinds.Fd base) is =
-            leads_to fd_kind e.run.clock (fd_opening (clock_of s i) base s.limit) 0 seen follows.goes_on.rest (lines_of_object e.run i)
-            cell (leads_from (kinds.Fd base) is) shown
+            leads_to fd_kind e.run.clock (fd_opening (clock_of s i) base s.limit) seen follows.goes_on.rest (lines_of_object e.run i)
+            now (leads_from (kinds.Fd base) is) shown

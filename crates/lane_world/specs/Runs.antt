@@ -25,7 +25,6 @@ use Rattle.record_text.specs.declared.record.ObjectEntry.{ObjectEntry}
 use Rattle.record_text.specs.declared.record.ObjectLine.{ObjectLine}
 use Rattle.run_history.specs.FdHistories.{fd_entry}
 use Rattle.run_history.specs.PosixHistories.{posix_entry}
-use Rattle.timer_objects.specs.declared.cell.SpannedCall.{SpannedCall}
 use Rattle.timer_objects.specs.declared.object.ObjectCall.TheVariants as of_kind
 use Rattle.timer_objects.specs.declared.object.ObjectCall.{ObjectCall}
 use Rattle.timer_objects.specs.declared.object.ObjectReply.TheVariants as replies
@@ -68,7 +67,7 @@ pub record MakesRun (x : WorldOf) (s : Script) (p : WorldPass) (r : RunRecord) (
 
 -- an entry of an object
 abbrev pub ObjectMove : Type 0
-ObjectMove = Entry SpannedCall ObjectReply
+ObjectMove = Entry ObjectCall ObjectReply
 
 -- an entry of an object as the record's line has it, by the readings that the line's stamps name; of a start that was refused the line may have no stamp
 abbrev pub ShowsObjectCall : List ClockLine → ObjectCall → ObjectReply → ObjectEntry → Type 0
@@ -79,7 +78,7 @@ ShowsObjectCall clock call reply e = ⊥
 -- an object's lines show these entries
 abbrev pub AreObjectLines : List ClockLine → List ObjectMove → List ObjectLine → Type 0
 AreObjectLines clock [] [] = Unit
-AreObjectLines clock (h ∷ hs) (line ∷ lines) = ShowsObjectCall clock h.call.call h.reply line.entry × AreObjectLines clock hs lines
+AreObjectLines clock (h ∷ hs) (line ∷ lines) = ShowsObjectCall clock h.call h.reply line.entry × AreObjectLines clock hs lines
 AreObjectLines clock [] (line ∷ lines) = ⊥
 AreObjectLines clock (h ∷ hs) [] = ⊥
 

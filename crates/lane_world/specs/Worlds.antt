@@ -15,7 +15,7 @@ use Rattle.timer_objects.specs.declared.object.Decl.{Decl}
 use Rattle.timer_objects.specs.declared.object.Kind as object_kind
 use Rattle.timer_objects.specs.declared.object.Kind.TheVariants as over
 use Rattle.timer_objects.specs.Callbacks.{bases_of}
-use Rattle.timer_objects.specs.Cells.{opened_cells}
+use Rattle.timer_objects.specs.Meaning.{opened_objects}
 use Rattle.timer_objects.specs.Known.{IsObjectsPass, ObjectsOf, Suits, decl_at}
 use Rattle.script_text.specs.Declarations.{declareds_of, terms_of}
 use Rattle.script_text.specs.Scripts.{most_budget}
@@ -89,7 +89,7 @@ pub record ArePassesOf (x : WorldOf) (p : WorldPass) : Type 0 where
 -- the passes that a world is made with
 pub record AreFirst (x : WorldOf) (p : WorldPass) : Type 0 where
   pub timers : p.timers.known ≡ first_known
-  pub objects : p.objects.knows ≡ first_view (opened_cells x.objects.decls x.objects.limit)
+  pub objects : p.objects.knows ≡ first_view (opened_objects x.objects.decls x.objects.limit)
   pub clock : p.clock.knows ≡ first_clock_view
 
 -- each is the last of its kind, and has no claims

@@ -7,12 +7,12 @@ use counted_row::RowPass;
 use hr_timers::Pass;
 use lane_notes::Notes;
 use record_text::{Answer, Label};
-use timer_objects::ObjectCell;
+use timer_objects::Object;
 
 /// A pass of each kind. It can't be dropped.
 pub struct WorldPass {
     pub timers: Pass,
-    pub objects: RowPass<ObjectCell>,
+    pub objects: RowPass<Object>,
     pub clock: ClockPass,
 }
 

@@ -8,9 +8,10 @@ use Rattle.std.proofs.lemmas.Bool.{cases_lt}
 use Rattle.std.proofs.lemmas.Option.{same_Some}
 use Rattle.counted_row.specs.Views.{StateAfter}
 use Rattle.clock_cell.specs.Views.{writes}
-use Rattle.timer_objects.specs.Cells.{cell_meaning, opened_cell}
+use Rattle.timer_objects.specs.Meaning.{object_meaning}
+use Rattle.timer_objects.specs.Steps.{opened_object}
 use Rattle.timer_objects.specs.Known.{seen_of}
-use Rattle.timer_objects.specs.declared.cell.ObjectCell.{ObjectCell}
+use Rattle.timer_objects.specs.declared.object.Object.{Object}
 use Rattle.lane_notes.specs.Notes.{NotesOf}
 use Rattle.lane_notes.specs.Records.{record_from, object_line}
 use Rattle.lane_notes.specs.Sorted.{is_of_list, IsSortedFrom, place_of_object, place_of_skip}
@@ -49,7 +50,7 @@ use Rattle.record_laws.proofs.OwnLines.{at_line, lines_long, own_lines, ShowNote
 -- law: lines that each show the entry at their place
 lines_from : (clock : List ClockLine) (hs : List ObjectMove) (lines : List ObjectLine) → length lines ≡ length hs
     → ((j : ℕ) (h : ObjectMove) (line : ObjectLine) → slice_get hs j ≡ Some h → slice_get lines j ≡ Some line
-    → ShowsObjectCall clock h.call.call h.reply line.entry) → AreObjectLines clock hs lines
+    → ShowsObjectCall clock h.call h.reply line.entry) → AreObjectLines clock hs lines
 lines_from clock [] [] long at = tt
 lines_from clock [] (line ∷ lines) long at = absurd (omega (arith, long))
 lines_from clock (h ∷ hs) [] long at = absurd (omega (arith, long))
@@ -57,35 +58,35 @@ lines_from clock (h ∷ hs) (line ∷ lines) long at =
     (at 0 h line refl refl, lines_from clock hs lines (omega (arith, long)) (λ j g l at_h at_l. at (suc j) g l at_h at_l))
 
 -- a timer by itself has no calls
-raw_none : (clock : List ClockLine) (to : ObjectCell) (hs : List ObjectMove) (lines : List ObjectLine)
-    → Leads cell_meaning (record { object = objects.Raw; last = 0 }) hs to → AreObjectLines clock hs lines → lines ≡ []
+raw_none : (clock : List ClockLine) (to : Object) (hs : List ObjectMove) (lines : List ObjectLine) → Leads object_meaning objects.Raw hs to
+    → AreObjectLines clock hs lines → lines ≡ []
 raw_none clock to [] [] leads are = refl
 raw_none clock to [] (line ∷ lines) leads are = absurd are
-raw_none clock to (h ∷ hs) lines leads are = absurd leads.0.allowed
+raw_none clock to (h ∷ hs) lines leads are = absurd leads.0
 
 -- lines that show all entries of a declared object are a history that it gives
-legal_lines : (s : Script) (r : RunRecord) (i : ℕ) (hs : List ObjectMove) (cell : ObjectCell)
-    → AreObjectLines r.clock hs (lines_of_object r i) → (k : Kind) → Leads cell_meaning (opened_cell s.limit (decl_as k (clock_of s i))) hs cell
+legal_lines : (s : Script) (r : RunRecord) (i : ℕ) (hs : List ObjectMove) (now : Object)
+    → AreObjectLines r.clock hs (lines_of_object r i) → (k : Kind) → Leads object_meaning (opened_object s.limit (decl_as k (clock_of s i))) hs now
     → IsLegalObject s r i k
-legal_lines s r i hs cell are (kinds.Raw context callback) leads = raw_none r.clock cell hs (lines_of_object r i) leads are
-legal_lines s r i hs cell are (kinds.Posix base) leads =
-    legal posix_kind r.clock (posix_opening (clock_of s i) base s.limit) 0 cell hs (lines_of_object r i) leads are
-legal_lines s r i hs cell are (kinds.Fd base) leads =
-    legal fd_kind r.clock (fd_opening (clock_of s i) base s.limit) 0 cell hs (lines_of_object r i) leads are
+legal_lines s r i hs now are (kinds.Raw context callback) leads = raw_none r.clock now hs (lines_of_object r i) leads are
+legal_lines s r i hs now are (kinds.Posix base) leads =
+    legal posix_kind r.clock (posix_opening (clock_of s i) base s.limit) now hs (lines_of_object r i) leads are
+legal_lines s r i hs now are (kinds.Fd base) leads =
+    legal fd_kind r.clock (fd_opening (clock_of s i) base s.limit) now hs (lines_of_object r i) leads are
 
 -- the entries that were seen of an object lead on from where its declaration opens it
 object_leads : {s : Script} {x : WorldOf} {q : WorldPass} → AreLastOf s x q → (i : ℕ)
-    → (cell : ObjectCell) × Leads cell_meaning (opened_cell s.limit (decl_as (kind_of s i) (clock_of s i))) (seen_of q.objects i) cell
+    → (now : Object) × Leads object_meaning (opened_object s.limit (decl_as (kind_of s i) (clock_of s i))) (seen_of q.objects i) now
 object_leads {s = s} {x = x} {q = q} last i = ⊎_elim
     (λ (there : i < length s.timers).
     let c = last.of.passes.objects.knows.legal i (subst (λ n. i < n) (sym (many_objects last.of)) there) in (
       c.0,
       leads_from s x last.of.world i (seen_of q.objects i) c.0
-          (subst (λ o. StateAfter cell_meaning o i (seen_of q.objects i) c.0) last.of.passes.objects.row.made c.1) (kind_of s i) refl,
+          (subst (λ o. StateAfter object_meaning o i (seen_of q.objects i) c.0) last.of.passes.objects.row.made c.1) (kind_of s i) refl,
     ))
     (λ (past : length s.timers ≤ i).
-    let opened = opened_cell s.limit (decl_as (kind_of s i) (clock_of s i)) in
-    (opened, subst (λ hs. Leads cell_meaning opened hs opened) (sym (objects_past last.of i past)) refl))
+    let opened = opened_object s.limit (decl_as (kind_of s i) (clock_of s i)) in
+    (opened, subst (λ hs. Leads object_meaning opened hs opened) (sym (objects_past last.of i past)) refl))
     (cases_lt i (length s.timers))
 
 -- ---- the record's lines
@@ -109,7 +110,7 @@ module _ {s : Script} {x : WorldOf} {q : WorldPass} {notes sorted : NotesOf} {lo
   -- a line's entry was seen at its place
   abbrev Shows : ℕ → Label × ObjectEntry → ℕ → Type 0
   Shows i y j = (step : ObjectMove) × (slice_get (seen_of q.objects i) j ≡ Some step)
-      × ((f : Ending) → GoesOnClock (writes q.clock.knows) f → ShowsObjectCall f.run.clock step.call.call step.reply y.1)
+      × ((f : Ending) → GoesOnClock (writes q.clock.knows) f → ShowsObjectCall f.run.clock step.call step.reply y.1)
 
   shows_at : (i j : ℕ) (line : ObjectLine) → slice_get (lines_of_object r i) j ≡ Some line → Shows i (line.label, line.entry) j
   shows_at i = at_line is.objects (objects_once last left i) (shown i) (Shows i) (λ n st of.
@@ -133,7 +134,7 @@ module _ {s : Script} {x : WorldOf} {q : WorldPass} {notes sorted : NotesOf} {lo
     pub object_lines_show : (i : ℕ) → AreObjectLines r.clock (seen_of q.objects i) (lines_of_object r i)
     object_lines_show i = lines_from r.clock (seen_of q.objects i) (lines_of_object r i) (object_lines_long i) (λ j h line at_h at_l.
         let its = shows_at i j line at_l in
-        subst (λ (g : ObjectMove). ShowsObjectCall r.clock g.call.call g.reply line.entry) (same_Some its.0 h (sym its.1 ∙ at_h))
+        subst (λ (g : ObjectMove). ShowsObjectCall r.clock g.call g.reply line.entry) (same_Some its.0 h (sym its.1 ∙ at_h))
         (its.2 e (clock_goes_on last left is e refl)))
 
     -- law: each object's lines are a history that such an object gives

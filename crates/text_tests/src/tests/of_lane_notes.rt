@@ -9,7 +9,7 @@ use record_text::{ClockLine, Label, Version};
 use seq_timer::{Asked, BaseEvent, Event, Moved, Observation, Placement, Reply, Restarted};
 use std::alloc::{AllocError, Global};
 use timer_fd::GettimeAnswer;
-use timer_objects::{ObjectCall, ObjectReceipt, ObjectReply, SpannedCall};
+use timer_objects::{ObjectCall, ObjectReceipt, ObjectReply};
 
 fn label(lane: u32, call: u32) -> Label {
     Label { lane, call }
@@ -162,11 +162,6 @@ fn notes_out_of_order_make_the_record(rt: HostRuntime) -> Result<(), AllocError>
 }
 
 fn of_object(object: u32, number: u64, call: ObjectCall, reply: ObjectReply) -> ObjectReceipt {
-    let call = SpannedCall {
-        call,
-        from: 0,
-        to: 0,
-    };
     ObjectReceipt {
         object,
         number,

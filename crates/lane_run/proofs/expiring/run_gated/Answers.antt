@@ -1,6 +1,6 @@
 use Rattle.std.proofs.Common.{◌≡◌, ◌∙◌, List, [], refl, rules, sym, ap, subst}
 use Rattle.counted_row.specs.Views.{Knows}
-use Rattle.timer_objects.specs.Cells.{cell_meaning}
+use Rattle.timer_objects.specs.Meaning.{object_meaning}
 use Rattle.timer_objects.specs.Known.{IsObjectsPass, ObjectsPass}
 use Rattle.base_row.specs.declared.log.Receipt.{Receipt}
 use Rattle.expire_pass.specs.Expiring.{Expires}
@@ -17,7 +17,7 @@ returns-clause-objects g c =
     let was = c.reserve-2.ensures.pass ∙ c.make-firing.ensures.pass in
     subst (λ (p : ObjectsPass). IsObjectsPass c.args.world.now.objects p) (search rules)
     (pass_after _ _ _ (c.reserve-2.ensures.loan.objects ∙ c.make-firing.ensures.objects ∙ ap (λ (x : WorldOf). x.objects) c.world.view_is)
-    c.run_with-answer.ensures.runs.leaves (subst (λ (p : ObjectsPass). Knows cell_meaning p.knows) (sym was) c.requires.objects.knows))
+    c.run_with-answer.ensures.runs.leaves (subst (λ (p : ObjectsPass). Knows object_meaning p.knows) (sym was) c.requires.objects.knows))
 
 pub returns-clause-name : goal.returns-clause-name
 returns-clause-name g c =
