@@ -9,9 +9,6 @@ use Rattle.timer_setting.specs.Arguments.{start_by}
 use Rattle.timer_setting.specs.Phases.{IsOutcomeOf}
 use Rattle.counted_row.specs.declared.view.Locked.{Locked}
 use Rattle.counted_row.specs.Views.{IsPassOfRow, Locks}
-use Rattle.timer_objects.specs.declared.cell.ObjectCell.{ObjectCell}
-use Rattle.timer_objects.specs.declared.cell.Span.{Span}
-use Rattle.timer_objects.specs.declared.cell.SpannedCall.{SpannedCall}
 use Rattle.timer_objects.specs.declared.log.ObjectReceipt.{ObjectReceipt}
 use Rattle.timer_objects.specs.declared.object.Decl.{Decl}
 use Rattle.timer_objects.specs.declared.object.ObjectReply.{ObjectReply}
@@ -22,7 +19,7 @@ use Rattle.timer_objects.specs.declared.wanting.EntryCall.TheVariants as entry_c
 use Rattle.timer_objects.specs.declared.wanting.Ended.{Ended}
 use Rattle.timer_objects.specs.declared.wanting.Ended.TheVariants as ends
 use Rattle.timer_objects.specs.Steps.{IsObjectOf, ObjectAllows}
-use Rattle.timer_objects.specs.Cells.{cell_meaning, spanned}
+use Rattle.timer_objects.specs.Meaning.{object_meaning}
 use Rattle.timer_objects.specs.Known.{Enters, HoldsObject, IsObjectsPass, MayEnter, ObjectsOf, ObjectsPass, Suits, decl_at, receipt_of, row_of}
 use Rattle.timer_objects.specs.Calls.{BearsStart, Caller, HasWaited, RearmingMade, RearmsFor, SettimeTells, settime_call, wanted_by}
 use Rattle.timer_objects.specs.Turns.{HasTurn}
@@ -35,7 +32,7 @@ use Rattle.timer_objects.proofs.Retrying.{enters_after, full_after, rearms_names
 use Rattle.timer_objects.proofs.Settings.{arms_bears, set_phase, settime_allowed, settime_grants, settime_replies}
 use Rattle.timer_objects.proofs.SettimeMade.{anew_end, anew_spans, made_after, made_by, made_names}
 
-module _ (x : ObjectsOf) (o : Opening) (v w : KnownOfTimers) (m : ObjectsPass) (id : ℕ) (h : Locked ObjectCell) (arm : Arm) (span : Span)
+module _ (x : ObjectsOf) (o : Opening) (v w : KnownOfTimers) (m : ObjectsPass) (id : ℕ) (h : Locked Object) (arm : Arm) (span : Span)
     (log log' : List Receipt) (index : h.index ≡ id) (row : IsPassOfRow (row_of x) m) (holds : HoldsObject x h) (room : h.stamp < x.limit) where
   abbrev d : Decl
   d = decl_at x id
@@ -69,7 +66,7 @@ module _ (x : ObjectsOf) (o : Opening) (v w : KnownOfTimers) (m : ObjectsPass) (
     };
   }
 
-  module _ (p : ObjectsPass) (locks : Locks cell_meaning p m id h) (q : ObjectsPass) (olog olog' : List ObjectReceipt) (reply : ObjectReply)
+  module _ (p : ObjectsPass) (locks : Locks object_meaning p m id h) (q : ObjectsPass) (olog olog' : List ObjectReceipt) (reply : ObjectReply)
       (isq : IsObjectsPass x q) (suits : Suits x o) (within : id < length x.decls) (u z : KnownOfTimers) (turn : HasTurn id h.stamp u v w z) where
     abbrev begun : Caller
     begun = record { timers = u; objects = p; log = log; object_log = olog }
@@ -78,7 +75,7 @@ module _ (x : ObjectsOf) (o : Opening) (v w : KnownOfTimers) (m : ObjectsPass) (
     done = record { timers = z; objects = q; log = log'; object_log = olog' }
 
     -- its turn, by the number of entries before its own
-    turn_at : {call : SpannedCall} (e : Enters m q h call reply) → HasTurn id (length (commits x p m q id h call reply locks row isq e).adds.before) u v w z
+    turn_at : {call : ObjectCall} (e : Enters m q h call reply) → HasTurn id (length (commits x p m q id h call reply locks row isq e).adds.before) u v w z
     turn_at {call} e = subst (λ n. HasTurn id n u v w z) (sym (stamp_before x p m q id h call reply locks row isq e)) turn
 
     pub makes : (asked : EntryCall) → IsAskedOf d.kind asked → Sets o v w id asked h.state d.base arm span log log'
@@ -131,19 +128,19 @@ module _ (x : ObjectsOf) (o : Opening) (v w : KnownOfTimers) (m : ObjectsPass) (
       refl,
     )
 
-pub sets_as : (o : Opening) (v w : KnownOfTimers) (id : ℕ) (asked : EntryCall) (arm : Arm) (span : Span) (log log' : List Receipt) (cell cell' : ObjectCell)
+pub sets_as : (o : Opening) (v w : KnownOfTimers) (id : ℕ) (asked : EntryCall) (arm : Arm) (span : Span) (log log' : List Receipt) (cell cell' : Object)
     (d d' : Decl) → cell ≡ cell' → d ≡ d' → Sets o v w id asked cell d.base arm span log log' → Sets o v w id asked cell' d'.base arm span log log'
 sets_as o v w id asked arm span log log' cell cell' d d' same there sets =
-    subst (λ (x : ObjectCell). Sets o v w id asked x d'.base arm span log log') same
+    subst (λ (x : Object). Sets o v w id asked x d'.base arm span log log') same
     (subst (λ (x : Decl). Sets o v w id asked cell x.base arm span log log') there sets)
 
 -- a call that found a cell ends
-pub ends_at : (x : ObjectsOf) (o : Opening) (old new : Caller) (id : ℕ) (asked : EntryCall) (e : Ended) (cell : ObjectCell)
+pub ends_at : (x : ObjectsOf) (o : Opening) (old new : Caller) (id : ℕ) (asked : EntryCall) (e : Ended) (cell : Object)
     → EndsAt x o old new id asked e cell → Ends x o old new id asked e
 ends_at x o old new id asked (ends.Full n) cell full = full
 ends_at x o old new id asked (ends.Made n reply) cell made = (made.0, made.2)
 
-pub ends_or_waits : (x : ObjectsOf) (o : Opening) (old new : Caller) (id : ℕ) (asked : EntryCall) (cell : ObjectCell) (ended : Option Ended)
+pub ends_or_waits : (x : ObjectsOf) (o : Opening) (old new : Caller) (id : ℕ) (asked : EntryCall) (cell : Object) (ended : Option Ended)
     → MatchOption ended (HasWaited old new) (λ e. EndsAt x o old new id asked e cell) → MatchOption ended (HasWaited old new) (λ e. Ends x o old new id asked e)
 ends_or_waits x o old new id asked cell None waits = waits
 ends_or_waits x o old new id asked cell (Some e) at = ends_at x o old new id asked e cell at

@@ -16,7 +16,6 @@ use Rattle.posix_timer.specs.States.{PosixTimer}
 use Rattle.posix_timer.specs.Steps.{overrun_of}
 use Rattle.timer_fd.specs.States.{Descriptor, is_canceled}
 use Rattle.timer_fd.specs.Steps.{fd_read_answer, left_by}
-use Rattle.timer_objects.specs.declared.cell.Span.{Span}
 use Rattle.timer_objects.specs.declared.object.Decl.{Decl}
 use Rattle.timer_objects.specs.declared.object.Object.{Object}
 use Rattle.timer_objects.specs.declared.object.Object.TheVariants as objects

@@ -16,8 +16,6 @@ use Rattle.timer_fd.specs.declared.calls.Call as fd_call
 use Rattle.timer_fd.specs.States.{Descriptor}
 use Rattle.timer_fd.specs.Steps.{fd_step}
 use Rattle.timer_fd.proofs.Histories.{fd_step-stamp, fd_step-limit}
-use Rattle.timer_objects.specs.declared.cell.ObjectCell.{ObjectCell}
-use Rattle.timer_objects.specs.declared.cell.SpannedCall.{SpannedCall}
 use Rattle.timer_objects.specs.declared.object.Decl.{Decl}
 use Rattle.timer_objects.specs.declared.object.Kind.{Kind}
 use Rattle.timer_objects.specs.declared.object.Kind.TheVariants as kinds
@@ -27,7 +25,7 @@ use Rattle.timer_objects.specs.declared.object.ObjectCall.{ObjectCall}
 use Rattle.timer_objects.specs.declared.object.ObjectCall.TheVariants as calls
 use Rattle.timer_objects.specs.declared.object.ObjectReply.{ObjectReply}
 use Rattle.timer_objects.specs.Steps.{IsObjectOf, ObjectAllows, object_step, opened_as}
-use Rattle.timer_objects.specs.Cells.{cell_meaning, opened_cell, opened_cells}
+use Rattle.timer_objects.specs.Meaning.{object_meaning, opened_objects}
 use Rattle.timer_objects.specs.Known.{ObjectsOf, decl_at}
 
 posix_step-clock : (t : PosixTimer) (c : posix_call.Call) → (posix_step t c).clock ≡ t.clock
@@ -61,12 +59,12 @@ one_more d limit n (objects.Fd t) (calls.Posix c) is allows = absurd allows
 one_more d limit n (objects.Fd t) (calls.Fd c) is allows =
     (is.0, fd_step-clock t c ∙ is.1, fd_step-base t c ∙ is.2, fd_step-limit t c ∙ is.3, fd_step-stamp t c ∙ ap (λ k. k + 1) is.4)
 
-after_log : (d : Decl) (limit n : ℕ) (x y : ObjectCell) (log : List (Entry SpannedCall ObjectReply)) → IsObjectOf d limit n x.object
-    → Leads cell_meaning x log y → IsObjectOf d limit (n + length log) y.object
+after_log : (d : Decl) (limit n : ℕ) (x y : Object) (log : List (Entry ObjectCall ObjectReply)) → IsObjectOf d limit n x.object
+    → Leads object_meaning x log y → IsObjectOf d limit (n + length log) y.object
 after_log d limit n x y [] is leads = subst (λ z. IsObjectOf d limit (n + 0) z.object) (sym leads) (subst (λ k. IsObjectOf d limit k x.object) (omega arith) is)
 after_log d limit n x y (e ∷ es) is leads =
     subst (λ k. IsObjectOf d limit k y.object) (omega arith)
-    (after_log d limit (n + 1) (cell_meaning.next x e.call) y es (one_more d limit n x.object e.call.call is leads.0.allowed) leads.2)
+    (after_log d limit (n + 1) (object_meaning.next x e.call) y es (one_more d limit n x.object e.call.call is leads.0.allowed) leads.2)
 
 opened_is : (d : Decl) (limit : ℕ) (kind : Kind) → d.kind ≡ kind → IsObjectOf d limit 0 (opened_as kind d.clock d.base limit)
 opened_is d limit kinds.Raw e = (e, refl)
@@ -74,15 +72,15 @@ opened_is d limit kinds.Posix e = (e, refl, refl, refl, refl)
 opened_is d limit kinds.Fd e = (e, refl, refl, refl, refl)
 
 -- law: an object that was just made is that of its declaration
-pub opened_at : (limit : ℕ) (ds : List Decl) (i : ℕ) (x : ObjectCell) (d : Decl) → get_elem? (map (opened_cell limit) ds) i ≡ some x
-    → x ≡ opened_cell limit (get_or ds i d)
+pub opened_at : (limit : ℕ) (ds : List Decl) (i : ℕ) (x : Object) (d : Decl) → get_elem? (map (opened_object limit) ds) i ≡ some x
+    → x ≡ opened_object limit (get_or ds i d)
 opened_at limit [] i x d e = absurd (some-ne-none x (sym e))
-opened_at limit (y ∷ ys) zero x d e = some-injective x (opened_cell limit y) (sym e)
+opened_at limit (y ∷ ys) zero x d e = some-injective x (opened_object limit y) (sym e)
 opened_at limit (y ∷ ys) (suc i) x d e = opened_at limit ys i x d e
 
 -- the state after a history is that of the object that was declared, with as many entries
-pub state_is : (x : ObjectsOf) (i : ℕ) (log : List (Entry SpannedCall ObjectReply)) (cell : ObjectCell)
-    → StateAfter cell_meaning (opened_cells x.decls x.limit) i log cell → IsObjectOf (decl_at x i) x.limit (length log) cell.object
+pub state_is : (x : ObjectsOf) (i : ℕ) (log : List (Entry ObjectCall ObjectReply)) (cell : Object)
+    → StateAfter object_meaning (opened_objects x.decls x.limit) i log cell → IsObjectOf (decl_at x i) x.limit (length log) cell.object
 state_is x i log cell after =
     let d = decl_at x i in
     let from = opened_at x.limit x.decls i after.from (record { kind = kinds.Raw; clock = clocks.Monotonic; base = 0 }) after.at in

@@ -6,11 +6,9 @@ use Rattle.counted_row.specs.declared.view.Locked.{Locked}
 use Rattle.counted_row.specs.Views.{IsPassOfRow, Locks}
 use Rattle.counted_row.specs.Calls.{Commits}
 use Rattle.counted_row.proofs.Calls.{commits_of}
-use Rattle.timer_objects.specs.declared.cell.ObjectCell.{ObjectCell}
-use Rattle.timer_objects.specs.declared.cell.SpannedCall.{SpannedCall}
 use Rattle.timer_objects.specs.declared.object.ObjectReply.{ObjectReply}
 use Rattle.timer_objects.specs.Steps.{object_answer}
-use Rattle.timer_objects.specs.Cells.{cell_meaning}
+use Rattle.timer_objects.specs.Meaning.{object_meaning}
 use Rattle.timer_objects.specs.Known.{Enters, IsObjectsPass, ObjectsOf, ObjectsPass, receipt_of, row_of, seen_of}
 use Rattle.timer_objects.specs.Calls.{Caller, EntersCall}
 
@@ -18,9 +16,9 @@ use Rattle.timer_objects.specs.Calls.{Caller, EntersCall}
 one_behind : {E : Type 0} (a b : Pass E) (i : ℕ) (e : E) (adds : Adds a b i (e ∷ [])) → length (entries i b.seen) ≡ length adds.before + 1
 one_behind a b i e adds = omega (arith, ap length adds.last, length-append adds.before (e ∷ []))
 
-module _ (x : ObjectsOf) (p m q : ObjectsPass) (id : ℕ) (h : Locked ObjectCell) (call : SpannedCall) (answer : ObjectReply)
-    (locks : Locks cell_meaning p m id h) (row : IsPassOfRow (row_of x) m) (is : IsObjectsPass x q) (enters : Enters m q h call answer) where
-  abbrev pub commits : Commits cell_meaning p q id call
+module _ (x : ObjectsOf) (p m q : ObjectsPass) (id : ℕ) (h : Locked Object) (call : ObjectCall) (answer : ObjectReply)
+    (locks : Locks object_meaning p m id h) (row : IsPassOfRow (row_of x) m) (is : IsObjectsPass x q) (enters : Enters m q h call answer) where
+  abbrev pub commits : Commits object_meaning p q id call
   commits = commits_of {r = row_of x} locks row is.row
       (subst (λ r. Adds m.knows.pass q.knows.pass h.index (record { call = call; reply = r } ∷ [])) enters.reply enters.adds) enters.knows is.knows
 

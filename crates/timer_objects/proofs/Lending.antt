@@ -10,7 +10,7 @@ use Rattle.expire_pass.specs.declared.handler.Restart.{Restart}
 use Rattle.base_row.specs.declared.log.Receipt.{Receipt}
 use Rattle.counted_row.specs.Views.{IsPassOfRow, Knows}
 use Rattle.timer_objects.specs.declared.object.ObjectCall.{ObjectCall}
-use Rattle.timer_objects.specs.Cells.{cell_meaning}
+use Rattle.timer_objects.specs.Meaning.{object_meaning}
 use Rattle.timer_objects.specs.Firings.{Fires, FiresBy, Firing, IsSameLoan, LeavesPass, firing}
 use Rattle.timer_objects.specs.Known.{IsObjectsPass, KeepsObjectsPass, ObjectsOf, ObjectsPass, row_of}
 use Rattle.seq_timer.specs.declared.context.Context.{Context}
@@ -56,7 +56,7 @@ by_call : (o : Opening) (h h' : Firing) (v w : KnownOfTimers) (c : ClaimNumbers)
 by_call o h h' v w c reading restart None loan by = record {
   loan = loan;
   keeps = subst (λ (p : ObjectsPass). KeepsObjectsPass h.objects_pass.now p) (sym by.1) (keeps_same h.objects_pass.now);
-  knows = subst (λ (p : ObjectsPass). Knows cell_meaning h.objects_pass.now.knows → Knows cell_meaning p.knows) (sym by.1) (λ k. k);
+  knows = subst (λ (p : ObjectsPass). Knows object_meaning h.objects_pass.now.knows → Knows object_meaning p.knows) (sym by.1) (λ k. k);
 }
 by_call o h h' v w c reading restart (Some call) loan (inl enters, same, log, stops) = record {
   loan = loan;
@@ -81,7 +81,7 @@ leaves_pass o reading =
     run_leaves firing o reading LeavesPass leaves_same leaves_trans (λ h h' v w c restart fires. leaves_fired o h h' v w c reading restart fires)
 
 -- a pass that was lent is one of the objects after it
-pub pass_after : (x : ObjectsOf) (h h' : Firing) → h.objects.now ≡ x → LeavesPass h h' → Knows cell_meaning h.objects_pass.now.knows
+pub pass_after : (x : ObjectsOf) (h h' : Firing) → h.objects.now ≡ x → LeavesPass h h' → Knows object_meaning h.objects_pass.now.knows
     → IsObjectsPass x h'.objects_pass.now
 pass_after x h h' e left knows = record {
   row = subst (λ (y : ObjectsOf). IsPassOfRow (row_of y) h'.objects_pass.now) (left.loan.objects ∙ e) h'.row;

@@ -19,7 +19,6 @@ use Rattle.base_row.specs.declared.log.Receipt.{Receipt}
 use Rattle.timer_setting.specs.declared.arming.Arm.{Arm}
 use Rattle.timer_setting.specs.declared.arming.Arm.TheVariants as arms
 use Rattle.timer_setting.specs.declared.arming.Wanted.{Wanted}
-use Rattle.timer_objects.specs.declared.cell.Span.{Span}
 use Rattle.timer_objects.specs.Arming.{ArmsFor, SeesTimer, arm_of, quiet_at, stamp_seen}
 use Rattle.timer_objects.specs.Calls.{RearmsFor}
 use Rattle.timer_objects.specs.Valid.{end_by}

@@ -12,12 +12,9 @@ use Rattle.counted_row.specs.Views.{IsPassOfRow, Locks, released}
 use Rattle.counted_row.proofs.Calls.{commits_after, reads_after, reads_of}
 use Rattle.timer_setting.specs.declared.arming.Arm.{Arm}
 use Rattle.timer_setting.specs.declared.arming.Wanted.{Wanted}
-use Rattle.timer_objects.specs.declared.cell.ObjectCell.{ObjectCell}
-use Rattle.timer_objects.specs.declared.cell.Span.{Span}
-use Rattle.timer_objects.specs.declared.cell.SpannedCall.{SpannedCall}
 use Rattle.timer_objects.specs.declared.log.ObjectReceipt.{ObjectReceipt}
 use Rattle.timer_objects.specs.declared.object.ObjectReply.{ObjectReply}
-use Rattle.timer_objects.specs.Cells.{cell_meaning}
+use Rattle.timer_objects.specs.Meaning.{object_meaning}
 use Rattle.timer_objects.specs.Known.{IsObjectsPass, ObjectsOf, ObjectsPass, row_of, seen_of}
 use Rattle.timer_objects.specs.Calls.{Caller, EntersCall, FindsFull, HasWaited, RearmsFor}
 use Rattle.timer_objects.specs.Turns.{HasTurn}
@@ -30,7 +27,7 @@ turn_after {id} {n} {u} {v} {begun} {worked} {w} looks t =
 
 module _ {a b c : Caller} where
   -- an entry of an object behind looks
-  abbrev pub enters_after : {x : ObjectsOf} {id : ℕ} {call : SpannedCall} {answer : ObjectReply} → HasWaited a b → EntersCall x b c id call answer
+  abbrev pub enters_after : {x : ObjectsOf} {id : ℕ} {call : ObjectCall} {answer : ObjectReply} → HasWaited a b → EntersCall x b c id call answer
       → EntersCall x a c id call answer
   enters_after {x} {id} {call} {answer} waits e = record {
     commits = commits_after waits.objects e.commits;
@@ -53,9 +50,9 @@ module _ {a b c : Caller} where
   }
 
 -- a turn that was given up while the object was held
-pub held_up : (x : ObjectsOf) (p m q : ObjectsPass) (id : ℕ) (h : Locked ObjectCell) → Locks cell_meaning p m id h → IsPassOfRow (row_of x) m
+pub held_up : (x : ObjectsOf) (p m q : ObjectsPass) (id : ℕ) (h : Locked Object) → Locks object_meaning p m id h → IsPassOfRow (row_of x) m
     → IsObjectsPass x q → p.knows.held ≡ None → q.knows ≡ released m.knows → h.stamp ≡ length (seen_of q h.index) → h.stamp < x.limit
-    → (why : ObjectCell → Type 0) → why h.state → HasToWait x p q id why
+    → (why : Object → Type 0) → why h.state → HasToWait x p q id why
 held_up x p m q id h locks here after idle is count room why because = record {
   reads = reads_of {r = row_of x} locks here after.row idle is after.knows;
   room = subst (λ n. n < x.limit) (count ∙ ap (λ i. length (seen_of q i)) locks.index) room;
@@ -63,7 +60,7 @@ held_up x p m q id h locks here after idle is count room why because = record {
 }
 
 -- a caller whose turn was given up has waited
-pub waits_held : (x : ObjectsOf) (p m q : ObjectsPass) (id : ℕ) (h : Locked ObjectCell) → Locks cell_meaning p m id h → IsPassOfRow (row_of x) m
+pub waits_held : (x : ObjectsOf) (p m q : ObjectsPass) (id : ℕ) (h : Locked Object) → Locks object_meaning p m id h → IsPassOfRow (row_of x) m
     → IsObjectsPass x q → p.knows.held ≡ None → q.knows ≡ released m.knows → {v w : KnownOfTimers} {log log' : List Receipt}
     {object_log object_log' : List ObjectReceipt} → LooksOn v w → log' ≡ log → object_log' ≡ object_log
     → HasWaited (record { timers = v; objects = p; log = log; object_log = object_log }) (record { timers = w; objects = q; log = log'; object_log = object_log' })

@@ -12,7 +12,6 @@ use Rattle.timer_setting.specs.declared.arming.Arm.{Arm}
 use Rattle.timer_setting.specs.declared.arming.Wanted.{Wanted}
 use Rattle.timer_fd.specs.declared.answers.SettimeAnswer.{SettimeAnswer}
 use Rattle.timer_fd.specs.declared.answers.SettimeAnswer.TheVariants as settings
-use Rattle.timer_objects.specs.declared.cell.Span.{Span}
 use Rattle.timer_objects.specs.Known.{ObjectsOf}
 use Rattle.base_row.specs.Logs.{receipts_of}
 use Rattle.timer_objects.specs.Arming.{ArmsFor, Disarms, stamp_seen}

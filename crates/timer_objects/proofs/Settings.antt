@@ -35,7 +35,6 @@ use Rattle.timer_setting.specs.Phases.{IsOutcomeOf, armed_by, clock_by, expiry_b
 use Rattle.timer_fd.specs.declared.answers.SettimeAnswer.{SettimeAnswer}
 use Rattle.timer_fd.specs.declared.answers.SettimeAnswer.TheVariants as settings
 use Rattle.timer_fd.specs.Steps.{answers_canceled}
-use Rattle.timer_objects.specs.declared.cell.Span.{Span}
 use Rattle.timer_objects.specs.declared.object.Decl.{Decl}
 use Rattle.timer_objects.specs.declared.object.Kind.TheVariants as kinds
 use Rattle.timer_objects.specs.declared.object.Object.{Object}

@@ -24,7 +24,6 @@ use Rattle.base_row.specs.declared.log.Receipt.{Receipt}
 use Rattle.base_row.specs.Logs.{LogOf, kept, receipts_of}
 use Rattle.base_row.proofs.Logging.{all_kept}
 use Rattle.hr_timers.specs.Logged.{CancelsLogged, StartsLogged}
-use Rattle.timer_objects.specs.declared.cell.Span.{Span}
 use Rattle.timer_objects.specs.Arming.{Disarms, SeesQuietly, SeesTimer, Starts, arm_of, asked_by, quiet_at, stamp_seen}
 use Rattle.timer_objects.specs.Waiting.{IsHindered}
 

@@ -5,18 +5,16 @@ use Rattle.hr_timers.specs.Known.{KnownOfTimers}
 use Rattle.counted_row.specs.declared.view.Locked.{Locked}
 use Rattle.counted_row.specs.Views.{IsPassOfRow, Locks}
 use Rattle.counted_row.proofs.Calls.{commits_of}
-use Rattle.timer_objects.specs.declared.cell.ObjectCell.{ObjectCell}
-use Rattle.timer_objects.specs.declared.cell.SpannedCall.{SpannedCall}
 use Rattle.timer_objects.specs.declared.log.ObjectReceipt.{ObjectReceipt}
 use Rattle.timer_objects.specs.declared.object.ObjectReply.{ObjectReply}
 use Rattle.timer_objects.specs.Steps.{object_answer}
-use Rattle.timer_objects.specs.Cells.{cell_meaning}
+use Rattle.timer_objects.specs.Meaning.{object_meaning}
 use Rattle.timer_objects.specs.Known.{Enters, IsObjectsPass, ObjectsOf, ObjectsPass, receipt_of, row_of, seen_of}
 use Rattle.timer_objects.specs.Triggers.{EntersTrigger}
 use Rattle.timer_objects.specs.Turns.{HasTurn}
 
-module _ (x : ObjectsOf) (p m q : ObjectsPass) (id : ℕ) (h : Locked ObjectCell) (call : SpannedCall) (log log' : List ObjectReceipt)
-    (locks : Locks cell_meaning p m id h) (here : IsPassOfRow (row_of x) m) (after : IsObjectsPass x q) where
+module _ (x : ObjectsOf) (p m q : ObjectsPass) (id : ℕ) (h : Locked Object) (call : ObjectCall) (log log' : List ObjectReceipt)
+    (locks : Locks object_meaning p m id h) (here : IsPassOfRow (row_of x) m) (after : IsObjectsPass x q) where
   -- what is held counts the entries of its object
   counted : h.stamp ≡ length (seen_of m id)
   counted = locks.now.stamp ∙ ap (λ i. length (seen_of m i)) locks.index

@@ -11,7 +11,6 @@ use Rattle.timer_fd.specs.declared.calls.Reply.TheVariants as fd_replies
 use Rattle.timer_fd.specs.States.{Descriptor, is_canceled}
 use Rattle.timer_fd.specs.Steps.{count_length, fd_read_answer, total_in}
 use Rattle.timer_objects.specs.declared.answers.BlockingRead.{BlockingRead}
-use Rattle.timer_objects.specs.declared.cell.ObjectCell.{ObjectCell}
 use Rattle.timer_objects.specs.declared.object.Object.{Object}
 use Rattle.timer_objects.specs.declared.object.Object.TheVariants as objects
 use Rattle.timer_objects.specs.declared.object.ObjectCall.TheVariants as calls
@@ -101,11 +100,11 @@ module _ (x : ObjectsOf) (o : Opening) (old new : Caller) (id : ℕ) (reading : 
   reads_blocking len long (ends.Made n replies.None) a ended is = absurd is
 
   -- law: a call that found a descriptor with something to read ended the read
-  pub ends_read : (e : Ended) (cell : ObjectCell) → HasSome reading cell.object → EndsAt x o old new id (read_at reading) e cell
+  pub ends_read : (e : Ended) (cell : Object) → HasSome reading cell.object → EndsAt x o old new id (read_at reading) e cell
       → EndsRead x o old new id reading e
   ends_read (ends.Full n) cell some full = full
   ends_read (ends.Made n reply) cell some made =
-      (made.0, subst (λ (k : ObjectCell). HasSome reading k.object) (sym made.1) some, made.2)
+      (made.0, subst (λ (k : Object). HasSome reading k.object) (sym made.1) some, made.2)
 
   -- law: it ended as a call
   pub ends_as_call : (e : Ended) → EndsRead x o old new id reading e → Ends x o old new id (read_at reading) e

@@ -1,7 +1,6 @@
--- What a call on an object does to its timer: it disarms it or looks at it, starts it where it wants that, and notes a receipt of each entry.
-use Rattle.std.specs.Prelude.{ℕ, ◌≡◌, ◌+◌, ◌≤◌, max, List, ◌++◌, length, Option, Some, None}
+-- What a call on an object does to its timer: it disarms it, starts it where it wants that, and notes a receipt of each entry.
+use Rattle.std.specs.Prelude.{ℕ, ◌≡◌, List, ◌++◌, Option, Some, None}
 use Rattle.ktime.specs.Readings.{ClockReading}
-use Rattle.pass_names.specs.SharedHistory.{LooksOn}
 use Rattle.seq_timer.specs.Events.{Asked}
 use Rattle.seq_timer.specs.Calls.{asked_for}
 use Rattle.seq_timer.specs.declared.answer.CancelAnswer.{CancelAnswer}
@@ -16,11 +15,6 @@ use Rattle.base_row.specs.Logs.{receipts_of}
 use Rattle.timer_setting.specs.declared.arming.Arm.{Arm}
 use Rattle.timer_setting.specs.declared.arming.Arm.TheVariants as arms
 use Rattle.timer_setting.specs.declared.arming.Wanted.{Wanted}
-use Rattle.timer_objects.specs.declared.cell.Span.{Span}
-
--- how many entries of a timer a pass has seen
-abbrev pub stamp_seen : Opening → KnownOfTimers → ℕ → ℕ
-stamp_seen o k t = (timer_then o k.seen t).stamp
 
 -- what is asked for by a start that an object wants: no slack
 abbrev pub asked_by : Wanted → ℕ → ClockReading → Asked
@@ -46,31 +40,9 @@ abbrev pub ArmsFor : Opening → KnownOfTimers → KnownOfTimers → ℕ → Opt
 ArmsFor o v w t None base reading arm log log' = (arm ≡ arms.NotAsked) × (w ≡ v) × (log' ≡ log)
 ArmsFor o v w t (Some wanted) base reading arm log log' = Starts o v w t wanted base reading arm log log'
 
--- A timer whose function wasn't running was disarmed, or seen to be idle, after a number of entries that isn't below `last`. The span so far
--- goes from that number to the call's own entry.
-pub record Disarms (o : Opening) (v w : KnownOfTimers) (t last : ℕ) (span : Span) (log log' : List Receipt) : Type 0 where
+-- a timer whose function wasn't running was disarmed, or seen to be idle
+pub record Disarms (o : Opening) (v w : KnownOfTimers) (t : ℕ) (log log' : List Receipt) : Type 0 where
   pub answer : CancelAnswer
   pub cancelled : Cancels o v w t answer
   pub ended : (g n : ℕ) → answer ≡ cancels.Running g n → ⊥
-  pub from : span.from ≡ (timer_then o cancelled.at t).stamp
-  pub behind : last ≤ span.from
-  pub to : span.to ≡ span.from + length (cancel_entries answer)
-  pub receipts : log' ≡ log ++ receipts_of t span.from (cancel_entries answer)
-
--- a timer was seen after so many entries, which aren't below `last`
-pub record SeesTimer (o : Opening) (v w : KnownOfTimers) (t last n : ℕ) : Type 0 where
-  pub looks : LooksOn v w
-  pub number : n ≡ stamp_seen o w t
-  pub behind : last ≤ n
-
--- where the empty span of a call stands that does nothing to its timer: where it saw that, or where the last span ended, if that is later or the
--- timer's function was running, which may trigger the object yet
-abbrev pub quiet_at : ℕ → Option ℕ → ℕ → ℕ
-quiet_at last None stamp = max last stamp
-quiet_at last (Some running) stamp = last
-
--- a timer was looked at by a call that wants no start of it, and the call's span is empty
-pub record SeesQuietly (o : Opening) (v w : KnownOfTimers) (t last : ℕ) (span : Span) : Type 0 where
-  pub looks : LooksOn v w
-  pub from : span.from ≡ quiet_at last (timer_then o w.seen t).running (stamp_seen o w t)
-  pub to : span.to ≡ span.from
+  pub receipts : log' ≡ log ++ receipts_of t (timer_then o cancelled.at t).stamp (cancel_entries answer)

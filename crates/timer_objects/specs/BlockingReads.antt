@@ -4,8 +4,6 @@ use Rattle.std.specs.Prelude.{get_or}
 use Rattle.ktime.specs.declared.clock_id.ClockId.TheVariants as clocks
 use Rattle.ktime.specs.Readings.{ClockReading}
 use Rattle.base_row.specs.declared.view.Opening.{Opening}
-use Rattle.base_row.specs.Calls.{BaseRowOf}
-use Rattle.hr_timers.specs.Known.{IsPassOf, PassOf}
 use Rattle.timer_fd.specs.declared.answers.ReadAnswer.{ReadAnswer}
 use Rattle.timer_fd.specs.declared.answers.ReadAnswer.TheVariants as reads
 use Rattle.timer_fd.specs.declared.calls.Reply.TheVariants as fd_replies
@@ -16,19 +14,15 @@ use Rattle.timer_objects.specs.declared.answers.BlockingRead.TheVariants as bloc
 use Rattle.timer_objects.specs.declared.object.Decl.{Decl}
 use Rattle.timer_objects.specs.declared.object.Kind.{Kind}
 use Rattle.timer_objects.specs.declared.object.Kind.TheVariants as kinds
-use Rattle.timer_objects.specs.declared.blocking.ReadTurn.{ReadTurn}
-use Rattle.timer_objects.specs.declared.blocking.ReadTurn.TheVariants as turns
 use Rattle.timer_objects.specs.declared.object.Object.{Object}
 use Rattle.timer_objects.specs.declared.object.Object.TheVariants as objects
 use Rattle.timer_objects.specs.declared.object.ObjectReply.{ObjectReply}
 use Rattle.timer_objects.specs.declared.object.ObjectReply.TheVariants as replies
 use Rattle.timer_objects.specs.declared.wanting.Ended.{Ended}
 use Rattle.timer_objects.specs.declared.wanting.Ended.TheVariants as ends
-use Rattle.timer_objects.specs.declared.wanting.EntryCall.{EntryCall}
-use Rattle.timer_objects.specs.declared.wanting.EntryCall.TheVariants as entry_calls
 use Rattle.timer_objects.specs.declared.wanting.Rearming.TheVariants as rearmings
-use Rattle.timer_objects.specs.Calls.{Caller, FindsFull, HasWaited, RearmingMade}
-use Rattle.timer_objects.specs.Known.{IsObjectsPass, ObjectsOf, ObjectsPass, Suits, decl_at, seen_of}
+use Rattle.timer_objects.specs.Calls.{Caller, FindsFull, RearmingMade}
+use Rattle.timer_objects.specs.Known.{ObjectsOf, seen_of}
 use Rattle.timer_objects.specs.Rearming.{MakesEntry, RepliesTo}
 
 -- ---- readers
@@ -55,7 +49,7 @@ descriptors_below decls (suc n) = descriptors_below decls n ++ if_descriptor (ki
 pub record ReadsSome (x : ObjectsOf) (o : Opening) (old new : Caller) (id : ℕ) (reading : ClockReading) (a : ReadAnswer) : Type 0 where
   pub made : RearmingMade x o old new id rearmings.Reading reading (replies.Fd (fd_replies.Read a))
   pub descriptor : Descriptor
-  pub found : made.enters.commits.state.object ≡ objects.Fd descriptor
+  pub found : made.enters.commits.state ≡ objects.Fd descriptor
   pub some : is_readable descriptor reading ≡ true
 
 -- A read that waits: a buffer that is too short is refused first, and nothing is other than before; it is refused exactly where the object's history
@@ -72,10 +66,6 @@ ReadsBlocking x o old new id len reading blocking.Canceled =
 
 -- ---- its turns
 
--- a read at this reading, as a call that makes an entry
-abbrev pub read_at : ClockReading → EntryCall
-read_at reading = entry_calls.Rearming rearmings.Reading reading
-
 -- an object is a descriptor that has something to read
 abbrev pub HasSome : ClockReading → Object → Type 0
 HasSome reading object = (t : Descriptor) × (object ≡ objects.Fd t) × (is_readable t reading ≡ true)
@@ -84,27 +74,7 @@ HasSome reading object = (t : Descriptor) × (object ≡ objects.Fd t) × (is_re
 abbrev pub EndsRead : ObjectsOf → Opening → Caller → Caller → ℕ → ClockReading → Ended → Type 0
 EndsRead x o old new id reading (ends.Full n) = FindsFull x old new id n
 EndsRead x o old new id reading (ends.Made n reply) =
-    (made : MakesEntry x o old new id (read_at reading) reply) × HasSome reading made.0.enters.commits.state.object × (n ≡ length (seen_of new.objects id))
-
--- a turn leaves the read to go on
-abbrev pub GoesOn : ReadTurn → Type 0
-GoesOn (turns.Ended e) = ⊥
-GoesOn turns.NothingToRead = Unit {0}
-GoesOn turns.Hindered = Unit {0}
-
--- a turn that only looked, or ended the read
-abbrev pub ReadsOnce : ObjectsOf → Opening → Caller → Caller → ℕ → ClockReading → ReadTurn → Type 0
-ReadsOnce x o old new id reading (turns.Ended e) = EndsRead x o old new id reading e
-ReadsOnce x o old new id reading turns.NothingToRead = HasWaited old new
-ReadsOnce x o old new id reading turns.Hindered = HasWaited old new
-
--- a caller's passes may read this descriptor
-pub record MayRead (x : ObjectsOf) (timers : BaseRowOf) (pass : PassOf) (objects_pass : ObjectsPass) (id : ℕ) : Type 0 where
-  pub of_timers : IsPassOf timers pass
-  pub of_objects : IsObjectsPass x objects_pass
-  pub suits : Suits x timers.about
-  pub within : id < length x.decls
-  pub kind : (decl_at x id).kind ≡ kinds.Fd
+    (made : MakesEntry x o old new id rearmings.Reading reading reply) × HasSome reading made.0.enters.commits.state × (n ≡ length (seen_of new.objects id))
 
 -- ---- the answer
 

@@ -36,8 +36,6 @@ use Rattle.timer_objects.specs.declared.answers.Gettime.{Gettime}
 use Rattle.timer_objects.specs.declared.answers.Gettime.TheVariants as gettimes
 use Rattle.timer_objects.specs.declared.answers.Overrun.{Overrun}
 use Rattle.timer_objects.specs.declared.answers.Readable.{Readable}
-use Rattle.timer_objects.specs.declared.cell.Span.{Span}
-use Rattle.timer_objects.specs.declared.cell.SpannedCall.{SpannedCall}
 use Rattle.timer_objects.specs.declared.log.ObjectReceipt.{ObjectReceipt}
 use Rattle.timer_objects.specs.declared.object.Kind.{Kind}
 use Rattle.timer_objects.specs.declared.object.Kind.TheVariants as kinds
@@ -49,10 +47,10 @@ use Rattle.timer_objects.specs.declared.object.ObjectReply.{ObjectReply}
 use Rattle.timer_objects.specs.declared.object.ObjectReply.TheVariants as replies
 use Rattle.timer_objects.specs.declared.wanting.Rearming.{Rearming}
 use Rattle.timer_objects.specs.declared.wanting.Rearming.TheVariants as rearmings
-use Rattle.timer_objects.specs.Steps.{object_answer, object_step}
-use Rattle.timer_objects.specs.Cells.{MaySpan, cell_meaning, spanned}
+use Rattle.timer_objects.specs.Steps.{ObjectAllows, object_answer, object_step}
+use Rattle.timer_objects.specs.Meaning.{object_meaning}
 use Rattle.timer_objects.specs.Known.{ObjectsOf, ObjectsPass, decl_at, seen_of}
-use Rattle.timer_objects.specs.Arming.{ArmsFor, Disarms, SeesQuietly, Starts, stamp_seen}
+use Rattle.timer_objects.specs.Arming.{ArmsFor, Disarms}
 use Rattle.timer_objects.specs.Turns.{HasTurn, entries_told}
 
 -- what a caller's passes know, and what its logs have
@@ -74,19 +72,18 @@ pub record HasWaited (old new : Caller) : Type 0 where
 -- The history of the object is full. Nothing was done but to look at it, and so many entries stood there when the timers were told of just so many.
 pub record FindsFull (x : ObjectsOf) (old new : Caller) (id n : ℕ) : Type 0 where
   pub looks : LooksOn old.timers new.timers
-  pub reads : ReadsValue cell_meaning old.objects new.objects id
+  pub reads : ReadsValue object_meaning old.objects new.objects id
   pub full : x.limit ≤ n
   pub stamp : n ≡ length (seen_of new.objects id)
   pub told : entries_told id new.timers ≡ n
   pub log : new.log ≡ old.log
   pub object_log : new.object_log ≡ old.object_log
 
--- The call stands last in the object's history, which had room for it; its table allows it, and its span begins where the last one ended, or later.
--- A receipt of it was noted.
-pub record EntersCall (x : ObjectsOf) (old new : Caller) (id : ℕ) (call : SpannedCall) (answer : ObjectReply) : Type 0 where
-  pub commits : Commits cell_meaning old.objects new.objects id call
-  pub reply : answer ≡ object_answer commits.state.object call.call
-  pub may : MaySpan commits.state call
+-- The call stands last in the object's history, which had room for it, and its table allows it. A receipt of it was noted.
+pub record EntersCall (x : ObjectsOf) (old new : Caller) (id : ℕ) (call : ObjectCall) (answer : ObjectReply) : Type 0 where
+  pub commits : Commits object_meaning old.objects new.objects id call
+  pub may : ObjectAllows commits.state call
+  pub reply : answer ≡ object_answer commits.state call
   pub room : length commits.adds.before < x.limit
   pub object_log : new.object_log
       ≡ old.object_log ++ record { object = id; number = length commits.adds.before + 1; call = call; reply = answer } ∷ []
@@ -144,23 +141,19 @@ BearsStart o k t (arms.Armed generation) phase = phase ≡ phases.Armed generati
 BearsStart o k t (arms.Unarmed stamp) phase = phase ≡ phases.Idle
 
 -- A settime with these arguments was made: while the object was locked its timer was disarmed, or seen to be idle; then started where the value
--- isn't zero; then the object's entry was made, of the span of both. All of it is one turn of the object.
+-- isn't zero; then the object's entry was made. All of it is one turn of the object.
 pub record SetsTimer (x : ObjectsOf) (o : Opening) (old new : Caller) (id flags value interval : ℕ) (reading : ClockReading) (a : SettimeAnswer) : Type 0 where
   pub arm : Arm
-  pub span : Span
   pub reply : ObjectReply
-  pub enters : EntersCall x old new id (spanned (settime_by x id flags value interval reading arm) span) reply
+  pub enters : EntersCall x old new id (settime_by x id flags value interval reading arm) reply
   pub begun : KnownOfTimers
   pub worked : KnownOfTimers
   pub turn : HasTurn id (length enters.commits.adds.before) old.timers begun worked new.timers
   pub disarmed : KnownOfTimers
   pub cancel_log : List Receipt
-  pub so_far : Span
-  pub disarms : Disarms o begun disarmed id enters.commits.state.last so_far old.log cancel_log
+  pub disarms : Disarms o begun disarmed id old.log cancel_log
   pub arms : ArmsFor o disarmed worked id (start_by flags value) (decl_at x id).base reading arm cancel_log new.log
-  pub from : span.from ≡ so_far.from
-  pub to : span.to ≡ stamp_seen o worked id
-  pub bears : BearsStart o worked id arm (phase_of (object_step enters.commits.state.object (settime_by x id flags value interval reading arm)))
+  pub bears : BearsStart o worked id arm (phase_of (object_step enters.commits.state (settime_by x id flags value interval reading arm)))
   pub answer : SettimeTells reply a
 
 -- a settime with valid arguments: it is refused exactly where the object's history is full
@@ -179,21 +172,6 @@ Settimes x o old new id flags value interval reading a =
     (SettimeMade x o old new id flags (time_of value) (time_of interval) reading a) (λ refusal. (a ≡ refusal) × (new ≡ old))
 
 -- ---- accept, read, and gettime of a descriptor
-
--- A timer that is to be started was seen, after `from` entries, and started.
-pub record Rearms (o : Opening) (v w : KnownOfTimers) (t last : ℕ) (wanted : Wanted) (base : ℕ) (reading : ClockReading) (arm : Arm) (span : Span)
-    (log log' : List Receipt) : Type 0 where
-  pub begin : KnownOfTimers
-  pub looks : LooksOn v begin
-  pub from : span.from ≡ stamp_seen o begin t
-  pub behind : last ≤ span.from
-  pub starts : Starts o begin w t wanted base reading arm log log'
-  pub to : span.to ≡ stamp_seen o w t
-
--- the same, or no start was wanted: then the timer was only looked at
-abbrev pub RearmsFor : Opening → KnownOfTimers → KnownOfTimers → ℕ → ℕ → Option Wanted → ℕ → ClockReading → Arm → Span → List Receipt → List Receipt → Type 0
-RearmsFor o v w t last None base reading arm span log log' = (arm ≡ arms.NotAsked) × SeesQuietly o v w t last span × (log' ≡ log)
-RearmsFor o v w t last (Some wanted) base reading arm span log log' = Rearms o v w t last wanted base reading arm span log log'
 
 -- the phase of a timer that was armed again has its generation and expiry
 abbrev pub BearsRestart : Opening → KnownOfTimers → ℕ → Arm → Phase → Type 0
@@ -220,14 +198,12 @@ rearming_call rearmings.Getting reading arm = calls.Fd (fd_calls.Gettime reading
 -- object's entry was made. All of it is one turn of the object.
 pub record RearmingMade (x : ObjectsOf) (o : Opening) (old new : Caller) (id : ℕ) (r : Rearming) (reading : ClockReading) (reply : ObjectReply) : Type 0 where
   pub arm : Arm
-  pub span : Span
-  pub enters : EntersCall x old new id (spanned (rearming_call r reading arm) span) reply
+  pub enters : EntersCall x old new id (rearming_call r reading arm) reply
   pub begun : KnownOfTimers
   pub worked : KnownOfTimers
   pub turn : HasTurn id (length enters.commits.adds.before) old.timers begun worked new.timers
-  pub rearms : RearmsFor o begun worked id enters.commits.state.last (wanted_by r enters.commits.state.object reading) (decl_at x id).base reading
-      arm span old.log new.log
-  pub bears : BearsRestart o worked id arm (phase_of (object_step enters.commits.state.object (rearming_call r reading arm)))
+  pub arms : ArmsFor o begun worked id (wanted_by r enters.commits.state reading) (decl_at x id).base reading arm old.log new.log
+  pub bears : BearsRestart o worked id arm (phase_of (object_step enters.commits.state (rearming_call r reading arm)))
 
 -- an accept: it is refused exactly where the object's history is full
 abbrev pub Accepts : ObjectsOf → Opening → Caller → Caller → ℕ → ClockReading → AcceptAnswer → Type 0
@@ -252,8 +228,8 @@ ReadsFd x o old new id len reading reads.Again =
 
 -- an object was looked at when the timers were told of just its entries, and the logs are as before; its state, and so many entries
 pub record LooksAtObject (old new : Caller) (id : ℕ) (object : Object) (n : ℕ) : Type 0 where
-  pub reads : ReadsValue cell_meaning old.objects new.objects id
-  pub state : object ≡ reads.state.object
+  pub reads : ReadsValue object_meaning old.objects new.objects id
+  pub state : object ≡ reads.state
   pub stamp : n ≡ length (seen_of new.objects id)
   pub timers : LooksOn old.timers new.timers
   pub told : entries_told id new.timers ≡ n

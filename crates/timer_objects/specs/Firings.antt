@@ -16,7 +16,7 @@ use Rattle.timer_objects.specs.declared.firing.FiringWith.{FiringWith}
 use Rattle.timer_objects.specs.declared.log.ObjectReceipt.{ObjectReceipt}
 use Rattle.timer_objects.specs.declared.object.ObjectCall.{ObjectCall}
 use Rattle.counted_row.specs.Views.{Knows}
-use Rattle.timer_objects.specs.Cells.{cell_meaning}
+use Rattle.timer_objects.specs.Meaning.{object_meaning}
 use Rattle.timer_objects.specs.Known.{KeepsObjectsPass, decl_at}
 use Rattle.timer_objects.specs.Callbacks.{RunsCallback, bases_of}
 use Rattle.timer_objects.specs.Triggers.{Triggers, trigger_of}
@@ -43,7 +43,7 @@ pub record IsSameLoan (h h' : Firing) : Type 0 where
 pub record LeavesPass (h h' : Firing) : Type 0 where
   pub loan : IsSameLoan h h'
   pub keeps : KeepsObjectsPass h.objects_pass.now h'.objects_pass.now
-  pub knows : Knows cell_meaning h.objects_pass.now.knows → Knows cell_meaning h'.objects_pass.now.knows
+  pub knows : Knows object_meaning h.objects_pass.now.knows → Knows object_meaning h'.objects_pass.now.knows
 
 module _ (o : Opening) (h h' : Firing) (v w : KnownOfTimers) (c : ClaimNumbers) (reading : ClockReading) (restart : Restart) where
   -- a timer by itself runs its callback, and objects are left alone; an object is triggered, and timers are only looked at

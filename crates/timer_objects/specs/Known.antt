@@ -9,16 +9,14 @@ use Rattle.hr_timers.specs.Ways.{most_to_start}
 use Rattle.counted_row.specs.declared.view.Entry.{Entry}
 use Rattle.counted_row.specs.declared.view.Locked.{Locked}
 use Rattle.counted_row.specs.Views.{IsPassOfRow, Knows, PassOfRow, RowOf, committed}
-use Rattle.timer_objects.specs.declared.cell.ObjectCell.{ObjectCell}
-use Rattle.timer_objects.specs.declared.cell.SpannedCall.{SpannedCall}
-use Rattle.timer_objects.specs.declared.cell.Span.{Span}
 use Rattle.timer_objects.specs.declared.log.ObjectReceipt.{ObjectReceipt}
+use Rattle.timer_objects.specs.declared.object.Object.{Object}
 use Rattle.timer_objects.specs.declared.object.ObjectCall.{ObjectCall}
 use Rattle.timer_objects.specs.declared.object.Decl.{Decl}
 use Rattle.timer_objects.specs.declared.object.Kind.TheVariants as kinds
 use Rattle.timer_objects.specs.declared.object.ObjectReply.{ObjectReply}
-use Rattle.timer_objects.specs.Steps.{IsObjectOf, object_answer}
-use Rattle.timer_objects.specs.Cells.{MaySpan, cell_meaning, opened_cells, spanned}
+use Rattle.timer_objects.specs.Steps.{IsObjectOf, ObjectAllows, object_answer}
+use Rattle.timer_objects.specs.Meaning.{object_meaning, opened_objects}
 
 -- objects, and what they were made of
 pub record ObjectsOf : Type 0 where
@@ -27,22 +25,22 @@ pub record ObjectsOf : Type 0 where
   pub limit : ℕ
 
 -- the row that they stand in
-abbrev pub row_of : ObjectsOf → RowOf ObjectCell
-row_of x = record { id = x.id; made = opened_cells x.decls x.limit }
+abbrev pub row_of : ObjectsOf → RowOf Object
+row_of x = record { id = x.id; made = opened_objects x.decls x.limit }
 
 -- a pass of objects, and what it knows
 abbrev pub ObjectsPass : Type 0
-ObjectsPass = PassOfRow ObjectCell SpannedCall ObjectReply
+ObjectsPass = PassOfRow Object ObjectCall ObjectReply
 
 -- a pass of these objects that holds none, and what it knows is true
 pub record IsObjectsPass (x : ObjectsOf) (p : ObjectsPass) : Type 0 where
   pub row : IsPassOfRow (row_of x) p
   pub idle : p.knows.held ≡ None
   pub unclaimed : p.knows.claims ≡ []
-  pub knows : Knows cell_meaning p.knows
+  pub knows : Knows object_meaning p.knows
 
 -- the history of an object, as far as a pass has seen it
-abbrev pub seen_of : ObjectsPass → ℕ → List (Entry SpannedCall ObjectReply)
+abbrev pub seen_of : ObjectsPass → ℕ → List (Entry ObjectCall ObjectReply)
 seen_of p i = entries i p.knows.pass.seen
 
 -- the declaration of an object
@@ -50,30 +48,30 @@ abbrev pub decl_at : ObjectsOf → ℕ → Decl
 decl_at x i = get_or x.decls i (record { kind = kinds.Raw; clock = clocks.Monotonic; base = 0 })
 
 -- a held value is that of its object, with as many entries as the history has
-abbrev pub HoldsObject : ObjectsOf → Locked ObjectCell → Type 0
-HoldsObject x h = IsObjectOf (decl_at x h.index) x.limit h.stamp h.state.object
+abbrev pub HoldsObject : ObjectsOf → Locked Object → Type 0
+HoldsObject x h = IsObjectOf (decl_at x h.index) x.limit h.stamp h.state
 
 -- a pass that holds an object may make this call on it
-pub record MayEnter (x : ObjectsOf) (p : ObjectsPass) (h : Locked ObjectCell) (id : ℕ) (call : ObjectCall) (span : Span) : Type 0 where
+pub record MayEnter (x : ObjectsOf) (p : ObjectsPass) (h : Locked Object) (id : ℕ) (call : ObjectCall) : Type 0 where
   pub row : IsPassOfRow (row_of x) p
   pub unclaimed : p.knows.claims ≡ []
   pub held : p.knows.held ≡ Some h
   pub index : h.index ≡ id
   pub holds : HoldsObject x h
-  pub may : MaySpan h.state (spanned call span)
+  pub may : ObjectAllows h.state call
 
 -- a pass has made this call on the object that it held, and holds none
-pub record Enters (p q : ObjectsPass) (h : Locked ObjectCell) (call : SpannedCall) (answer : ObjectReply) : Type 0 where
+pub record Enters (p q : ObjectsPass) (h : Locked Object) (call : ObjectCall) (answer : ObjectReply) : Type 0 where
   pub row : q.row ≡ p.row
-  pub knows : q.knows ≡ committed cell_meaning h call p.knows
+  pub knows : q.knows ≡ committed object_meaning h call p.knows
   pub adds : Adds p.knows.pass q.knows.pass h.index (record { call = call; reply = answer } ∷ [])
-  pub reply : answer ≡ object_answer h.state.object call.call
+  pub reply : answer ≡ object_answer h.state call
   pub count : length (seen_of q h.index) ≡ h.stamp + 1
-  pub may : MaySpan h.state call
+  pub may : ObjectAllows h.state call
 
 -- the receipt of a call on a held object
-abbrev pub receipt_of : Locked ObjectCell → SpannedCall → ObjectReceipt
-receipt_of h call = record { object = h.index; number = h.stamp + 1; call = call; reply = object_answer h.state.object call.call }
+abbrev pub receipt_of : Locked Object → ObjectCall → ObjectReceipt
+receipt_of h call = record { object = h.index; number = h.stamp + 1; call = call; reply = object_answer h.state call }
 
 -- There are as many timers as objects, each declared on its object's clock, and each object's base is one of theirs. The timers have a counter for each
 -- object, behind the clock's.

@@ -1,5 +1,5 @@
 pub mod Steps
-pub mod Cells
+pub mod Meaning
 pub mod Known
 pub mod Turns
 pub mod Arming

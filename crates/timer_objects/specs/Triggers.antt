@@ -1,5 +1,5 @@
 -- What the expiry of its timer does to an object.
-use Rattle.std.specs.Prelude.{ℕ, ◌≡◌, ◌+◌, ◌-◌, ◌<◌, ◌≤◌, ◌⊎◌, List, [], ◌∷◌, ◌++◌, length, Option, Some, None}
+use Rattle.std.specs.Prelude.{ℕ, ◌≡◌, ◌+◌, ◌<◌, ◌≤◌, ◌⊎◌, List, [], ◌∷◌, ◌++◌, length, Option, Some, None}
 use Rattle.ktime.specs.Readings.{ClockReading}
 use Rattle.pass_names.specs.SharedHistory.{LooksOn}
 use Rattle.hr_timers.specs.declared.numbers.ClaimNumbers.{ClaimNumbers}
@@ -10,8 +10,6 @@ use Rattle.posix_timer.specs.declared.calls.Call.TheVariants as posix_calls
 use Rattle.posix_timer.specs.declared.calls.Reply.TheVariants as posix_replies
 use Rattle.timer_fd.specs.declared.calls.Call.TheVariants as fd_calls
 use Rattle.timer_fd.specs.declared.calls.Reply.TheVariants as fd_replies
-use Rattle.timer_objects.specs.declared.cell.Span.{Span}
-use Rattle.timer_objects.specs.declared.cell.SpannedCall.{SpannedCall}
 use Rattle.timer_objects.specs.declared.log.ObjectReceipt.{ObjectReceipt}
 use Rattle.timer_objects.specs.declared.object.Kind.{Kind}
 use Rattle.timer_objects.specs.declared.object.Kind.TheVariants as kinds
@@ -19,8 +17,8 @@ use Rattle.timer_objects.specs.declared.object.ObjectCall.{ObjectCall}
 use Rattle.timer_objects.specs.declared.object.ObjectCall.TheVariants as calls
 use Rattle.timer_objects.specs.declared.object.ObjectReply.{ObjectReply}
 use Rattle.timer_objects.specs.declared.object.ObjectReply.TheVariants as replies
-use Rattle.timer_objects.specs.Steps.{object_answer}
-use Rattle.timer_objects.specs.Cells.{MaySpan, cell_meaning, spanned}
+use Rattle.timer_objects.specs.Steps.{ObjectAllows, object_answer}
+use Rattle.timer_objects.specs.Meaning.{object_meaning}
 use Rattle.timer_objects.specs.Known.{ObjectsOf, ObjectsPass, seen_of}
 use Rattle.timer_objects.specs.Turns.{HasTurn, entries_told}
 
@@ -35,32 +33,28 @@ abbrev pub trigger_refused : ObjectCall → ℕ → ObjectReply
 trigger_refused (calls.Posix c) n = replies.Posix (posix_replies.Trigger (triggers.Spent n))
 trigger_refused (calls.Fd c) n = replies.Fd (fd_replies.Trigger (triggers.Spent n))
 
--- the span of a claim's own entry
-abbrev pub span_of : ClaimNumbers → Span
-span_of c = record { from = c.number - 1; to = c.number }
-
 module _ (x : ObjectsOf) (p q : ObjectsPass) (log log' : List ObjectReceipt) (v w : KnownOfTimers) where
   -- The trigger stands last in the object's history, which had room for it, and a receipt of it was noted. It had a turn of the object, in which it did
   -- nothing to the timer.
-  pub record EntersTrigger (id : ℕ) (call : SpannedCall) : Type 0 where
-    pub commits : Commits cell_meaning p q id call
-    pub may : MaySpan commits.state call
+  pub record EntersTrigger (id : ℕ) (call : ObjectCall) : Type 0 where
+    pub commits : Commits object_meaning p q id call
+    pub may : ObjectAllows commits.state call
     pub room : length commits.adds.before < x.limit
     pub begun : KnownOfTimers
     pub turn : HasTurn id (length commits.adds.before) v begun begun w
     pub receipt : log'
-        ≡ log ++ record { object = id; number = length commits.adds.before + 1; call = call; reply = object_answer commits.state.object call.call } ∷ []
+        ≡ log ++ record { object = id; number = length commits.adds.before + 1; call = call; reply = object_answer commits.state call } ∷ []
 
   -- The history of the object is full. Nothing was done but to look at it when the timers were told of just its entries, and a receipt says that the trigger
   -- was refused, at so many entries.
-  pub record SkipsTrigger (id : ℕ) (call : SpannedCall) : Type 0 where
-    pub reads : ReadsValue cell_meaning p q id
+  pub record SkipsTrigger (id : ℕ) (call : ObjectCall) : Type 0 where
+    pub reads : ReadsValue object_meaning p q id
     pub full : x.limit ≤ length (seen_of q id)
     pub looks : LooksOn v w
     pub told : entries_told id w ≡ length (seen_of q id)
     pub receipt : log'
-        ≡ log ++ record { object = id; number = length (seen_of q id); call = call; reply = trigger_refused call.call (length (seen_of q id)) } ∷ []
+        ≡ log ++ record { object = id; number = length (seen_of q id); call = call; reply = trigger_refused call (length (seen_of q id)) } ∷ []
 
   -- a claim of its timer triggers the object, unless that one's history is full
   abbrev pub Triggers : ClaimNumbers → ObjectCall → Type 0
-  Triggers c call = EntersTrigger c.timer (spanned call (span_of c)) ⊎ SkipsTrigger c.timer (spanned call (span_of c))
+  Triggers c call = EntersTrigger c.timer call ⊎ SkipsTrigger c.timer call

@@ -1,12 +1,18 @@
 -- What stands between the steps of a settime.
-use Rattle.std.specs.Prelude.{ℕ, ◌≡◌, ◌≤◌}
+use Rattle.std.specs.Prelude.{ℕ, ◌≡◌, ◌≤◌, List, Option}
+use Rattle.ktime.specs.Readings.{ClockReading}
 use Rattle.ktime.specs.Times.{last_time}
+use Rattle.base_row.specs.declared.log.Receipt.{Receipt}
+use Rattle.base_row.specs.declared.view.Opening.{Opening}
+use Rattle.hr_timers.specs.Known.{KnownOfTimers}
 use Rattle.timer_setting.specs.Arguments.{bits_beyond}
 use Rattle.timer_setting.specs.declared.arming.Arm.{Arm}
-use Rattle.timer_setting.specs.declared.arming.Arm.TheVariants as arms
+use Rattle.timer_setting.specs.declared.arming.Wanted.{Wanted}
+use Rattle.timer_setting.specs.declared.settime_call.SettimeCall.{SettimeCall}
 use Rattle.timer_objects.specs.declared.object.Kind.{Kind}
 use Rattle.timer_objects.specs.declared.object.ObjectReply.{ObjectReply}
 use Rattle.timer_objects.specs.declared.settime.ValidSettime.{ValidSettime}
+use Rattle.timer_objects.specs.Arming.{ArmsFor, Disarms}
 use Rattle.timer_objects.specs.Calls.{SettimeTells, flags_of}
 use Rattle.timer_fd.specs.declared.answers.SettimeAnswer.{SettimeAnswer}
 
@@ -16,12 +22,18 @@ pub record IsValidSettime (kind : Kind) (v : ValidSettime) : Type 0 where
   pub value : v.value ≤ last_time
   pub interval : v.interval ≤ last_time
 
--- the number of entries of a timer after a start with this outcome
-abbrev pub end_by : Arm → ℕ → ℕ
-end_by arms.NotAsked before = before
-end_by (arms.Armed generation) before = generation
-end_by (arms.Unarmed stamp) before = stamp
-
 -- a settime that made an entry has this reply
 abbrev pub IsSettimeReply : ObjectReply → Type 0
 IsSettimeReply reply = (a : SettimeAnswer) × SettimeTells reply a
+
+-- a settime, with the outcome of the start that it wanted
+abbrev pub settime_with : ValidSettime → Arm → SettimeCall
+settime_with v arm = record { flags = v.flags; value = v.value; interval = v.interval; reading = v.reading; arm = arm }
+
+-- a timer was disarmed, and then started where that was wanted
+pub record SetsAnew (o : Opening) (v w : KnownOfTimers) (t : ℕ) (wanted : Option Wanted) (base : ℕ) (reading : ClockReading) (arm : Arm)
+    (log log' : List Receipt) : Type 0 where
+  pub disarmed : KnownOfTimers
+  pub cancel_log : List Receipt
+  pub disarms : Disarms o v disarmed t log cancel_log
+  pub arms : ArmsFor o disarmed w t wanted base reading arm cancel_log log'

@@ -6,35 +6,22 @@ ghost use Rattle.hr_timers.specs.Known.{IsPassOf};
 ghost use Rattle.timer_objects.specs.declared.object.Kind.TheVariants as kinds;
 ghost use Rattle.timer_objects.specs.Known.{IsObjectsPass, Suits, decl_at, most_noted};
 ghost use Rattle.timer_objects.specs.Calls.{HasWaited};
-ghost use Rattle.timer_objects.specs.Rearming.{KeepsNames, LeavesPasses, caller_of};
-ghost use Rattle.timer_objects.specs.BlockingReads.{AnswersBy, EndedByRead, EndsRead, GoesOn, HasSome, MayRead, ReadsBlocking, ReadsOnce};
+ghost use Rattle.timer_objects.specs.Rearming.{KeepsNames, LeavesPasses, MayCall, caller_of};
+ghost use Rattle.timer_objects.specs.BlockingReads.{AnswersBy, EndedByRead, EndsRead, HasSome, ReadsBlocking};
 
 use crate::answers::BlockingRead;
-use crate::cell::ObjectCell;
 use crate::log::ObjectLog;
 use crate::object::{Object, ObjectReply};
 use crate::objects::Objects;
 use crate::readers::Reader;
-use crate::wanting::{COUNT_LENGTH, Ended, EntryCall, Rearming};
+use crate::wanting::{COUNT_LENGTH, Ended, Rearming};
 use clock_cell::{ClockPass, SharedClock};
 use counted_row::RowPass;
 use expire_pass::Log;
 use hr_timers::{Pass, Timers};
 use ktime::Reading;
-use pass_names::Retries;
 use std::sync::Wait;
 use timer_fd::ReadAnswer;
-
-/// What a turn of such a read came to.
-#[derive(Clone, Copy, Debug, PartialEq, Eq)]
-pub enum ReadTurn {
-    /// It ended the read.
-    Ended(Ended),
-    /// There is nothing to read yet.
-    NothingToRead,
-    /// The timer can't be set yet.
-    Hindered,
-}
 
 impl Objects {
     /// Reads how often a reader's descriptor has expired, as `read` does, but waits while there is nothing to read (`read(2)` of a descriptor
@@ -45,7 +32,7 @@ impl Objects {
         rt: &R,
         timers: &Timers,
         pass: &mut Pass,
-        objects_pass: &mut RowPass<ObjectCell>,
+        objects_pass: &mut RowPass<Object>,
         log: &mut Log,
         object_log: &mut ObjectLog,
         reader: &mut Reader,
@@ -93,20 +80,21 @@ impl Objects {
         unreachable!()
     }
 
-    /// Reads if there is something to read, and tries again while the timer can't be set yet.
+    /// Reads if there is something to read, while the descriptor is locked.
     fn try_read<R: Wait>(
         &self,
         rt: &R,
         timers: &Timers,
         pass: &mut Pass,
-        objects_pass: &mut RowPass<ObjectCell>,
+        objects_pass: &mut RowPass<Object>,
         log: &mut Log,
         object_log: &mut ObjectLog,
         id: u32,
         clock: &SharedClock,
         clock_pass: &mut ClockPass,
     ) -> Option<Ended>
-        requires may { MayRead self.now timers.now pass.old objects_pass.old id }
+        requires may { MayCall self.now timers.now pass.old objects_pass.old id }
+        requires kind { (decl_at self.now id).kind ≡ kinds.Fd }
         requires clock { IsPassOfClock clock.now clock_pass.old }
         requires room { (most_noted self.now timers.now.about id ≤ log.old.spare) × (1 ≤ object_log.old.spare) }
         ensures leaves { LeavesPasses self.now timers.now pass.new objects_pass.new }
@@ -116,62 +104,17 @@ impl Objects {
         ensures again { IfNone result ((log.new ≡ log.old) × (object_log.new ≡ object_log.old)) }
         ensures room { (log.old.spare ≤ log.new.spare + most_noted self.now timers.now.about id) × (object_log.old.spare ≤ object_log.new.spare + 1) }
     {
-        for _ in Retries::new(rt) {
-            let turn = self.read_once(
-                rt,
-                timers,
-                pass,
-                objects_pass,
-                log,
-                object_log,
-                id,
-                clock,
-                clock_pass,
-            );
-            match turn {
-                ReadTurn::Ended(ended) => return Some(ended),
-                ReadTurn::NothingToRead => return None,
-                ReadTurn::Hindered => {}
-            }
-        }
-        unreachable!()
-    }
-
-    /// One turn, while the descriptor is locked.
-    fn read_once<R: Wait>(
-        &self,
-        rt: &R,
-        timers: &Timers,
-        pass: &mut Pass,
-        objects_pass: &mut RowPass<ObjectCell>,
-        log: &mut Log,
-        object_log: &mut ObjectLog,
-        id: u32,
-        clock: &SharedClock,
-        clock_pass: &mut ClockPass,
-    ) -> ReadTurn
-        requires may { MayRead self.now timers.now pass.old objects_pass.old id }
-        requires clock { IsPassOfClock clock.now clock_pass.old }
-        requires room { (most_noted self.now timers.now.about id ≤ log.old.spare) × (1 ≤ object_log.old.spare) }
-        ensures leaves { LeavesPasses self.now timers.now pass.new objects_pass.new }
-        ensures clock { IsPassOfClock clock.now clock_pass.new }
-        ensures looks { Looks clock_pass.old.knows.pass clock_pass.new.knows.pass }
-        ensures reads { ReadsOnce self.now timers.now.about (caller_of pass.old objects_pass.old log.old object_log.old) (caller_of pass.new objects_pass.new log.new object_log.new) id (seen_reading clock_pass.new.knows) result }
-        ensures again { GoesOn result → (log.new ≡ log.old) × (object_log.new ≡ object_log.old) }
-        ensures room { (log.old.spare ≤ log.new.spare + most_noted self.now timers.now.about id) × (object_log.old.spare ≤ object_log.new.spare + 1) }
-    {
         let held = self.lock_in_turn(rt, timers, pass, objects_pass, id);
         let reading = clock.read(rt, clock_pass);
         if self.is_full(&held) {
             let stamp = self.release(objects_pass, held);
-            return ReadTurn::Ended(Ended::Full { stamp });
+            return Some(Ended::Full { stamp });
         }
-        if !has_some(&held.state().object, reading) {
+        if !has_some(held.state(), reading) {
             self.release(objects_pass, held);
-            return ReadTurn::NothingToRead;
+            return None;
         }
-        let asked = EntryCall::Rearming(Rearming::Reading, reading);
-        let made = self.make_held(
+        let ended = self.rearm_held(
             rt,
             timers,
             pass,
@@ -179,13 +122,11 @@ impl Objects {
             log,
             object_log,
             id,
-            &asked,
+            Rearming::Reading,
+            reading,
             held,
         );
-        match made {
-            Some(ended) => ReadTurn::Ended(ended),
-            None => ReadTurn::Hindered,
-        }
+        Some(ended)
     }
 }
 

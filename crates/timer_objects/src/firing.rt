@@ -4,8 +4,8 @@ ghost use Rattle.counted_row.specs.Views.{IsPassOfRow};
 ghost use Rattle.timer_objects.specs.Known.{IsObjectsPass, row_of};
 
 use crate::callback::{Callback, run};
-use crate::cell::ObjectCell;
 use crate::log::ObjectLog;
+use crate::object::Object;
 use crate::objects::Objects;
 use crate::trigger::{trigger, trigger_of};
 use counted_row::RowPass;
@@ -19,7 +19,7 @@ use std::sync::Wait;
 /// objects and a pass of theirs, and owns the logs of what it does.
 pub struct FiringWith<'a, L, K> {
     objects: &'a Objects,
-    objects_pass: &'a mut RowPass<ObjectCell>,
+    objects_pass: &'a mut RowPass<Object>,
     callbacks: &'a [Callback],
     log: L,
     object_log: K,
@@ -38,7 +38,7 @@ impl<'a> FiringWith<'a, Log, ObjectLog> {
     pub fn make(
         alloc: Global,
         objects: &'a Objects,
-        objects_pass: &'a mut RowPass<ObjectCell>,
+        objects_pass: &'a mut RowPass<Object>,
         callbacks: &'a [Callback],
     ) -> FiringWith<'a, Log, ObjectLog>
         requires pass { IsObjectsPass objects.now objects_pass.old }

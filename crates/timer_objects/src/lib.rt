@@ -3,7 +3,6 @@
 
 pub use answers::{BlockingRead, Gettime, Overrun, Readable};
 pub use callback::Callback;
-pub use cell::{ObjectCell, Span, SpannedCall};
 pub use firing::{Firing, FiringWith};
 pub use log::{ObjectLog, ObjectReceipt};
 pub use object::{Decl, Kind, Object, ObjectCall, ObjectReply};
@@ -14,7 +13,6 @@ mod answers;
 mod arming;
 mod blocking;
 mod callback;
-mod cell;
 mod entries;
 mod firing;
 mod log;

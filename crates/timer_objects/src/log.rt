@@ -1,8 +1,7 @@
 //! A log of a caller's own entries of objects.
 ghost use Rattle.std.specs.Prelude.{◌≡◌, ◌<◌, ◌+◌, [], ◌∷◌, ◌++◌};
 
-use crate::cell::SpannedCall;
-use crate::object::ObjectReply;
+use crate::object::{ObjectCall, ObjectReply};
 use expire_pass::ReceiptLog;
 
 /// An entry of an object, with its number among the object's; or, where the reply is that the object's history is full, a trigger that was
@@ -11,7 +10,7 @@ use expire_pass::ReceiptLog;
 pub struct ObjectReceipt {
     pub object: u32,
     pub number: u64,
-    pub call: SpannedCall,
+    pub call: ObjectCall,
     pub reply: ObjectReply,
 }
 
@@ -23,7 +22,7 @@ pub(crate) fn note(
     log: &mut ObjectLog,
     object: u32,
     number: u64,
-    call: SpannedCall,
+    call: ObjectCall,
     reply: ObjectReply,
 )
     requires room { 0 < log.old.spare }

@@ -10,11 +10,10 @@ ghost use Rattle.timer_objects.specs.Calls.{Gettimes, LooksOverrun, LooksReadabl
 ghost use Rattle.timer_objects.specs.Rearming.{FindsObject, KeepsNames, caller_of};
 
 use crate::answers::{Gettime, Overrun, Readable};
-use crate::cell::ObjectCell;
 use crate::log::ObjectLog;
 use crate::object::{Kind, Object, ObjectReply};
 use crate::objects::Objects;
-use crate::wanting::{Ended, EntryCall, Rearming};
+use crate::wanting::{Ended, Rearming};
 use counted_row::RowPass;
 use expire_pass::Log;
 use hr_timers::{Pass, Timers};
@@ -30,7 +29,7 @@ impl Objects {
         rt: &R,
         timers: &Timers,
         pass: &mut Pass,
-        objects_pass: &mut RowPass<ObjectCell>,
+        objects_pass: &mut RowPass<Object>,
         log: &mut Log,
         object_log: &mut ObjectLog,
         id: u32,
@@ -63,8 +62,8 @@ impl Objects {
                 }
             }
             Kind::Fd => {
-                let asked = &EntryCall::Rearming(Rearming::Getting, reading);
-                match self.ask(rt, timers, pass, objects_pass, log, object_log, id, asked) {
+                let call = Rearming::Getting;
+                match self.rearm(rt, timers, pass, objects_pass, log, object_log, id, call, reading) {
                     Ended::Full { stamp } => Gettime::Spent { stamp },
                     Ended::Made {
                         stamp,
@@ -88,7 +87,7 @@ impl Objects {
         rt: &R,
         timers: &Timers,
         pass: &mut Pass,
-        objects_pass: &mut RowPass<ObjectCell>,
+        objects_pass: &mut RowPass<Object>,
         id: u32,
     ) -> (Object, u64)
         requires pass { IsPassOf timers.now pass.old }
@@ -104,7 +103,7 @@ impl Objects {
         ensures kind { IsObjectOf (decl_at self.now id) self.now.limit result.1 result.0 }
     {
         let held = self.lock_in_turn(rt, timers, pass, objects_pass, id);
-        let object = held.state().object;
+        let object = *held.state();
         let stamp = self.release(objects_pass, held);
         (object, stamp)
     }
@@ -115,7 +114,7 @@ impl Objects {
         rt: &R,
         timers: &Timers,
         pass: &mut Pass,
-        objects_pass: &mut RowPass<ObjectCell>,
+        objects_pass: &mut RowPass<Object>,
         _log: &mut Log,
         _object_log: &mut ObjectLog,
         id: u32,
@@ -148,7 +147,7 @@ impl Objects {
         rt: &R,
         timers: &Timers,
         pass: &mut Pass,
-        objects_pass: &mut RowPass<ObjectCell>,
+        objects_pass: &mut RowPass<Object>,
         _log: &mut Log,
         _object_log: &mut ObjectLog,
         id: u32,

@@ -1,7 +1,7 @@
 //! What an object is, and its calls that make an entry.
 ghost use Rattle.std.specs.Prelude.{◌≡◌, ◌≤◌, ◌<◌};
 ghost use Rattle.timer_setting.specs.Settimes.{most_entries};
-ghost use Rattle.timer_objects.specs.Steps.{ObjectAllows, object_answer, object_step, opened_object};
+ghost use Rattle.timer_objects.specs.Steps.{opened_object};
 
 use ktime::ClockId;
 use posix_timer::PosixState;
@@ -27,7 +27,7 @@ pub struct Decl {
 }
 
 /// An object. A timer by itself has no calls.
-#[derive(Clone, Copy, Debug, PartialEq, Eq)]
+#[derive(Clone, Copy, Debug, PartialEq, Eq, Drop)]
 pub enum Object {
     Raw,
     Posix(PosixState),
@@ -35,7 +35,7 @@ pub enum Object {
 }
 
 /// A call that makes an entry in an object's history.
-#[derive(Clone, Copy, Debug, PartialEq, Eq)]
+#[derive(Clone, Copy, Debug, PartialEq, Eq, Drop)]
 pub enum ObjectCall {
     Posix(posix_timer::Call),
     Fd(timer_fd::Call),
@@ -63,14 +63,19 @@ impl Object {
             Kind::Fd => Object::Fd(FdState::make(decl.clock, decl.base, limit)),
         }
     }
+}
 
-    /// Makes the entry of a call.
-    pub fn apply(&mut self, call: ObjectCall) -> ObjectReply
-        requires allowed { ObjectAllows self.old call }
-        ensures state { self.new ≡ object_step self.old call }
-        ensures reply { result ≡ object_answer self.old call }
-    {
-        match (self, call) {
+impl counted_row::Object for Object {
+    type Call = ObjectCall;
+
+    type Reply = ObjectReply;
+
+    ghost use Rattle.timer_objects.specs.Meaning.{object_meaning};
+
+    ghost meaning = { object_meaning };
+
+    fn apply(&mut self, call: &ObjectCall) -> ObjectReply {
+        match (self, *call) {
             (Object::Posix(timer), ObjectCall::Posix(call)) => {
                 ObjectReply::Posix(timer.apply(call))
             }
@@ -78,4 +83,6 @@ impl Object {
             _ => ObjectReply::None,
         }
     }
+
+    fn counts() {}
 }

@@ -6,10 +6,9 @@ ghost use Rattle.timer_setting.specs.Settimes.{most_entries};
 ghost use Rattle.counted_row.specs.Views.{IsPassOfRow, Knows, Locks, first_view, new_view, released, split_view};
 ghost use Rattle.timer_objects.specs.declared.object.ObjectCall.TheVariants as calls;
 ghost use Rattle.timer_objects.specs.BlockingReads.{descriptors_below};
-ghost use Rattle.timer_objects.specs.Cells.{cell_meaning, opened_cell, opened_cells, spanned};
+ghost use Rattle.timer_objects.specs.Meaning.{object_meaning, opened_objects};
 ghost use Rattle.timer_objects.specs.Known.{Enters, HoldsObject, IsObjectsPass, MayEnter, decl_at, receipt_of, row_of, seen_of};
 
-use crate::cell::{ObjectCell, Span, SpannedCall};
 use crate::log::{ObjectLog, note};
 use crate::object::{Decl, Kind, Object, ObjectCall, ObjectReply};
 use crate::readers::{Bells, Reader};
@@ -21,7 +20,7 @@ use std::sync::Wait;
 /// POSIX timers, timer descriptors and timers by themselves, each over the timer of the same number.
 #[derive(Drop)]
 pub struct Objects {
-    row: Row<ObjectCell>,
+    row: Row<Object>,
     decls: Vec<Decl>,
     limit: u64,
     bells: Bells,
@@ -31,14 +30,14 @@ impl Model for Objects {
     ghost use Rattle.std.specs.Prelude.{◌≡◌, ◌≤◌, ◌<◌, length};
     ghost use Rattle.timer_setting.specs.Settimes.{most_entries};
     ghost use Rattle.timer_objects.specs.declared.object.ObjectCall.TheVariants as calls;
-    ghost use Rattle.timer_objects.specs.Cells.{opened_cells};
+    ghost use Rattle.timer_objects.specs.Meaning.{opened_objects};
     ghost use Rattle.timer_objects.specs.Known.{ObjectsOf};
 
     ghost Value = { ObjectsOf };
 
     ghost view = { λ o. record { id = o.row.id; decls = o.decls.items; limit = o.limit } };
 
-    ghost invariant = { λ o. (o.row.made ≡ opened_cells o.decls.items o.limit) × (0 < o.limit) × (o.limit ≤ most_entries) };
+    ghost invariant = { λ o. (o.row.made ≡ opened_objects o.decls.items o.limit) × (0 < o.limit) × (o.limit ≤ most_entries) };
 }
 
 impl Objects {
@@ -48,12 +47,12 @@ impl Objects {
         alloc: Global,
         decls: &[Decl],
         max_events: u64,
-    ) -> Result<(Objects, RowPass<ObjectCell>), AllocError>
+    ) -> Result<(Objects, RowPass<Object>), AllocError>
         requires some { 0 < max_events }
         requires few { max_events ≤ most_entries }
         ensures made { IfOk result (λ r. (r.0.decls ≡ decls.now) × (r.0.limit ≡ max_events)) }
         ensures pass { IfOk result (λ r. IsObjectsPass r.0 r.1) }
-        ensures first { IfOk result (λ r. r.1.knows ≡ first_view (opened_cells decls.now max_events)) }
+        ensures first { IfOk result (λ r. r.1.knows ≡ first_view (opened_objects decls.now max_events)) }
     {
         Objects::with_bells(alloc, decls, max_events, Bells::none(alloc))
     }
@@ -63,13 +62,13 @@ impl Objects {
         alloc: Global,
         decls: &[Decl],
         max_events: u64,
-    ) -> Result<(Objects, RowPass<ObjectCell>, Vec<Reader>), AllocError>
+    ) -> Result<(Objects, RowPass<Object>, Vec<Reader>), AllocError>
         requires some { 0 < max_events }
         requires few { max_events ≤ most_entries }
         requires numbers { length decls.now ≤ 2 ^ 32 }
         ensures made { IfOk result (λ r. (r.0.decls ≡ decls.now) × (r.0.limit ≡ max_events)) }
         ensures pass { IfOk result (λ r. IsObjectsPass r.0 r.1) }
-        ensures first { IfOk result (λ r. r.1.knows ≡ first_view (opened_cells decls.now max_events)) }
+        ensures first { IfOk result (λ r. r.1.knows ≡ first_view (opened_objects decls.now max_events)) }
         ensures readers { IfOk result (λ r. r.2.items ≡ descriptors_below decls.now (length decls.now)) }
     {
         let (bells, readers) = Bells::of_descriptors(alloc, decls)?;
@@ -83,17 +82,16 @@ impl Objects {
         decls: &[Decl],
         max_events: u64,
         bells: Bells,
-    ) -> Result<(Objects, RowPass<ObjectCell>), AllocError>
+    ) -> Result<(Objects, RowPass<Object>), AllocError>
         requires some { 0 < max_events }
         requires few { max_events ≤ most_entries }
         ensures made { IfOk result (λ r. (r.0.decls ≡ decls.now) × (r.0.limit ≡ max_events)) }
         ensures pass { IfOk result (λ r. IsObjectsPass r.0 r.1) }
-        ensures first { IfOk result (λ r. r.1.knows ≡ first_view (opened_cells decls.now max_events)) }
+        ensures first { IfOk result (λ r. r.1.knows ≡ first_view (opened_objects decls.now max_events)) }
     {
         let mut kept = Vec::new(alloc);
         kept.extend_from_slice(decls)?;
-        let cells = cells_of(alloc, decls, max_events)?;
-        let (row, pass) = Row::make(alloc, cells)?;
+        let (row, pass) = Row::make(alloc, opened(alloc, decls, max_events)?)?;
         let objects = Objects {
             row,
             decls: kept,
@@ -136,32 +134,25 @@ impl Objects {
         self.decls.len()
     }
 
-    /// The number of entries at which an object's history is full.
-    pub(crate) fn limit(&self) -> u64
-        ensures { result ≡ self.now.limit }
-    {
-        self.limit
-    }
-
     /// Waits until the lock of an object is free, and takes it.
     pub(crate) fn lock<R: Wait>(
         &self,
         rt: &R,
-        pass: &mut RowPass<ObjectCell>,
+        pass: &mut RowPass<Object>,
         id: u32,
-    ) -> Held<ObjectCell>
+    ) -> Held<Object>
         requires row { IsPassOfRow (row_of self.now) pass.old }
         requires idle { pass.old.knows.held ≡ None }
         requires within { id < length self.now.decls }
         ensures row { IsPassOfRow (row_of self.now) pass.new }
-        ensures locks { Locks cell_meaning pass.old pass.new id result }
+        ensures locks { Locks object_meaning pass.old pass.new id result }
         ensures holds { HoldsObject self.now result }
     {
         self.row.lock(rt, pass, id as usize)
     }
 
     /// Whether the history of a held object is full.
-    pub(crate) fn is_full(&self, held: &Held<ObjectCell>) -> bool
+    pub(crate) fn is_full(&self, held: &Held<Object>) -> bool
         ensures { MatchBool result (self.now.limit ≤ held.now.stamp) (held.now.stamp < self.now.limit) }
     {
         held.stamp() >= self.limit
@@ -170,34 +161,26 @@ impl Objects {
     /// Makes a call on a held object, notes the receipt, and lets the object's lock go.
     pub(crate) fn enter(
         &self,
-        pass: &mut RowPass<ObjectCell>,
-        held: Held<ObjectCell>,
+        pass: &mut RowPass<Object>,
+        held: Held<Object>,
         log: &mut ObjectLog,
         id: u32,
         call: &ObjectCall,
-        span: Span,
     ) -> ObjectReply
-        requires may { MayEnter self.now pass.old held id call.now span }
+        requires may { MayEnter self.now pass.old held id call.now }
         requires room { 0 < log.old.spare }
         ensures pass { IsObjectsPass self.now pass.new }
-        ensures enters { Enters pass.old pass.new held (spanned call.now span) result }
-        ensures receipt { log.new.receipts ≡ log.old.receipts ++ receipt_of held (spanned call.now span) ∷ [] }
+        ensures enters { Enters pass.old pass.new held call.now result }
+        ensures receipt { log.new.receipts ≡ log.old.receipts ++ receipt_of held call.now ∷ [] }
         ensures spare { log.new.spare + 1 ≡ log.old.spare }
     {
-        // Each kind by itself, since the check of a commit has to see the type of its calls.
-        let (number, reply) = match *call {
-            ObjectCall::Posix(call) => {
-                self.row
-                    .commit(pass, held, span.of(ObjectCall::Posix(call)))
-            }
-            ObjectCall::Fd(call) => self.row.commit(pass, held, span.of(ObjectCall::Fd(call))),
-        };
-        note(log, id, number, span.of(*call), reply);
+        let (number, reply) = self.row.commit(pass, held, *call);
+        note(log, id, number, *call, reply);
         reply
     }
 
     /// Lets the lock of a held object go, and answers how many entries the object's history has.
-    pub(crate) fn release(&self, pass: &mut RowPass<ObjectCell>, held: Held<ObjectCell>) -> u64
+    pub(crate) fn release(&self, pass: &mut RowPass<Object>, held: Held<Object>) -> u64
         requires row { IsPassOfRow (row_of self.now) pass.old }
         requires unclaimed { pass.old.knows.claims ≡ [] }
         requires held { pass.old.knows.held ≡ Some held }
@@ -210,7 +193,7 @@ impl Objects {
     }
 
     /// Makes one more pass, which has seen as much.
-    pub fn split(&self, pass: &mut RowPass<ObjectCell>) -> RowPass<ObjectCell>
+    pub fn split(&self, pass: &mut RowPass<Object>) -> RowPass<Object>
         requires pass { IsObjectsPass self.now pass.old }
         ensures pass { IsObjectsPass self.now pass.new × IsObjectsPass self.now result }
         ensures splitter { pass.new.knows ≡ split_view pass.old.knows }
@@ -220,7 +203,7 @@ impl Objects {
     }
 
     /// Two passes tell each other what they have seen.
-    pub fn meet(&self, a: &mut RowPass<ObjectCell>, b: &mut RowPass<ObjectCell>)
+    pub fn meet(&self, a: &mut RowPass<Object>, b: &mut RowPass<Object>)
         requires pass { IsObjectsPass self.now a.old × IsObjectsPass self.now b.old }
         ensures pass { IsObjectsPass self.now a.new × IsObjectsPass self.now b.new }
         ensures meets { Meets a.old.knows.pass b.old.knows.pass a.new.knows.pass b.new.knows.pass }
@@ -229,7 +212,7 @@ impl Objects {
     }
 
     /// A pass takes in another, which was split off it, or off one that it took in.
-    pub fn join(&self, main: &mut RowPass<ObjectCell>, other: RowPass<ObjectCell>)
+    pub fn join(&self, main: &mut RowPass<Object>, other: RowPass<Object>)
         requires pass { IsObjectsPass self.now main.old × IsObjectsPass self.now other }
         requires answers { AnswersFor main.old.knows.pass.id other.knows.pass.id }
         ensures pass { IsObjectsPass self.now main.new }
@@ -239,7 +222,7 @@ impl Objects {
     }
 
     /// Ends objects with their last pass.
-    pub fn close(self, pass: RowPass<ObjectCell>)
+    pub fn close(self, pass: RowPass<Object>)
         requires pass { IsObjectsPass self pass }
         requires last { IsLast pass.knows.pass.id }
 
@@ -256,23 +239,14 @@ impl Objects {
     }
 }
 
-/// What the row keeps of each of these objects at first.
-fn cells_of(alloc: Global, decls: &[Decl], limit: u64) -> Result<Vec<ObjectCell>, AllocError>
+/// These objects as they are at first.
+fn opened(alloc: Global, decls: &[Decl], limit: u64) -> Result<Vec<Object>, AllocError>
     requires some { 0 < limit }
     requires few { limit ≤ most_entries }
-    ensures { IfOk result (λ cells. cells.items ≡ opened_cells decls.now limit) }
+    ensures { IfOk result (λ objects. objects.items ≡ opened_objects decls.now limit) }
 {
-    decls.iter().map(|decl| opened(*decl, limit)).collect(alloc)
-}
-
-/// What the row keeps of an object at first.
-fn opened(decl: Decl, limit: u64) -> ObjectCell
-    requires some { 0 < limit }
-    requires few { limit ≤ most_entries }
-    ensures { result ≡ opened_cell limit decl }
-{
-    ObjectCell {
-        object: Object::make(decl, limit),
-        last: 0,
-    }
+    decls
+        .iter()
+        .map(|decl| Object::make(*decl, limit))
+        .collect(alloc)
 }

@@ -1,22 +1,28 @@
 //! The settime of an object.
-ghost use Rattle.std.specs.Prelude.{◌≡◌, ◌≢◌, ◌≤◌, ◌<◌, ◌+◌, length};
+ghost use Rattle.std.specs.Prelude.{◌≡◌, ◌≢◌, ◌≤◌, ◌<◌, ◌+◌, length, IfNone, IfSome, MatchOption};
+ghost use Rattle.pass_names.specs.SharedHistory.{LooksOn};
+ghost use Rattle.seq_timer.specs.Tables.{timer_at};
 ghost use Rattle.timer_setting.specs.Arguments.{bits_beyond, checked_times, start_by};
-ghost use Rattle.hr_timers.specs.Known.{IsPassOf};
+ghost use Rattle.timer_setting.specs.Phases.{IsOutcomeOf};
+ghost use Rattle.hr_timers.specs.Known.{IsPassOf, PassOf};
+ghost use Rattle.hr_timers.specs.Ways.{most_to_start};
 ghost use Rattle.timer_objects.specs.declared.object.Kind.TheVariants as kinds;
-ghost use Rattle.timer_objects.specs.Known.{IsObjectsPass, Suits, decl_at, most_noted};
-ghost use Rattle.timer_objects.specs.Calls.{SettimeTells, Settimes, flags_of};
-ghost use Rattle.timer_objects.specs.Rearming.{KeepsNames, caller_of};
-ghost use Rattle.timer_objects.specs.Valid.{IsSettimeReply, end_by};
+ghost use Rattle.timer_objects.specs.Known.{IsObjectsPass, ObjectsPass, Suits, decl_at, most_noted};
+ghost use Rattle.timer_objects.specs.Calls.{HasWaited, SettimeMade, SettimeTells, Settimes, flags_of, settime_call};
+ghost use Rattle.timer_objects.specs.Rearming.{HasLocked, IsHolding, KeepsNames, LeavesPasses, MayCall, caller_of};
+ghost use Rattle.timer_objects.specs.Valid.{IsSettimeReply, IsValidSettime, SetsAnew, settime_with};
+ghost use Rattle.timer_objects.specs.Waiting.{HasToWait, IsHindered};
 
-use crate::cell::ObjectCell;
+use crate::arming::{arm, disarm};
 use crate::log::ObjectLog;
-use crate::object::{Kind, ObjectReply};
+use crate::object::{Decl, Kind, Object, ObjectCall, ObjectReply};
 use crate::objects::Objects;
-use crate::wanting::{Ended, EntryCall};
-use counted_row::RowPass;
+use crate::turns::raise;
+use counted_row::{Held, RowPass};
 use expire_pass::Log;
 use hr_timers::{Pass, Timers};
 use ktime::{Mode, Reading, TimeSpec};
+use pass_names::Retries;
 use std::sync::Wait;
 use timer_fd::SettimeAnswer;
 use timer_setting::{ABSTIME, Arm, BadArgument, SettimeCall, Wanted};
@@ -38,7 +44,7 @@ impl Objects {
         rt: &R,
         timers: &Timers,
         pass: &mut Pass,
-        objects_pass: &mut RowPass<ObjectCell>,
+        objects_pass: &mut RowPass<Object>,
         log: &mut Log,
         object_log: &mut ObjectLog,
         id: u32,
@@ -64,23 +70,171 @@ impl Objects {
             Err(BadArgument::Flags) => return SettimeAnswer::BadFlags,
             Err(BadArgument::Time) => return SettimeAnswer::BadTime,
         };
-        let asked = &EntryCall::Settime(ValidSettime {
+        let valid = &ValidSettime {
             flags,
             value,
             interval,
             reading,
-        });
-        match self.ask(rt, timers, pass, objects_pass, log, object_log, id, asked) {
-            Ended::Full { stamp } => SettimeAnswer::Spent { stamp },
-            Ended::Made { stamp: _, reply } => settime_answer(reply),
+        };
+        self.settime_valid(rt, timers, pass, objects_pass, log, object_log, id, valid)
+    }
+
+    /// A settime with valid arguments, tried again while the timer's function is running.
+    fn settime_valid<R: Wait>(
+        &self,
+        rt: &R,
+        timers: &Timers,
+        pass: &mut Pass,
+        objects_pass: &mut RowPass<Object>,
+        log: &mut Log,
+        object_log: &mut ObjectLog,
+        id: u32,
+        valid: &ValidSettime,
+    ) -> SettimeAnswer
+        requires may { MayCall self.now timers.now pass.old objects_pass.old id }
+        requires kind { (decl_at self.now id).kind ≢ kinds.Raw }
+        requires valid { IsValidSettime (decl_at self.now id).kind valid.now }
+        requires room { (most_noted self.now timers.now.about id ≤ log.old.spare) × (1 ≤ object_log.old.spare) }
+        ensures leaves { LeavesPasses self.now timers.now pass.new objects_pass.new }
+        ensures made { SettimeMade self.now timers.now.about (caller_of pass.old objects_pass.old log.old object_log.old) (caller_of pass.new objects_pass.new log.new object_log.new) id valid.now.flags valid.now.value valid.now.interval valid.now.reading result }
+        ensures names { KeepsNames (caller_of pass.old objects_pass.old log.old object_log.old) (caller_of pass.new objects_pass.new log.new object_log.new) }
+        ensures room { (log.old.spare ≤ log.new.spare + most_noted self.now timers.now.about id) × (object_log.old.spare ≤ object_log.new.spare + 1) }
+    {
+        for _ in Retries::new(rt) {
+            let tried = self.try_settime(
+                rt,
+                timers,
+                pass,
+                objects_pass,
+                log,
+                object_log,
+                id,
+                valid,
+            );
+            if let Some(answer) = tried {
+                return answer;
+            }
         }
+        unreachable!()
+    }
+
+    /// One turn, while the object is locked. It answers nothing where the timer's function is running.
+    fn try_settime<R: Wait>(
+        &self,
+        rt: &R,
+        timers: &Timers,
+        pass: &mut Pass,
+        objects_pass: &mut RowPass<Object>,
+        log: &mut Log,
+        object_log: &mut ObjectLog,
+        id: u32,
+        valid: &ValidSettime,
+    ) -> Option<SettimeAnswer>
+        requires may { MayCall self.now timers.now pass.old objects_pass.old id }
+        requires kind { (decl_at self.now id).kind ≢ kinds.Raw }
+        requires valid { IsValidSettime (decl_at self.now id).kind valid.now }
+        requires room { (most_noted self.now timers.now.about id ≤ log.old.spare) × (1 ≤ object_log.old.spare) }
+        ensures leaves { LeavesPasses self.now timers.now pass.new objects_pass.new }
+        ensures made { MatchOption result (HasWaited (caller_of pass.old objects_pass.old log.old object_log.old) (caller_of pass.new objects_pass.new log.new object_log.new)) (λ a. SettimeMade self.now timers.now.about (caller_of pass.old objects_pass.old log.old object_log.old) (caller_of pass.new objects_pass.new log.new object_log.new) id valid.now.flags valid.now.value valid.now.interval valid.now.reading a) }
+        ensures again { IfNone result ((log.new ≡ log.old) × (object_log.new ≡ object_log.old)) }
+        ensures why { IfNone result (HasToWait self.now timers.now.about objects_pass.old objects_pass.new pass.new.known id) }
+        ensures room { (log.old.spare ≤ log.new.spare + most_noted self.now timers.now.about id) × (object_log.old.spare ≤ object_log.new.spare + 1) }
+    {
+        let held = self.lock_in_turn(rt, timers, pass, objects_pass, id);
+        if self.is_full(&held) {
+            let stamp = self.release(objects_pass, held);
+            return Some(SettimeAnswer::Spent { stamp });
+        }
+        self.settime_held(
+            rt,
+            timers,
+            pass,
+            objects_pass,
+            log,
+            object_log,
+            id,
+            valid,
+            held,
+        )
+    }
+
+    /// Makes the settime of a held object whose history has room, and lets it go. It answers nothing where the timer's function is running.
+    fn settime_held<R: Wait>(
+        &self,
+        rt: &R,
+        timers: &Timers,
+        pass: &mut Pass,
+        objects_pass: &mut RowPass<Object>,
+        log: &mut Log,
+        object_log: &mut ObjectLog,
+        id: u32,
+        valid: &ValidSettime,
+        held: Held<Object>,
+    ) -> Option<SettimeAnswer>
+        requires holding { IsHolding self.now timers.now pass.old objects_pass.old id held }
+        requires kind { (decl_at self.now id).kind ≢ kinds.Raw }
+        requires valid { IsValidSettime (decl_at self.now id).kind valid.now }
+        requires room { (most_noted self.now timers.now.about id ≤ log.old.spare) × (1 ≤ object_log.old.spare) }
+        ensures leaves { LeavesPasses self.now timers.now pass.new objects_pass.new }
+        ensures made { (first : PassOf) (begun : ObjectsPass) → HasLocked self.now first pass.old begun objects_pass.old id held → MatchOption result (HasWaited (caller_of first begun log.old object_log.old) (caller_of pass.new objects_pass.new log.new object_log.new)) (λ a. SettimeMade self.now timers.now.about (caller_of first begun log.old object_log.old) (caller_of pass.new objects_pass.new log.new object_log.new) id valid.now.flags valid.now.value valid.now.interval valid.now.reading a) }
+        ensures again { IfNone result ((log.new ≡ log.old) × (object_log.new ≡ object_log.old)) }
+        ensures why { (first : PassOf) (begun : ObjectsPass) → HasLocked self.now first pass.old begun objects_pass.old id held → IfNone result (HasToWait self.now timers.now.about begun objects_pass.new pass.new.known id) }
+        ensures room { (log.old.spare ≤ log.new.spare + most_noted self.now timers.now.about id) × (object_log.old.spare ≤ object_log.new.spare + 1) }
+    {
+        let Decl { kind, base, .. } = self.decl(id);
+        let Some(outcome) = set_anew(rt, timers, pass, log, id, valid, base) else {
+            self.release(objects_pass, held);
+            return None;
+        };
+        let stamp = held.stamp();
+        raise(rt, timers, pass, id, stamp);
+        let call = call_of(kind, valid.with(outcome));
+        let reply = self.enter(objects_pass, held, object_log, id, &call);
+        Some(settime_answer(reply))
+    }
+}
+
+/// Disarms a timer, and starts it where that is wanted. It answers the outcome of the start, or nothing where the timer's function is running.
+fn set_anew<R: Wait>(
+    rt: &R,
+    timers: &Timers,
+    pass: &mut Pass,
+    log: &mut Log,
+    timer: u32,
+    valid: &ValidSettime,
+    base: u32,
+) -> Option<Arm>
+    requires pass { IsPassOf timers.now pass.old }
+    requires timer { timer < length timers.now.about.timers }
+    requires base { base < timers.now.about.bases }
+    requires room { 1 + most_to_start (timer_at timers.now.about.timers timer).terms base ≤ log.old.spare }
+    ensures pass { IsPassOf timers.now pass.new }
+    ensures sets { MatchOption result (LooksOn pass.old.known pass.new.known × (log.new ≡ log.old)) (λ arm. SetsAnew timers.now.about pass.old.known pass.new.known timer (start_by valid.now.flags valid.now.value) base valid.now.reading arm log.old.receipts log.new.receipts) }
+    ensures outcome { IfSome result (λ arm. IsOutcomeOf arm (start_by valid.now.flags valid.now.value)) }
+    ensures why { IfNone result (IsHindered timers.now.about pass.new.known timer) }
+    ensures room { log.old.spare ≤ log.new.spare + (1 + most_to_start (timer_at timers.now.about.timers timer).terms base) }
+{
+    if !disarm(rt, timers, pass, log, timer) {
+        return None;
+    }
+    let wants = wanted_by(valid.flags, valid.value);
+    Some(arm(rt, timers, pass, log, timer, wants, base, valid.reading))
+}
+
+/// The settime of an object of this kind as it is entered.
+fn call_of(kind: Kind, call: SettimeCall) -> ObjectCall
+    ensures { result ≡ settime_call kind call }
+{
+    match kind {
+        Kind::Raw | Kind::Posix => ObjectCall::Posix(posix_timer::Call::Settime(call)),
+        Kind::Fd => ObjectCall::Fd(timer_fd::Call::Settime(call)),
     }
 }
 
 impl ValidSettime {
     /// The settime with the outcome of the start that it wanted.
-    pub(crate) fn with(&self, arm: Arm) -> SettimeCall
-        ensures { result ≡ record { flags = self.now.flags; value = self.now.value; interval = self.now.interval; reading = self.now.reading; arm = arm } }
+    fn with(&self, arm: Arm) -> SettimeCall
+        ensures { result ≡ settime_with self.now arm }
     {
         SettimeCall {
             flags: self.flags,
@@ -108,7 +262,7 @@ fn times_by(
 }
 
 /// The start that a settime with valid arguments wants: none where its value is zero.
-pub(crate) fn wanted_by(flags: u64, ns: u64) -> Option<Wanted>
+fn wanted_by(flags: u64, ns: u64) -> Option<Wanted>
     ensures { result ≡ start_by flags ns }
 {
     let mode = if flags & ABSTIME != 0 {
@@ -117,17 +271,6 @@ pub(crate) fn wanted_by(flags: u64, ns: u64) -> Option<Wanted>
         Mode::Rel
     };
     (ns != 0).then_some(Wanted { mode, ns })
-}
-
-/// The number of the call's last entry of its timer, where the one before its start was so.
-pub(crate) fn end_of(arm: Arm, before: u64) -> u64
-    ensures { result ≡ end_by arm before }
-{
-    match arm {
-        Arm::NotAsked => before,
-        Arm::Armed(generation) => generation,
-        Arm::Unarmed(stamp) => stamp,
-    }
 }
 
 /// What a settime's reply answers to the caller.

@@ -3,20 +3,17 @@ ghost use Rattle.std.specs.Prelude.{◌≡◌, ◌≤◌, ◌<◌, ◌+◌, [], 
 ghost use Rattle.counted_row.specs.Views.{IsPassOfRow, Locks, released};
 ghost use Rattle.hr_timers.specs.Known.{IsPassOf};
 ghost use Rattle.pass_names.specs.SharedHistory.{LooksOn};
-ghost use Rattle.timer_objects.specs.Cells.{cell_meaning, spanned};
 ghost use Rattle.timer_objects.specs.Known.{HoldsObject, IsObjectsPass, decl_at, row_of, seen_of};
-ghost use Rattle.timer_objects.specs.Triggers.{Triggers, trigger_refused, span_of, trigger_of};
+ghost use Rattle.timer_objects.specs.Triggers.{Triggers, trigger_of, trigger_refused};
 ghost use Rattle.timer_objects.specs.Turns.{entries_told};
 
-use crate::cell::{ObjectCell, Span};
 use crate::log::{ObjectLog, note};
-use crate::object::{Kind, ObjectCall, ObjectReply};
+use crate::object::{Kind, Object, ObjectCall, ObjectReply};
 use crate::objects::Objects;
 use crate::turns::raise;
 use counted_row::{Held, RowPass};
 use hr_timers::{Claim, Pass, Timers};
 use ktime::Reading;
-use pass_names::Retries;
 use std::sync::Wait;
 use timer_setting::TriggerAnswer;
 
@@ -49,24 +46,13 @@ fn trigger_refused(call: &ObjectCall, stamp: u64) -> ObjectReply
     }
 }
 
-/// The span of a claim's own entry.
-fn span_of(claim: &Claim) -> Span
-    ensures { result ≡ span_of claim.now }
-{
-    let to = claim.number();
-    Span {
-        from: to.saturating_sub(1),
-        to,
-    }
-}
-
 /// Triggers the object over a claim's timer, or notes that its history is full.
 pub(crate) fn trigger<R: Wait>(
     rt: &R,
     timers: &Timers,
     pass: &mut Pass,
     objects: &Objects,
-    objects_pass: &mut RowPass<ObjectCell>,
+    objects_pass: &mut RowPass<Object>,
     log: &mut ObjectLog,
     call: ObjectCall,
     claim: &Claim,
@@ -87,14 +73,13 @@ pub(crate) fn trigger<R: Wait>(
     ensures spare { log.new.spare + 1 ≡ log.old.spare }
 {
     let id = claim.timer();
-    let span = span_of(claim);
-    let held = hold(rt, timers, pass, objects, objects_pass, id, span.from);
-    let stamp = held.stamp();
-    if stamp >= objects.limit() {
-        return skip(objects, objects_pass, held, log, id, &call, span);
+    let held = objects.lock_in_turn(rt, timers, pass, objects_pass, id);
+    if objects.is_full(&held) {
+        return skip(objects, objects_pass, held, log, id, &call);
     }
+    let stamp = held.stamp();
     raise(rt, timers, pass, id, stamp);
-    let reply = objects.enter(objects_pass, held, log, id, &call, span);
+    let reply = objects.enter(objects_pass, held, log, id, &call);
     tell_reader(objects, id, &reply);
 }
 
@@ -105,56 +90,14 @@ fn tell_reader(objects: &Objects, id: u32, reply: &ObjectReply) {
     }
 }
 
-/// Takes the lock of an object in its turn, once the spans of its calls don't go beyond this number of its timer's entries, or its history is full.
-fn hold<R: Wait>(
-    rt: &R,
-    timers: &Timers,
-    pass: &mut Pass,
-    objects: &Objects,
-    objects_pass: &mut RowPass<ObjectCell>,
-    id: u32,
-    from: u64,
-) -> Held<ObjectCell>
-    requires pass { IsPassOf timers.now pass.old }
-    requires counters { length objects.now.decls < timers.now.about.counters }
-    requires row { IsPassOfRow (row_of objects.now) objects_pass.old }
-    requires idle { objects_pass.old.knows.held ≡ None }
-    requires unclaimed { objects_pass.old.knows.claims ≡ [] }
-    requires within { id < length objects.now.decls }
-    ensures pass { IsPassOf timers.now pass.new }
-    ensures looks { LooksOn pass.old.known pass.new.known }
-    ensures told { entries_told id pass.new.known ≡ result.stamp }
-    ensures row { IsPassOfRow (row_of objects.now) objects_pass.new }
-    ensures locks { Locks cell_meaning objects_pass.old objects_pass.new id result }
-    ensures holds { HoldsObject objects.now result }
-    ensures behind { result.stamp < objects.now.limit → result.state.last ≤ from }
-{
-    for _ in Retries::new(rt) {
-        let held = objects.lock_in_turn(rt, timers, pass, objects_pass, id);
-        if is_ready(objects, &held, from) {
-            return held;
-        }
-        objects.release(objects_pass, held);
-    }
-    unreachable!()
-}
-
-/// Whether the spans of a held object's calls don't go beyond this number, or its history is full.
-fn is_ready(objects: &Objects, held: &Held<ObjectCell>, from: u64) -> bool
-    ensures { MatchBool result (held.now.stamp < objects.now.limit → held.now.state.last ≤ from) ((held.now.stamp < objects.now.limit) × (from < held.now.state.last)) }
-{
-    held.stamp() >= objects.limit() || held.state().last <= from
-}
-
 /// Lets the lock of an object go whose history is full, and notes the trigger that was refused.
 fn skip(
     objects: &Objects,
-    pass: &mut RowPass<ObjectCell>,
-    held: Held<ObjectCell>,
+    pass: &mut RowPass<Object>,
+    held: Held<Object>,
     log: &mut ObjectLog,
     id: u32,
     call: &ObjectCall,
-    span: Span,
 )
     requires row { IsPassOfRow (row_of objects.now) pass.old }
     requires unclaimed { pass.old.knows.claims ≡ [] }
@@ -163,9 +106,9 @@ fn skip(
     ensures pass { IsObjectsPass objects.now pass.new }
     ensures knows { pass.new.knows ≡ released pass.old.knows }
     ensures count { held.stamp ≡ length (seen_of pass.new held.index) }
-    ensures receipt { log.new.receipts ≡ log.old.receipts ++ record { object = id; number = held.stamp; call = spanned call.now span; reply = trigger_refused call.now held.stamp } ∷ [] }
+    ensures receipt { log.new.receipts ≡ log.old.receipts ++ record { object = id; number = held.stamp; call = call.now; reply = trigger_refused call.now held.stamp } ∷ [] }
     ensures spare { log.new.spare + 1 ≡ log.old.spare }
 {
     let stamp = objects.release(pass, held);
-    note(log, id, stamp, span.of(*call), trigger_refused(call, stamp));
+    note(log, id, stamp, *call, trigger_refused(call, stamp));
 }

@@ -4,11 +4,11 @@ ghost use Rattle.base_row.specs.Plays.{RisesFrom};
 ghost use Rattle.counted_row.specs.Views.{IsPassOfRow, Locks};
 ghost use Rattle.hr_timers.specs.Known.{IsPassOf};
 ghost use Rattle.pass_names.specs.SharedHistory.{LooksOn};
-ghost use Rattle.timer_objects.specs.Cells.{cell_meaning};
+ghost use Rattle.timer_objects.specs.Meaning.{object_meaning};
 ghost use Rattle.timer_objects.specs.Known.{HoldsObject, row_of};
 ghost use Rattle.timer_objects.specs.Turns.{entries_counter, entries_told};
 
-use crate::cell::ObjectCell;
+use crate::object::Object;
 use crate::objects::Objects;
 use counted_row::{Held, RowPass};
 use hr_timers::{Pass, Timers};
@@ -22,9 +22,9 @@ impl Objects {
         rt: &R,
         timers: &Timers,
         pass: &mut Pass,
-        objects_pass: &mut RowPass<ObjectCell>,
+        objects_pass: &mut RowPass<Object>,
         id: u32,
-    ) -> Held<ObjectCell>
+    ) -> Held<Object>
         requires pass { IsPassOf timers.now pass.old }
         requires counters { length self.now.decls < timers.now.about.counters }
         requires row { IsPassOfRow (row_of self.now) objects_pass.old }
@@ -35,7 +35,7 @@ impl Objects {
         ensures looks { LooksOn pass.old.known pass.new.known }
         ensures told { entries_told id pass.new.known ≡ result.stamp }
         ensures row { IsPassOfRow (row_of self.now) objects_pass.new }
-        ensures locks { Locks cell_meaning objects_pass.old objects_pass.new id result }
+        ensures locks { Locks object_meaning objects_pass.old objects_pass.new id result }
         ensures holds { HoldsObject self.now result }
     {
         for _ in rt.forever() {

@@ -1,10 +1,9 @@
-//! The calls that make an entry of an object, and what those that arm its timer again want of it.
+//! The calls that arm their object's timer again, and what they want of it.
 ghost use Rattle.std.specs.Prelude.{◌≡◌};
 ghost use Rattle.timer_objects.specs.Calls.{wanted_by};
 ghost use Rattle.timer_objects.specs.Rearming.{HasEntryRoom};
 
 use crate::object::{Object, ObjectReply};
-use crate::settime::ValidSettime;
 use ktime::Reading;
 use timer_setting::Wanted;
 
@@ -20,14 +19,6 @@ pub enum Rearming {
     Reading,
     /// A descriptor's setting is asked for.
     Getting,
-}
-
-/// A call that makes an entry of an object, and may start the object's timer before that.
-#[derive(Clone, Copy, Debug, PartialEq, Eq)]
-pub enum EntryCall {
-    Settime(ValidSettime),
-    /// One that arms a periodic timer again which has expired, at this reading.
-    Rearming(Rearming, Reading),
 }
 
 /// How such a call ended.

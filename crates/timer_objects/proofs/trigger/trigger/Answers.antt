@@ -1,6 +1,6 @@
 use Rattle.std.proofs.Common.{◌<◌, subst, arith, inl}
 use Rattle.counted_row.specs.Views.{Locks}
-use Rattle.timer_objects.specs.Cells.{cell_meaning, spanned}
+use Rattle.timer_objects.specs.Meaning.{object_meaning}
 use Rattle.base_row.specs.Plays.{RisesFrom}
 use Rattle.timer_objects.specs.Triggers.{EntersTrigger}
 use Rattle.timer_objects.specs.Turns.{HasTurn, entries_counter}
@@ -26,7 +26,7 @@ returns-clause-triggers g c =
     }) in
     let log = c.args.log.now.receipts in
     let log' = c.enter-reply.new.log.receipts in
-    let locks = subst (λ id. Locks cell_meaning p mid id c.hold-held.result) c.timer-id.ensures c.hold-held.ensures.locks in
+    let locks = subst (λ id. Locks object_meaning p mid id c.hold-held.result) c.timer-id.ensures c.hold-held.ensures.locks in
     let room : c.hold-held.result.stamp < x.limit = omega (arith, c.if-stamp-limit.false, c.stamp-stamp.ensures, c.limit.ensures) in
     inl (subst (λ s. EntersTrigger x p q log log' v w t (spanned c.args.call s)) c.span_of-span.ensures
     (entered x p mid q t c.hold-held.result (spanned c.args.call c.span_of-span.result) log log' locks c.hold-held.ensures.row
