@@ -27,16 +27,17 @@ use Rattle.record_text.specs.declared.record.RunRecord.{RunRecord}
 use Rattle.script_text.specs.declared.script.Call.{Call}
 use Rattle.script_text.specs.declared.script.Call.TheVariants as calls
 use Rattle.script_text.specs.declared.script.Script.{Script}
-use Rattle.run_history.specs.Actions.{Action, also, Entered, Looked}
+use Rattle.run_history.specs.Actions.{Action, also, Entered, entered, Looked, Made}
+use Rattle.record_text.specs.declared.record.ObjectEntry.{ObjectEntry}
 use Rattle.run_history.specs.Told.{observed}
-use Rattle.run_history.specs.Histories.{answers_of, reading_at, timer_after}
+use Rattle.run_history.specs.Histories.{answers_of, reading_at, timer_after, timer_labels}
 use Rattle.script_text.specs.Declarations.{declared_of, terms_of}
-use Rattle.run_history.specs.Order.{CallInRound, calls_of, is_before, is_label, IsInOrder, IsLabel, IsWithin, made_by, round_of}
+use Rattle.run_history.specs.Order.{CallInRound, calls_of, is_before, is_label, IsInOrder, IsLabel, IsPoint, IsWithin, made_by, round_of}
 use Rattle.run_history.specs.Witnesses.{Witness, Move, OfTimer, Shown, labels, owner_of, timer_along}
 use Rattle.fit_laws.specs.EachTimer.{HasTimers, FitsTimers, IsOwnPoint, TookNextDue, WasRefused, WasSo, WasTold}
 use Rattle.run_history.specs.Fits.{Fits, FitsCall, FitsIn, FitsLane, Seen, unseen}
 use Rattle.run_history.specs.Traces.{all_entered, own_moves}
-use Rattle.run_history.specs.Truths.{AreTrue, IsMoment, AnswerHolds, IsTrue, Saw, SawRefusal, WasOffLine}
+use Rattle.run_history.specs.Truths.{AreTrue, IsMoment, AnswerHolds, IsTrue, RefusedBefore, Saw, SawRefusal, WasOffLine}
 use Rattle.run_history.proofs.Actions.{all_entered-append}
 use Rattle.run_history.proofs.Labels.{same_label}
 use Rattle.run_history.proofs.Lists.{all_at, at_map, each_drop, each_take}
