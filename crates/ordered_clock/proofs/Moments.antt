@@ -91,7 +91,7 @@ pub no_older : (old new : List SystemEntry) (stamp : ℕ) → ReadsAt old new st
 no_older old new stamp r = omega (arith, rises clock_counter r.from, r.count)
 
 pub never : (stamp : ℕ) → IsReadBeforeItIsWritten stamp → ⊥
-never stamp w = omega (arith, rises clock_counter w.read.seen, rises clock_counter w.written.from, w.read.count, w.written.count)
+never stamp w = omega (arith, rises clock_counter w.read.seen, rises clock_counter w.written.from, w.read.count, w.written.count, w.had)
 
 -- a write's number is above what its pass had seen
 pub grown : {w : Write} {old new : ClockView} {r : ClockReading} → AcceptsWrite w old new r → length (writes old) < r.stamp

@@ -40,11 +40,13 @@ pub record HasPlace (v w : KnownOfTimers) (new : ClockView) (result : Result Clo
   pub refused : OnErr result (ReadsAt v.seen w.seen (length (writes new)))
   pub told : length (writes new) ≤ told w
 
--- A record that is wrong: a call read the clock after so many writes, and then made an entry; another call had seen that entry, and then made the last of
--- these writes.
+-- A record that is wrong: a call read the clock after so many writes, and then made an entry; another call had seen that entry, and then made one of these
+-- writes.
 pub record IsReadBeforeItIsWritten (stamp : ℕ) : Type 0 where
   pub old : List SystemEntry
   pub entered : List SystemEntry
   pub new : List SystemEntry
+  pub number : ℕ
+  pub had : number ≤ stamp
   pub read : ReadsAt old entered stamp
-  pub written : WritesAt entered new stamp
+  pub written : WritesAt entered new number

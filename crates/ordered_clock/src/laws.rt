@@ -4,7 +4,7 @@ ghost use Rattle.seq_timer.specs.Systems.{rises_of};
 ghost use Rattle.seq_timer.specs.declared.system.SystemEntry as entry;
 ghost use Rattle.ordered_clock.specs.Moments.{IsReadBeforeItIsWritten, ReadsAt, clock_counter};
 
-/// Who has seen what a call made behind its reading doesn't make a write that this reading had.
+/// Who has seen what a call made behind its reading makes none of the writes that this reading had.
 #[tactic(auto, using(crate::proofs::Moments::never))]
 pub fn no_write_comes_after_its_reading()
     ensures { (stamp : ℕ) → IsReadBeforeItIsWritten stamp → ⊥ }

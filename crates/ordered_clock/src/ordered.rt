@@ -15,8 +15,7 @@ use std::sync::Wait;
 /// The timers' counter that the clock's writes raise.
 const CLOCK: u32 = 0;
 
-/// The clock as it was at a moment within the call, among the entries of the timers: a reading is not older than what the pass had seen of them. It waits as
-/// `SharedClock::read` does.
+/// The clock as it was at a moment among the entries of the timers, no older than what the pass had seen of them. It waits as `SharedClock::read` does.
 pub fn read<R: Wait>(
     rt: &R,
     timers: &Timers,
@@ -46,7 +45,7 @@ pub fn read<R: Wait>(
 }
 
 /// Makes one write, or refuses it as `Clock::write` does. An accepted write has a place among the entries of the timers, behind all that the pass had seen of
-/// them; a refused one a reading by which it is refused, at a moment within the call. It begins anew where another write came between.
+/// them; a refused one a reading by which it is refused, at a moment no older than that. It begins anew where another write came between.
 pub fn write<R: Wait>(
     rt: &R,
     timers: &Timers,
@@ -123,6 +122,7 @@ pub fn settle<R: Wait>(
     ensures locks { KeepsLocks pass.old pass.new }
     ensures clock { IsPassOfClock clock.now clock_pass.new }
     ensures reading { result ≡ seen_reading clock_pass.new.knows }
+    ensures count { result.stamp ≡ length (writes clock_pass.new.knows) }
     ensures clock_looks { Looks clock_pass.old.knows.pass clock_pass.new.knows.pass }
     ensures heard { clock_pass.new.knows.heard ≡ [] }
     ensures known { KnowsClock clock_pass.new.knows }
