@@ -33,14 +33,15 @@ use Rattle.run_history.specs.Histories.{answers_of, reading_at, timer_after}
 use Rattle.script_text.specs.Declarations.{declared_of, terms_of}
 use Rattle.run_history.specs.Order.{CallInRound, calls_of, is_before, is_label, IsInOrder, IsLabel, IsWithin, made_by, round_of}
 use Rattle.run_history.specs.Witnesses.{Witness, Move, OfTimer, Shown, labels, owner_of, timer_along}
-use Rattle.fit_laws.specs.EachTimer.{HasTimers, FitsTimers, IsOwnPoint, TookNextDue, WasRefused, WasSo, WasTold}
+use Rattle.fit_laws.specs.EachTimer.{HasTimers, FitsTimers, IsOwnPoint, TookNextDue, WasRefused, WasRefusedWithin, WasSo, WasTold}
 use Rattle.run_history.specs.Fits.{Fits, FitsCall, FitsIn, FitsLane, Seen, unseen}
 use Rattle.run_history.specs.Traces.{all_entered, own_moves}
 use Rattle.run_history.specs.Truths.{AreTrue, IsMoment, AnswerHolds, IsTrue, Saw, SawRefusal, WasOffLine}
 use Rattle.run_history.proofs.Actions.{all_entered-append}
 use Rattle.run_history.proofs.Labels.{same_label}
 use Rattle.run_history.proofs.Lists.{all_at, at_map, each_drop, each_take}
-use Rattle.fit_laws.proofs.OwnParts.{count_moves}
+use Rattle.fit_laws.proofs.Between.{done_first, within_between}
+use Rattle.fit_laws.proofs.OwnParts.{count_moves, own_rises}
 use Rattle.run_history.proofs.Reached.{does_wider}
 use Rattle.fit_laws.proofs.OwnPoints.{before_then, declared_then, entered_then, labels_each, legal_each, order_each, point_then, same_then, saw_then, seen, stamp_then, turn_at}
 
@@ -212,23 +213,42 @@ module _ (w : Witness) (f : FitsIn w) where
       }
 
   module _ (c : Label) (at first last : ℕ) (actions : List Action) (own_are : own_moves c w.moves ≡ all_entered actions)
-      (ends : IsMoment w c actions last) where
+      (begins : IsMoment w c [] first) (ends : IsMoment w c actions last) where
     all_own : own_moves c w.moves ≡ all_entered (actions ++ [])
     all_own = own_are ∙ ap all_entered (sym (append-nil actions))
 
     was_so : (t number : ℕ) (observation : Observation) → Saw w t number observation last → WasSo w.script w.run c actions t number observation
     was_so t number observation saw = saw_then w f.history f.timers c actions [] last t number observation all_own ends saw
 
-    refused : (t stamp : ℕ) → SawRefusal w t stamp last → WasRefused w.script w.run c actions t stamp
-    refused t stamp is = (
-      was_so t stamp observations.Spent is.0,
-      ap (λ k. (timer_after w.script w.run t k).moving) (sym is.0.stamp ∙ stamp_then w f.history f.timers last t)
-          ∙ sym (same_then w f.history f.timers (λ x. x.moving) refl last t) ∙ is.1,
+    refused : (before rest : List Action) (n t stamp : ℕ) → own_moves c w.moves ≡ all_entered (before ++ rest) → IsMoment w c before n
+        → SawRefusal w t stamp n → WasRefused w.script w.run c before t stamp
+    refused before rest n t stamp own moment is = (
+      saw_then w f.history f.timers c before rest n t stamp observations.Spent own moment is.0,
+      ap (λ k. (timer_after w.script w.run t k).moving) (sym is.0.stamp ∙ stamp_then w f.history f.timers n t)
+          ∙ sym (same_then w f.history f.timers (λ x. x.moving) refl n t) ∙ is.1,
     )
+
+    -- at a moment between the first and the last
+    refused_within : (n t stamp : ℕ) → first ≤ n → n ≤ last → SawRefusal w t stamp n → WasRefusedWithin w.script w.run c actions t stamp
+    refused_within n t stamp from to is =
+        let count : made_by c (take n (labels w)) ≡ length (own_moves c (take n w.moves)) =
+        ap (made_by c) (take-map (λ (m : Move). m.label) n w.moves) ∙ count_moves c (take n w.moves) in
+        let all : made_by c (take last (labels w)) ≡ length (own_moves c (take last w.moves)) =
+        ap (made_by c) (take-map (λ (m : Move). m.label) last w.moves) ∙ count_moves c (take last w.moves) in
+        let h = done_first (length (own_moves c (take n w.moves))) actions (omega (arith, own_rises c w.moves n last to, all, ends.so_many)) in
+        record {
+          before = h.before;
+          rest = h.rest;
+          whole = h.whole;
+          refused = refused h.before h.rest n t stamp (own_are ∙ ap all_entered h.whole) (record {
+            within = within_between w.script c first n last (labels w) begins.within ends.within from to;
+            so_many = count ∙ sym h.entered;
+          }) is;
+        }
 
     -- what an answer tells was so
     told_then : (call : Call) (answer : Answer) → AnswerHolds w first last c at actions call answer → WasTold w.script w.run c at actions call answer
-    told_then (calls.Start t request) (answers.Spent stamp) is = refused t stamp is
+    told_then (calls.Start t request) (answers.Spent stamp) is = refused actions [] last t stamp all_own ends is
     told_then (calls.Cancel t) (answers.Running generation stamp) is = was_so t stamp (observations.Running generation) is
     told_then (calls.Cancel t) (answers.Idle stamp) is = was_so t stamp observations.Idle is
     told_then (calls.Peek t) (answers.Peek stamp base enqueued running moving) is =
@@ -249,7 +269,8 @@ module _ (w : Witness) (f : FitsIn w) where
         ∙ sym (same_then w f.history f.timers (λ x. x.base) refl last t) ∙ runs.2 in
         let so = was_so t (timer_along w last t).stamp (observations.Running generation) (record { stamp = refl; holds = runs.1 }) in
         (ap (λ (d : Declared). d.context) (sym (declared_then w f.history f.timers last t)) ∙ runs.0, ((timer_along w last t).stamp, so, on))
-    told_then (calls.Settime t flags value interval) (answers.Unarmed stamp) is = refused t stamp is.1
+    told_then (calls.Settime t flags value interval) (answers.Unarmed stamp) is =
+        refused_within is.1.0 t stamp is.1.1 is.1.2 is.1.3
     told_then (calls.Offline base heir budget) (answers.Offline moved stamp) is = record {
       seen = seen w last;
       points = λ u. point_then w f.history f.timers c actions [] last u all_own ends;
@@ -296,7 +317,7 @@ module _ (w : Witness) (f : FitsIn w) where
             true_there.1.0 true_there.1.1;
         claims = λ early rest u number base reading reply is.
             claim_then c early rest u number base reading reply (fits.traced.moves ∙ ap all_entered is);
-        told = told_then c t.at t.first t.last t.actions fits.traced.moves fits.ends call answer fits.seen;
+        told = told_then c t.at t.first t.last t.actions fits.traced.moves fits.begins fits.ends call answer fits.seen;
       }
 
   each_answered : (lane index : ℕ) (before : Seen) (ps : List CallInRound) (given : List Answer) → FitsLane w lane index before ps given

@@ -1,7 +1,10 @@
+pub mod Between
 pub mod EachTimer
 pub mod NoSlack
 mod OneText
 pub mod OwnParts
 pub mod ObjectOrder
 pub mod OwnPoints
+pub mod Moments
+pub mod Readings
 pub mod Replies

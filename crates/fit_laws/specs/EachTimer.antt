@@ -39,6 +39,13 @@ pub record WasSo (s : Script) (r : RunRecord) (c : Label) (before : List Action)
 abbrev pub WasRefused : Script → RunRecord → Label → List Action → ℕ → ℕ → Type 0
 WasRefused s r c before t stamp = WasSo s r c before t stamp observations.Spent × ((timer_after s r t stamp).moving ≡ false)
 
+-- a start was refused at a moment at which the call had done some of what it did
+pub record WasRefusedWithin (s : Script) (r : RunRecord) (c : Label) (actions : List Action) (t stamp : ℕ) : Type 0 where
+  pub before : List Action
+  pub rest : List Action
+  pub whole : actions ≡ before ++ rest
+  pub refused : WasRefused s r c before t stamp
+
 -- a claim took the timer that was the next to expire on its base, where no function ran: after numbers of entries of each timer
 pub record TookNextDue (s : Script) (r : RunRecord) (c : Label) (before : List Action) (base reading t number : ℕ) : Type 0 where
   pub seen : ℕ → ℕ
@@ -78,7 +85,7 @@ WasTold s r c at actions (calls.Expire context base budget) (answers.Done shown 
 WasTold s r c at actions (calls.Expire context base budget) (answers.Busy shown timers t generation) =
     ((declared_of s t).context ≡ context)
     × ((stamp : ℕ) × WasSo s r c actions t stamp (observations.Running generation) × ((timer_after s r t stamp).base ≡ base))
-WasTold s r c at actions (calls.Settime t flags value interval) (answers.Unarmed stamp) = WasRefused s r c actions t stamp
+WasTold s r c at actions (calls.Settime t flags value interval) (answers.Unarmed stamp) = WasRefusedWithin s r c actions t stamp
 WasTold s r c at actions (calls.Offline base heir budget) (answers.Offline moved stamp) = WasUnused s r c actions base
 WasTold s r c at actions (calls.Offline base heir budget) (answers.OfflineBusy moved t generation) =
     (stamp : ℕ) × WasSo s r c actions t stamp (observations.Running generation) × ((timer_after s r t stamp).base ≡ base)
