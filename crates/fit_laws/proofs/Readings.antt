@@ -1,6 +1,6 @@
 -- Readings of the clock among all moves: each has the writes before what its call's lane had seen, and none behind an entry of its call; none reads a write
 -- of a call that began no earlier, and none reads less than a call whose first moment its lane had seen.
-use Rattle.std.proofs.Common.{◌≡◌, ◌<◌, ◌≤◌, ℕ, ◌+◌, zero, suc, true, false, Some, List, [], ◌∷◌, length, take, arith, refl, sym, ap, ◌∙◌, subst}
+use Rattle.std.proofs.Common.{◌≡◌, ◌<◌, ◌≤◌, ℕ, ◌+◌, zero, suc, true, false, Some, List, [], ◌∷◌, length, take, arith, sym, ap, ◌∙◌, subst}
 use Rattle.std.specs.List.{slice_get}
 use Rattle.std.specs.Prelude.{MatchBool}
 use Rattle.std.proofs.Math.Logic.{⊎_elim}

@@ -47,16 +47,13 @@ pub fn the_text_of_a_record_that_fits_determines_it()
 /// In the order by which a record fits, each call that reads the clock has in its reading each write that stands before an entry that its lane had seen. So a
 /// lane that was told of an entry never reads less than what was written before it.
 pub fn a_reading_has_each_write_before_an_entry_that_was_seen()
-    ensures {
-        (w : Witness) → FitsIn w → (c : Label) → TakesReading w.script c → (entry write number : ℕ) → HadSeen w c entry → HasWriteAt w write number
-        → write ≤ entry → number ≤ (w.traces c).at
-    }
+    ensures { (w : Witness) → FitsIn w → (c : Label) → TakesReading w.script c → (entry write number : ℕ) → HadSeen w c entry → HasWriteAt w write number
+        → write ≤ entry → number ≤ (w.traces c).at }
 {}
 
-/// And it has none that stands behind an entry that the call made, nor its own. So no call goes by a write that was made after its entry.
+/// In that order a call's reading has no write that stands behind an entry that the call made, nor one that it made itself. So no call goes by a write that
+/// was made after its entry.
 pub fn a_reading_has_no_write_behind_an_entry_of_its_call()
-    ensures {
-        (w : Witness) → FitsIn w → (c : Label) → TakesReading w.script c → (entry write number : ℕ) → HasEntryAt w c entry → HasWriteAt w write number
-        → entry ≤ write → (w.traces c).at < number
-    }
+    ensures { (w : Witness) → FitsIn w → (c : Label) → TakesReading w.script c → (entry write number : ℕ) → HasEntryAt w c entry → HasWriteAt w write number
+        → entry ≤ write → (w.traces c).at < number }
 {}

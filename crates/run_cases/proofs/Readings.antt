@@ -1,24 +1,18 @@
 -- The records that don't fit by their readings of the clock.
-use Rattle.std.proofs.Common.{◌≡◌, ◌<◌, ◌≤◌, ℕ, List, [], ◌∷◌, length, arith, refl, ap, ◌∙◌}
-use Rattle.std.proofs.Math.Logic.{⊎_elim}
-use Rattle.std.proofs.lemmas.Bool.{cases_lt}
+use Rattle.std.proofs.Common.{◌≡◌, ℕ, List, [], ◌∷◌, arith, refl, ap, ◌∙◌}
 use Rattle.ktime.specs.declared.mode.Mode.TheVariants as modes
 use Rattle.seq_timer.specs.declared.event.AskedBy.{AskedBy}
 use Rattle.seq_timer.specs.declared.event.EventBy.{EventBy}
 use Rattle.seq_timer.specs.declared.event.EventBy.TheVariants as events
 use Rattle.seq_timer.specs.declared.event.Reply.{Reply}
 use Rattle.record_text.specs.declared.record.Entry.{Entry}
-use Rattle.record_text.specs.declared.record.Label.{Label}
 use Rattle.script_text.specs.Declarations.{without_slack}
 use Rattle.script_text.specs.declared.script.StartRequest.{StartRequest}
 use Rattle.run_history.specs.Actions.{entered}
-use Rattle.run_history.specs.Fits.{Fits, HasRead}
+use Rattle.run_history.specs.Fits.{Fits}
 use Rattle.run_history.specs.Starts.{Arming, SentTo, arming_actions}
-use Rattle.run_history.specs.Truths.{IsMoment}
-use Rattle.run_history.specs.Witnesses.{CountersList, IsOneHistory, TimersList, Witness, timer_along}
 use Rattle.fit_laws.proofs.EachTimer.{heads}
-use Rattle.fit_laws.proofs.OwnParts.{on_rises}
-use Rattle.fit_laws.proofs.OwnPoints.{entered_then, stamp_then}
+use Rattle.fit_laws.proofs.OwnPoints.{entered_then}
 use Rattle.run_cases.specs.Fitting.{awaited_script, nothing_script, started_script}
 use Rattle.run_cases.specs.Lines.{at}
 use Rattle.run_cases.specs.Wrong.{foreseen_record, hasty_record, stale_record}
