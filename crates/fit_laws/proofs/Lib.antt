@@ -4,4 +4,6 @@ mod OneText
 pub mod OwnParts
 pub mod ObjectOrder
 pub mod OwnPoints
+pub mod Moments
+pub mod Readings
 pub mod Replies

@@ -140,6 +140,21 @@ own_early c n ms early late own many =
     ∙ ap (made_by c) (sym (take-map (λ (m : Move). m.label) n ms)) ∙ many in
     own_take c n ms ∙ ap (λ k. take k (own_moves c ms)) count ∙ ap (take (length early)) own ∙ take-append_seam early late
 
+-- a call has made no fewer of its entries later
+pub own_rises : (c : Label) (ms : List Move) (a b : ℕ) → a ≤ b → length (own_moves c (take a ms)) ≤ length (own_moves c (take b ms))
+own_rises c [] zero b le = omega arith
+own_rises c [] (suc a) zero le = omega arith
+own_rises c [] (suc a) (suc b) le = omega arith
+own_rises c (m ∷ ms) zero b le = omega arith
+own_rises c (m ∷ ms) (suc a) zero le = absurd (omega (arith, le))
+own_rises c (m ∷ ms) (suc a) (suc b) le =
+    let rest = own_rises c ms a b (omega (arith, le)) in
+    elim (is_label c m.label) as (λ x. length (also x (m.before + 1, m.shown) (own_moves c (take a ms)))
+    ≤ length (also x (m.before + 1, m.shown) (own_moves c (take b ms)))) [
+      | true ↦ omega (arith, rest)
+      | false ↦ rest
+    ]
+
 -- those of a call that are of one timer
 abbrev pub timers_part : ℕ → ℕ → Shown → List (ℕ × Entry) → List (ℕ × Entry)
 timers_part t number (OfTimer u entry) rest = also (nat_eq u t) (number, entry) rest

@@ -1,1 +1,2 @@
 pub mod EachTimer
+pub mod Readings

@@ -1,18 +1,21 @@
 //! What follows of a record that fits its script: laws with no code, each a clause of its function.
 #![tactic(auto)]
 
-ghost use Rattle.std.specs.Prelude.{ℕ, ◌≡◌};
+ghost use Rattle.std.specs.Prelude.{ℕ, ◌≡◌, ◌≤◌, ◌<◌};
 ghost use Rattle.std.specs.List.{AllByRecursion};
 ghost use Rattle.script_text.specs.Scripts.{IsInRange};
 ghost use Rattle.script_text.specs.declared.script.Script.{Script};
 ghost use Rattle.record_text.specs.Numbers.{HasMachineNumbers, HasNoSlack, HasReplies};
 ghost use Rattle.record_text.specs.Text.{text_of};
 ghost use Rattle.record_text.specs.declared.version.Version.TheVariants as versions;
+ghost use Rattle.record_text.specs.declared.record.Label.{Label};
 ghost use Rattle.record_text.specs.declared.record.RunRecord.{RunRecord};
-ghost use Rattle.run_history.specs.Fits.{Fits};
+ghost use Rattle.run_history.specs.Fits.{Fits, FitsIn};
 ghost use Rattle.run_history.specs.Objects.{object_labels};
 ghost use Rattle.run_history.specs.Order.{IsInOrder, IsLabel};
+ghost use Rattle.run_history.specs.Witnesses.{Witness};
 ghost use Rattle.fit_laws.specs.EachTimer.{HasTimers};
+ghost use Rattle.fit_laws.specs.Readings.{HadSeen, HasEntryAt, HasWriteAt, TakesReading};
 
 /// A record that fits is right of each timer by itself: its list is a history of such a timer, and what calls did and were told was so by that list.
 pub fn a_record_that_fits_is_right_of_each_timer()
@@ -39,4 +42,18 @@ pub fn each_entry_of_a_record_that_fits_has_a_reply_of_its_event()
 /// Of the records that fit a script, and whose numbers a program can hold, no two have one text.
 pub fn the_text_of_a_record_that_fits_determines_it()
     ensures { (s : Script) (a b : RunRecord) → IsInRange s → Fits s a → Fits s b → HasMachineNumbers a → HasMachineNumbers b → text_of a ≡ text_of b → a ≡ b }
+{}
+
+/// In the order by which a record fits, each call that reads the clock has in its reading each write that stands before an entry that its lane had seen. So a
+/// lane that was told of an entry never reads less than what was written before it.
+pub fn a_reading_has_each_write_before_an_entry_that_was_seen()
+    ensures { (w : Witness) → FitsIn w → (c : Label) → TakesReading w.script c → (entry write number : ℕ) → HadSeen w c entry → HasWriteAt w write number
+        → write ≤ entry → number ≤ (w.traces c).at }
+{}
+
+/// In that order a call's reading has no write that stands behind an entry that the call made, nor one that it made itself. So no call goes by a write that
+/// was made after its entry.
+pub fn a_reading_has_no_write_behind_an_entry_of_its_call()
+    ensures { (w : Witness) → FitsIn w → (c : Label) → TakesReading w.script c → (entry write number : ℕ) → HasEntryAt w c entry → HasWriteAt w write number
+        → entry ≤ write → (w.traces c).at < number }
 {}

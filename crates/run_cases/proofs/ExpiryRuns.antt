@@ -21,7 +21,7 @@ use Rattle.run_history.proofs.Expires.{claim_of, finish_of}
 use Rattle.fit_laws.proofs.EachTimer.{heads, true_at}
 use Rattle.fit_laws.proofs.OwnParts.{count_moves}
 use Rattle.fit_laws.proofs.OwnPoints.{stamp_then}
-use Rattle.run_cases.proofs.Moments.{HasAll, all_by_last}
+use Rattle.fit_laws.proofs.Moments.{HasAll, all_by_last}
 
 -- the one callback of a run that claimed timer 0
 pub record IsOne (base reading : ℕ) (fired : List Fired) (actions : List Action) : Type 0 where

@@ -2,7 +2,6 @@ pub mod Calls
 pub mod Witnesses
 pub mod FittingRecords
 pub mod OffLine
-pub mod Moments
 pub mod ObjectsFitting
 pub mod ObjectsWrong
 pub mod Orders

@@ -18,9 +18,9 @@ use Rattle.run_cases.specs.Fitting.{accepts_script, armed_script, canceled_entry
 use Rattle.run_cases.specs.Lines.{at, claim_entry, finish_entry, set_entry_of, set_start}
 use Rattle.run_cases.specs.Wrong.{crossed_accepts_record, crossed_record, crossed_script, foreseen_set_record, hasty_skip_record, missed_expiry_record, settimes_record, settimes_script, uncancelled_record, uncancelled_script, unseen_record, unstarted_record}
 use Rattle.run_cases.proofs.ExpiryRuns.{all_by_finish, fired_one, skipped_before_finish}
-use Rattle.run_cases.proofs.Moments.{all_by_last, all_entered_by, all_later, all_made, all_since, ends_later, none_made, none_yet, object_rises, rises_counted, seen_more}
+use Rattle.fit_laws.proofs.Moments.{all_by_last, all_entered_by, all_later, all_made, all_since, ends_later, none_made, none_yet, object_rises, rises_counted, seen_more}
 use Rattle.run_cases.proofs.Orders.{opened, witness_with}
-use Rattle.run_cases.proofs.Readings.{reads_no_later}
+use Rattle.fit_laws.proofs.Readings.{reads_no_later}
 use Rattle.run_cases.proofs.Settimes.{last_is, settime_ends, settime_idle}
 
 -- ---- an idle timer has an entry by which it is idle

@@ -1,63 +1,24 @@
--- Readings of the clock among all moves: no call reads a write of a call that began no earlier, and none reads less than a call whose first moment its lane
--- had seen; and the records that don't fit by this.
-use Rattle.std.proofs.Common.{◌≡◌, ◌<◌, ◌≤◌, ℕ, List, [], ◌∷◌, length, arith, refl, ap, ◌∙◌}
-use Rattle.std.proofs.Math.Logic.{⊎_elim}
-use Rattle.std.proofs.lemmas.Bool.{cases_lt}
+-- The records that don't fit by their readings of the clock.
+use Rattle.std.proofs.Common.{◌≡◌, ℕ, List, [], ◌∷◌, arith, refl, ap, ◌∙◌}
 use Rattle.ktime.specs.declared.mode.Mode.TheVariants as modes
 use Rattle.seq_timer.specs.declared.event.AskedBy.{AskedBy}
 use Rattle.seq_timer.specs.declared.event.EventBy.{EventBy}
 use Rattle.seq_timer.specs.declared.event.EventBy.TheVariants as events
 use Rattle.seq_timer.specs.declared.event.Reply.{Reply}
 use Rattle.record_text.specs.declared.record.Entry.{Entry}
-use Rattle.record_text.specs.declared.record.Label.{Label}
 use Rattle.script_text.specs.Declarations.{without_slack}
 use Rattle.script_text.specs.declared.script.StartRequest.{StartRequest}
 use Rattle.run_history.specs.Actions.{entered}
-use Rattle.run_history.specs.Fits.{Fits, HasRead}
+use Rattle.run_history.specs.Fits.{Fits}
 use Rattle.run_history.specs.Starts.{Arming, SentTo, arming_actions}
-use Rattle.run_history.specs.Truths.{IsMoment}
-use Rattle.run_history.specs.Witnesses.{CountersList, IsOneHistory, TimersList, Witness, timer_along}
 use Rattle.fit_laws.proofs.EachTimer.{heads}
-use Rattle.fit_laws.proofs.OwnParts.{on_rises}
-use Rattle.fit_laws.proofs.OwnPoints.{entered_then, stamp_then}
+use Rattle.fit_laws.proofs.OwnPoints.{entered_then}
 use Rattle.run_cases.specs.Fitting.{awaited_script, nothing_script, started_script}
 use Rattle.run_cases.specs.Lines.{at}
 use Rattle.run_cases.specs.Wrong.{foreseen_record, hasty_record, stale_record}
-use Rattle.run_cases.proofs.Moments.{IsLineOf, none_yet, rises_counted, writes_rise}
+use Rattle.fit_laws.proofs.Readings.{began_before, reads_no_later, reads_no_less}
 use Rattle.run_cases.proofs.Orders.{opened, witness_with}
 use Rattle.run_cases.proofs.Tests.{lt}
-
--- ---- what calls have read
-
-module _ (w : Witness) (history : IsOneHistory w) where
-  -- law: a call began before each moment at which a timer had an entry of it
-  pub began_before : length w.run.timers ≡ length w.script.timers → (c : Label) (t k n stamp : ℕ) → IsLineOf w.run (TimersList t) k c
-      → IsMoment w c [] (w.traces c).first → (timer_along w n t).stamp ≡ stamp → k < stamp → (w.traces c).first < n
-  began_before timers c t k n stamp line begins seen reached = ⊎_elim
-      (λ (less : (w.traces c).first < n). less)
-      (λ (more : n ≤ (w.traces c).first). absurd (omega (
-        arith,
-        reached,
-        seen,
-        stamp_then w history timers n t,
-        on_rises (TimersList t) w.moves n (w.traces c).first more,
-        none_yet w history (TimersList t) c k (w.traces c).first line begins,
-      )))
-      (cases_lt (w.traces c).first n)
-
-  -- law: no call reads a write of a call that began no earlier
-  pub reads_no_later : (c d : Label) (from k : ℕ) → HasRead w c from → IsLineOf w.run (CountersList 0) k d → IsMoment w d [] (w.traces d).first
-      → (w.traces c).first ≤ (w.traces d).first → (w.traces c).at ≤ k
-  reads_no_later c d from k read line begins order =
-      let rise = writes_rise w read.moment (w.traces d).first (omega (arith, read.before, order)) in
-      omega (arith, read.writes, rise, rises_counted w 0 (w.traces d).first, none_yet w history (CountersList 0) d k (w.traces d).first line begins)
-
--- law: no call reads less than a call whose first moment its lane had seen
-pub reads_no_less : (w : Witness) (c d : Label) (from seen : ℕ) → HasRead w c from → HasRead w d seen → (w.traces c).first ≤ seen
-    → (w.traces c).at ≤ (w.traces d).at
-reads_no_less w c d from seen early late order =
-    let rise = writes_rise w early.moment late.moment (omega (arith, early.before, late.behind, order)) in
-    omega (arith, early.writes, late.writes, rise)
 
 -- the reading by which an event arms its timer
 abbrev reading_in : EventBy ℕ → ℕ

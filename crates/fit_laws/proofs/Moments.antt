@@ -19,7 +19,7 @@ use Rattle.run_history.specs.Traces.{own_moves}
 use Rattle.run_history.specs.Witnesses.{CountersList, IsOneHistory, Move, OfBase, OfRise, OfTimer, Owner, Shown, TimersList, Witness, entry_of_move, entry_of_shown, is_owner, lines_at, moves_from, moves_on, object_along, owner_of, timer_along, writes_along}
 use Rattle.run_history.proofs.Labels.{label_itself}
 use Rattle.fit_laws.proofs.EachTimer.{stands}
-use Rattle.fit_laws.proofs.OwnParts.{before_at, count_moves, on_place, on_rises}
+use Rattle.fit_laws.proofs.OwnParts.{before_at, count_moves, on_place, on_rises, own_rises}
 use Rattle.fit_laws.proofs.OwnPoints.{stamp_then}
 
 -- ---- counts
@@ -55,23 +55,8 @@ pub object_rises : (w : Witness) (i a b : ℕ) → a ≤ b → object_along w a 
 object_rises w i a b le =
     omega (arith, on_rises (CountersList (suc i)) w.moves a b le, rises_counted w (suc i) a, rises_counted w (suc i) b)
 
--- a call has made no fewer of its entries later
-own_rises : (c : Label) (ms : List Move) (a b : ℕ) → a ≤ b → length (own_moves c (take a ms)) ≤ length (own_moves c (take b ms))
-own_rises c [] zero b le = omega arith
-own_rises c [] (suc a) zero le = omega arith
-own_rises c [] (suc a) (suc b) le = omega arith
-own_rises c (m ∷ ms) zero b le = omega arith
-own_rises c (m ∷ ms) (suc a) zero le = absurd (omega (arith, le))
-own_rises c (m ∷ ms) (suc a) (suc b) le =
-    let rest = own_rises c ms a b (omega (arith, le)) in
-    elim (is_label c m.label) as (λ x. length (also x (m.before + 1, m.shown) (own_moves c (take a ms)))
-    ≤ length (also x (m.before + 1, m.shown) (own_moves c (take b ms)))) [
-      | true ↦ omega (arith, rest)
-      | false ↦ rest
-    ]
-
 -- at a call's place it makes one more
-own_here : (c : Label) (p : ℕ) (ms : List Move) (m : Move) → slice_get ms p ≡ Some m → m.label ≡ c
+pub own_here : (c : Label) (p : ℕ) (ms : List Move) (m : Move) → slice_get ms p ≡ Some m → m.label ≡ c
     → length (own_moves c (take (suc p) ms)) ≡ suc (length (own_moves c (take p ms)))
 own_here c p [] m at label = absurd (cc)
 own_here c zero (x ∷ ms) m at label =
