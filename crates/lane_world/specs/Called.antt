@@ -86,7 +86,7 @@ pub record LeavesLane (x : WorldOf) (old new : Lane) : Type 0 where
 abbrev pub LeavesRest : Lane → Lane → Type 0
 LeavesRest old new = (new.label ≡ old.label) × (new.answers ≡ old.answers) × (new.wants_memory ≡ old.wants_memory) × (new.pass ≡ old.pass)
 
--- notes of what one call did: its entries and looks, its entries of objects, and its write of the clock
+-- notes of what one call did: its entries and looks, its entries of objects and its skips
 abbrev pub with_done : NotesOf → Label → List Receipt → List ObjectReceipt → NotesOf
 with_done notes label log object_log = with_object_receipts (with_receipts notes label log) label object_log
 

@@ -43,7 +43,7 @@ pub record Settles (p q : WorldPass) : Type 0 where
   pub clock : Looks p.clock.knows.pass q.clock.knows.pass
   pub all : told q.timers.known ≡ length (writes q.clock.knows)
 
--- Each object was looked at, and by then the timers' passes were told of no more entries of it than it has; nothing else was done.
+-- Each object was looked at, and seen to have all entries of which the timers' passes had been told before that; nothing else was done.
 pub record LooksAtAll (x : WorldOf) (p q : WorldPass) : Type 0 where
   pub timers : LooksOn p.timers.known q.timers.known
   pub objects : Looks p.objects.knows.pass q.objects.knows.pass
@@ -52,7 +52,7 @@ pub record LooksAtAll (x : WorldOf) (p q : WorldPass) : Type 0 where
   pub no_more : (i : ℕ) → i < length x.objects.decls → entries_told i p.timers.known ≤ length (seen_of q.objects i)
 
 -- The rounds were made in turn, the clock was settled, each object was looked at, and the record shows the notes and answers that the rounds left, the
--- notes in order.
+-- notes in order. The record's order is what the timers' pass had seen when the clock was settled.
 pub record MakesRun (x : WorldOf) (s : Script) (p : WorldPass) (r : RunRecord) (q : WorldPass) : Type 0 where
   pub left : LeftOf
   pub before : WorldPass
