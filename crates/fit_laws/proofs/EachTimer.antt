@@ -27,16 +27,17 @@ use Rattle.record_text.specs.declared.record.RunRecord.{RunRecord}
 use Rattle.script_text.specs.declared.script.Call.{Call}
 use Rattle.script_text.specs.declared.script.Call.TheVariants as calls
 use Rattle.script_text.specs.declared.script.Script.{Script}
-use Rattle.run_history.specs.Actions.{Action, also, Entered, Looked}
+use Rattle.run_history.specs.Actions.{Action, also, Entered, entered, Looked, Made}
+use Rattle.record_text.specs.declared.record.ObjectEntry.{ObjectEntry}
 use Rattle.run_history.specs.Told.{observed}
-use Rattle.run_history.specs.Histories.{answers_of, reading_at, timer_after}
+use Rattle.run_history.specs.Histories.{answers_of, reading_at, timer_after, timer_labels}
 use Rattle.script_text.specs.Declarations.{declared_of, terms_of}
-use Rattle.run_history.specs.Order.{CallInRound, calls_of, is_before, is_label, IsInOrder, IsLabel, IsWithin, made_by, round_of}
+use Rattle.run_history.specs.Order.{CallInRound, calls_of, is_before, is_label, IsInOrder, IsLabel, IsPoint, IsWithin, made_by, round_of}
 use Rattle.run_history.specs.Witnesses.{Witness, Move, OfTimer, Shown, labels, owner_of, timer_along}
 use Rattle.fit_laws.specs.EachTimer.{HasTimers, FitsTimers, IsOwnPoint, TookNextDue, WasRefused, WasSo, WasTold}
 use Rattle.run_history.specs.Fits.{Fits, FitsCall, FitsIn, FitsLane, Seen, unseen}
 use Rattle.run_history.specs.Traces.{all_entered, own_moves}
-use Rattle.run_history.specs.Truths.{AreTrue, IsMoment, AnswerHolds, IsTrue, Saw, SawRefusal, WasOffLine}
+use Rattle.run_history.specs.Truths.{AreTrue, IsMoment, AnswerHolds, IsTrue, RefusedBefore, Saw, SawRefusal, WasOffLine}
 use Rattle.run_history.proofs.Actions.{all_entered-append}
 use Rattle.run_history.proofs.Labels.{same_label}
 use Rattle.run_history.proofs.Lists.{all_at, at_map, each_drop, each_take}
@@ -173,6 +174,12 @@ true_at w c first from done (x ∷ ds) (m ∷ mid) d rest last all is =
           (append_assoc done (x ∷ []) mid ∙ ap (λ y. done ++ y ∷ mid) (heads x m ds (mid ++ d ∷ rest) is)) further.1,
     )
 
+-- an entry of an object is none of a timer
+but_made : (t : ℕ) (ds : List Action) (i number : ℕ) (entry : ObjectEntry) → entered t (ds ++ Made i number entry ∷ []) ≡ entered t ds
+but_made t [] i number entry = refl
+but_made t (Entered timer k e ∷ ds) i number entry = ap (also (nat_eq timer t) (k, e)) (but_made t ds i number entry)
+but_made t (d ∷ ds) i number entry = but_made t ds i number entry
+
 module _ (w : Witness) (f : FitsIn w) where
   -- a claim was made at the place where its entry stands
   claim_then : (c : Label) (before rest : List Action) (t number base reading : ℕ) (reply : Reply)
@@ -219,12 +226,24 @@ module _ (w : Witness) (f : FitsIn w) where
     was_so : (t number : ℕ) (observation : Observation) → Saw w t number observation last → WasSo w.script w.run c actions t number observation
     was_so t number observation saw = saw_then w f.history f.timers c actions [] last t number observation all_own ends saw
 
-    refused : (t stamp : ℕ) → SawRefusal w t stamp last → WasRefused w.script w.run c actions t stamp
-    refused t stamp is = (
-      was_so t stamp observations.Spent is.0,
-      ap (λ k. (timer_after w.script w.run t k).moving) (sym is.0.stamp ∙ stamp_then w f.history f.timers last t)
-          ∙ sym (same_then w f.history f.timers (λ x. x.moving) refl last t) ∙ is.1,
+    refused_at : (early rest : List Action) (n t stamp : ℕ) → own_moves c w.moves ≡ all_entered (early ++ rest) → IsMoment w c early n
+        → SawRefusal w t stamp n → WasRefused w.script w.run c early t stamp
+    refused_at early rest n t stamp are point is = (
+      saw_then w f.history f.timers c early rest n t stamp observations.Spent are point is.0,
+      ap (λ k. (timer_after w.script w.run t k).moving) (sym is.0.stamp ∙ stamp_then w f.history f.timers n t)
+          ∙ sym (same_then w f.history f.timers (λ x. x.moving) refl n t) ∙ is.1,
     )
+
+    refused : (t stamp : ℕ) → SawRefusal w t stamp last → WasRefused w.script w.run c actions t stamp
+    refused t stamp = refused_at actions [] last t stamp all_own ends
+
+    -- before the object's entry the call had made as many entries of the timer as at its end
+    refused_before : (t stamp : ℕ) → RefusedBefore w c actions t stamp → WasRefused w.script w.run c actions t stamp
+    refused_before t stamp r =
+        let this = Made t r.number r.entry ∷ [] in
+        let was = refused_at r.early this r.moment t stamp (own_are ∙ ap all_entered r.last) r.point r.refused in
+        let same : entered t r.early ≡ entered t actions = sym (but_made t r.early t r.number r.entry) ∙ ap (entered t) (sym r.last) in
+        (record { point = subst (λ es. IsPoint w.script c (length es) stamp (timer_labels w.run t)) same was.0.point; holds = was.0.holds }, was.1)
 
     -- what an answer tells was so
     told_then : (call : Call) (answer : Answer) → AnswerHolds w first last c at actions call answer → WasTold w.script w.run c at actions call answer
@@ -249,7 +268,7 @@ module _ (w : Witness) (f : FitsIn w) where
         ∙ sym (same_then w f.history f.timers (λ x. x.base) refl last t) ∙ runs.2 in
         let so = was_so t (timer_along w last t).stamp (observations.Running generation) (record { stamp = refl; holds = runs.1 }) in
         (ap (λ (d : Declared). d.context) (sym (declared_then w f.history f.timers last t)) ∙ runs.0, ((timer_along w last t).stamp, so, on))
-    told_then (calls.Settime t flags value interval) (answers.Unarmed stamp) is = refused t stamp is.1
+    told_then (calls.Settime t flags value interval) (answers.Unarmed stamp) is = refused_before t stamp is.1
     told_then (calls.Offline base heir budget) (answers.Offline moved stamp) is = record {
       seen = seen w last;
       points = λ u. point_then w f.history f.timers c actions [] last u all_own ends;

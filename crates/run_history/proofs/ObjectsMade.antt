@@ -34,7 +34,7 @@ use Rattle.run_history.specs.Witnesses.{Witness, timer_along}
 use Rattle.run_history.specs.Fits.{FitsCall, Seen}
 use Rattle.run_history.specs.Receipts.{PlacedEntry}
 use Rattle.run_history.specs.Rounds.{Spans}
-use Rattle.run_history.specs.Truths.{AnswerHolds, DisarmedFirst, HadFromFirst, IsTrueEntry, IsTrueStart, SawRefusal, StoodBefore, WasOffLine}
+use Rattle.run_history.specs.Truths.{AnswerHolds, DisarmedFirst, HadFromFirst, IsMoment, IsTrueEntry, IsTrueStart, SawRefusal, StoodBefore, WasOffLine}
 use Rattle.run_history.proofs.Kept.{call_made, IsKept, moment_of, Stops}
 use Rattle.run_history.proofs.OthersMade.{none_moved, plain}
 use Rattle.run_history.proofs.Plain.{IsPlain, plain_arms, plain_then}
@@ -123,13 +123,12 @@ module _ (reply : SettimeReply) {w : Witness} {moves : Spans} {c : Label} {at be
       (start_mode kind flags) arm start set.arms) in
       let idle = disarmed (WasOffLine w begin last) w.script.limit w timer (nanoseconds_of value) at (base_of kind) begin
       (start_mode kind flags) cancel arm start number entry set.arms set.idle in
+      let point = moment_of kept (cancels timer cancel ++ start) set.ends (omega (arith, low, set.between)) set.high set.stops in
       call_made kept low (omega (arith, set.between, set.high)) set.behind
       (does reply actions (record { taken = set.taken; cancel = cancel; arm = arm; start = start; number = number; arms = set.arms; done = refl })) (tt, tt)
-      (plain_then w c begin begin set.ends last [] (cancels timer cancel ++ start) (Made timer number entry) plain set.between set.high (
-        moment_of kept (cancels timer cancel ++ start) set.ends (omega (arith, low, set.between)) set.high set.stops,
-        record { true_start = set.holds; had = set.had; stood = set.stood },
-      ))
-      (seen reply actions refused idle)
+      (plain_then w c begin begin set.ends last [] (cancels timer cancel ++ start) (Made timer number entry) plain set.between set.high
+      (point, record { true_start = set.holds; had = set.had; stood = set.stood }))
+      (seen reply actions entry refl point refused idle)
     where
       does : (reply : SettimeReply) (ds : List Action) → MakesSettime (WasOffLine w begin last) w.script.limit
           (kind_of w.script timer) timer flags value interval at reply ds
@@ -138,11 +137,23 @@ module _ (reply : SettimeReply) {w : Witness} {moves : Spans} {c : Label} {at be
       does settings.Canceled ds makes = makes
       does (settings.Unarmed stamp) ds makes = makes
 
-      seen : (reply : SettimeReply) (ds : List Action) → RefusedBy w timer reply set.ends → DisarmedFirst w timer ds begin
+      seen : (reply : SettimeReply) (ds : List Action) (entry : ObjectEntry) → ds ≡ (cancels timer cancel ++ start) ++ Made timer number entry ∷ []
+          → IsMoment w c (cancels timer cancel ++ start) set.ends → RefusedBy w timer reply set.ends → DisarmedFirst w timer ds begin
           → AnswerHolds w begin last c at ds (calls.Settime timer flags value interval) (answer_of_settime reply)
-      seen (settings.Old left old) ds refused first = first
-      seen settings.Canceled ds refused first = first
-      seen (settings.Unarmed stamp) ds refused first = (first, (set.ends, set.between, set.high, refused))
+      seen (settings.Old left old) ds entry is point refused first = first
+      seen settings.Canceled ds entry is point refused first = first
+      seen (settings.Unarmed stamp) ds entry is point refused first = (
+        first,
+        record {
+          early = cancels timer cancel ++ start;
+          number = number;
+          entry = entry;
+          last = is;
+          moment = set.ends;
+          point = point;
+          refused = refused;
+        },
+      )
 
 -- ---- an acceptance, a read, a descriptor's gettime
 

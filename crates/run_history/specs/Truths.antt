@@ -75,9 +75,15 @@ pub record WasFront (w : Witness) (first last base : ℕ) (e : Evacuation) : Typ
 abbrev pub SawRefusal : Witness → ℕ → ℕ → ℕ → Type 0
 SawRefusal w timer stamp n = Saw w timer stamp observations.Spent n × ((timer_along w n timer).moving ≡ false)
 
--- at a moment between two of them a start was refused
-abbrev pub WasRefused : Witness → ℕ → ℕ → ℕ → ℕ → Type 0
-WasRefused w first last timer stamp = (n : ℕ) × (first ≤ n) × (n ≤ last) × SawRefusal w timer stamp n
+-- a start was refused at a moment at which the call had made all but its last entry, which is its object's
+pub record RefusedBefore (w : Witness) (c : Label) (actions : List Action) (timer stamp : ℕ) : Type 0 where
+  pub early : List Action
+  pub number : ℕ
+  pub entry : ObjectEntry
+  pub last : actions ≡ early ++ Made timer number entry ∷ []
+  pub moment : ℕ
+  pub point : IsMoment w c early moment
+  pub refused : SawRefusal w timer stamp moment
 
 -- at this moment the object had so many entries
 abbrev pub HadEntries : Witness → ℕ → ℕ → ℕ → Type 0
@@ -168,7 +174,7 @@ abbrev pub StandsAt : Witness → ℕ → ℕ → ℕ → Type 0
 StandsAt w base stamp n = (standing_along w n base).stamp ≡ stamp
 
 -- An answer that tells of a state tells of that of the call's last moment: of timers, bases and objects; but for a settime, that of an idle timer at its
--- first, where it cancelled nothing, and of a refused start at a moment between. A write is refused only while the clock may take more of them, and where one of its times would be past the latest, and the answer
+-- first, where it cancelled nothing, and of a refused start that of the moment before its object's entry. A write is refused only while the clock may take more of them, and where one of its times would be past the latest, and the answer
 -- is the greatest of these.
 abbrev pub AnswerHolds : Witness → ℕ → ℕ → Label → ℕ → List Action → Call → Answer → Type 0
 AnswerHolds w first last c reading actions (calls.Start timer request) (answers.Spent stamp) = SawRefusal w timer stamp last
@@ -185,7 +191,7 @@ AnswerHolds w first last c reading actions (calls.Settime timer flags value inte
 AnswerHolds w first last c reading actions (calls.Settime timer flags value interval) (answers.Old left old) = DisarmedFirst w timer actions first
 AnswerHolds w first last c reading actions (calls.Settime timer flags value interval) answers.Canceled = DisarmedFirst w timer actions first
 AnswerHolds w first last c reading actions (calls.Settime timer flags value interval) (answers.Unarmed stamp) =
-    DisarmedFirst w timer actions first × WasRefused w first last timer stamp
+    DisarmedFirst w timer actions first × RefusedBefore w c actions timer stamp
 AnswerHolds w first last c reading actions (calls.Gettime timer) (answers.Spent stamp) = SawFull w timer stamp last
 AnswerHolds w first last c reading actions (calls.Gettime timer) (answers.LeftAt left interval shown stamp) =
     HadEntries w timer stamp last
