@@ -222,11 +222,13 @@ keeps_offline {s = s} {x = x} {l = l} {m = m} {base = base} {heir = heir} {budge
         (λ many e. (record { counted = omega (arith, end.0, many); done = refl }, omega (arith, end.0, fits.evacuates.few)))
         (λ e follows joined may. (
           may,
-          ap (running_on base) (timer_last next m e follows joined t) ∙ end.1.1,
-          ⊎_elim
-              (λ hard. inl (ap (λ u. running_on base (seen_in contexts.Hard u)) (timer_last next m e follows joined t) ∙ hard))
-              (λ soft. inr (λ u. ap (λ z. runs_on base (seen_in contexts.Hard z)) (timer_last next m e follows joined u) ∙ soft.0 u))
-              end.1.2,
+          (
+            ap (running_on base) (timer_last next m e follows joined t) ∙ end.1.1,
+            ⊎_elim
+                (λ hard. inl (ap (λ u. running_on base (seen_in contexts.Hard u)) (timer_last next m e follows joined t) ∙ hard))
+                (λ soft. inr (λ u. ap (λ z. runs_on base (seen_in contexts.Hard z)) (timer_last next m e follows joined u) ∙ soft.0 u))
+                end.1.2,
+          ),
         ))
     by_answer (offs.More n) fits notes =
         let end = fits.evacuates.last in
