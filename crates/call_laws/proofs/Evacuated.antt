@@ -27,7 +27,7 @@ use Rattle.seq_timer.specs.Steps.{Timer, after, opening, placement_of, reply_to}
 use Rattle.seq_timer.specs.Calls.{asked_for, step_all}
 use Rattle.seq_timer.specs.Contents.{front_of}
 use Rattle.seq_timer.specs.Systems.{AreSystemSteps, System, after_one, entries_of, first_system, openings}
-use Rattle.seq_timer.specs.Tables.{is_armed_on, no_declared, no_timer, timer_at}
+use Rattle.seq_timer.specs.Tables.{is_armed_on, no_declared, no_timer, runs_on, timer_at}
 use Rattle.seq_timer.specs.declared.event.EventBy.TheVariants as events
 use Rattle.seq_timer.specs.declared.system.SystemEntry.{SystemEntry}
 use Rattle.seq_timer.specs.declared.system.SystemEntry.TheVariants as entries
@@ -145,6 +145,7 @@ front_wider w base le more (y ∷ ys) all = (
     from = omega (arith, le, all.0.from);
     to = omega (arith, all.0.to, more);
     stamp = all.0.stamp;
+    idle = all.0.idle;
     front = all.0.front;
   },
   front_wider w base le more ys all.1,
@@ -189,6 +190,7 @@ module _ {s : Script} {x : WorldOf} {l : LaneOf} {call : Call} (next : IsNextCal
                 from = begins_length moves.made.from;
                 to = begins_length moves.made.seen;
                 stamp = ap (λ (z : Timer). z.stamp) (timer_stays next.world.timers joined moves.at on t);
+                idle = λ u. ap (runs_on base) (timer_stays next.world.timers joined moves.at on u) ∙ moves.idle u;
                 front = front_seen next e joined moves.at on base t moves.front;
               },
               tt,

@@ -13,7 +13,7 @@ use Rattle.call_laws.proofs.Sights.{keeps_sight}
 use Rattle.call_laws.proofs.Stays.{standing_stays, timer_stays}
 use Rattle.lane_notes.specs.Notes.{both_noted}
 use Rattle.lane_world.proofs.PartLists.{both_noted-assoc}
-use Rattle.std.proofs.Common.{◌≡◌, ◌≤◌, ℕ, ◌+◌, ◌-◌, nat_lt, List, [], ◌∷◌, ◌++◌, length, arith, refl, sym, ap, ◌∙◌, subst, inl, inr, ⊎_elim}
+use Rattle.std.proofs.Common.{◌≡◌, ◌≤◌, ◌<◌, ℕ, ◌+◌, ◌-◌, nat_lt, List, [], ◌∷◌, ◌++◌, length, arith, refl, sym, ap, ◌∙◌, subst, inl, inr, ⊎_elim}
 use Rattle.std.specs.Prelude.{IsSome, flat_map}
 use Rattle.std.proofs.lemmas.Bool.{ltb-true}
 use Rattle.ktime.specs.Readings.{ClockReading}
@@ -21,7 +21,7 @@ use Rattle.clock_cell.specs.Views.{writes}
 use Rattle.pass_names.specs.SharedHistory.{LooksOn}
 use Rattle.pass_names.proofs.Passes.{begins_length}
 use Rattle.seq_timer.specs.Halves.{running_on}
-use Rattle.seq_timer.specs.Standings.{first_standing, standing_after_all}
+use Rattle.seq_timer.specs.Standings.{first_standing, last_standing, standing_after_all}
 use Rattle.seq_timer.specs.Steps.{Timer}
 use Rattle.seq_timer.specs.Systems.{first_system, shifts_of}
 use Rattle.seq_timer.specs.Tables.{is_armed_on, no_declared, no_timer, runs_on, seen_in, timer_at}
@@ -49,7 +49,8 @@ use Rattle.run_history.specs.Actions.{Shifted}
 use Rattle.run_history.specs.Receipts.{PlacedEntry}
 use Rattle.run_history.specs.Calls.{Does, evacuates}
 use Rattle.run_history.specs.Runs.{Ending, IsJoined, witness_of}
-use Rattle.run_history.specs.Truths.{AnswerHolds, RunsNone, WasOffLine}
+use Rattle.run_history.specs.Promises.{GoesOn}
+use Rattle.run_history.specs.Truths.{AnswerHolds, MayGo, RunsNone, WasOffLine}
 use Rattle.run_history.specs.Witnesses.{Trace, standing_along, timer_along}
 use Rattle.run_history.proofs.OffLineMade.{evacuating, offline_made, online_made, shift_by}
 use Rattle.run_history.proofs.OthersMade.{plain}
@@ -120,9 +121,24 @@ module _ {s : Script} {x : WorldOf} {l : LaneOf} (m : LaneOf) {base heir budget 
       Does (WasOffLine w (length l.pass.timers.known.seen) (length m.pass.timers.known.seen)) s reading.stamp (calls.Offline base heir budget) a []
       off.moved (trace_of a).actions
 
-  -- and what its answer tells holds when it ends
+  -- the base might go off line when the call began
+  abbrev Might : Ending → Type 0
+  Might e = MayGo (witness_of s e) base heir (length l.pass.timers.known.seen)
+
+  -- law: it might, in every run that goes on from there
+  might : (e : Ending) → IsJoined s e → GoesOn l.pass.timers.known.seen e → Might e
+  might e joined goes =
+      let then : (b : ℕ) → standing_along (witness_of s e) (length l.pass.timers.known.seen) b ≡ standing_then x.timers.about l.pass.timers.known.seen b =
+      standing_stays next.world.timers joined l.pass.timers.known.seen goes in
+      record {
+        online = ap (λ (y : Standing). y.heir) (then base) ∙ g.may.online;
+        heir_online = ap (λ (y : Standing). y.heir) (then heir) ∙ g.may.heir_online;
+        room = subst (λ (y : Standing). y.stamp < last_standing) (sym (then base)) g.may.stamp;
+      }
+
+  -- and what its answer tells holds when it ends, or held when it began
   abbrev HoldsSo : Answer → Type 0
-  HoldsSo a = (e : Ending) → Follows m.pass e → IsJoined s e → AnswerHolds (witness_of s e) (length l.pass.timers.known.seen)
+  HoldsSo a = (e : Ending) → Follows m.pass e → IsJoined s e → Might e → AnswerHolds (witness_of s e) (length l.pass.timers.known.seen)
       (length m.pass.timers.known.seen) l.label reading.stamp (trace_of a).actions (calls.Offline base heir budget) a
 
   -- a log that nothing more went to has the receipts of the moves
@@ -146,7 +162,7 @@ module _ {s : Script} {x : WorldOf} {l : LaneOf} (m : LaneOf) {base heir budget 
         off.keeps e joined goes,
         front_wider (witness_of s e) base
             (begins_length g.looks.seen) (begins_length last.enters.seen) off.moved (off.turns e joined goes),
-      ) (holds e follows joined))
+      ) (holds e follows joined (might e joined (goes_before g.looks.seen (goes_before off.part.enters.seen goes)))))
 
   -- law: without an entry of the base
   pub ended_by_look : (a : Answer) → shift_by base heir a ≡ [] → LooksOn g.evacuates.mid m.pass.timers.known → log ≡ g.evacuates.between
@@ -204,12 +220,15 @@ keeps_offline {s = s} {x = x} {l = l} {m = m} {base = base} {heir = heir} {budge
         let end = fits.evacuates.last in
         ended_by_look m next c.reading c.reads c.objects c.empty fits (answers.OfflineBusy n t g) refl end.1.0.looks end.1.0.sink notes
         (λ many e. (record { counted = omega (arith, end.0, many); done = refl }, omega (arith, end.0, fits.evacuates.few)))
-        (λ e follows joined. (
-          ap (running_on base) (timer_last next m e follows joined t) ∙ end.1.1,
-          ⊎_elim
-              (λ hard. inl (ap (λ u. running_on base (seen_in contexts.Hard u)) (timer_last next m e follows joined t) ∙ hard))
-              (λ soft. inr (λ u. ap (λ z. runs_on base (seen_in contexts.Hard z)) (timer_last next m e follows joined u) ∙ soft.0 u))
-              end.1.2,
+        (λ e follows joined may. (
+          may,
+          (
+            ap (running_on base) (timer_last next m e follows joined t) ∙ end.1.1,
+            ⊎_elim
+                (λ hard. inl (ap (λ u. running_on base (seen_in contexts.Hard u)) (timer_last next m e follows joined t) ∙ hard))
+                (λ soft. inr (λ u. ap (λ z. runs_on base (seen_in contexts.Hard z)) (timer_last next m e follows joined u) ∙ soft.0 u))
+                end.1.2,
+          ),
         ))
     by_answer (offs.More n) fits notes =
         let end = fits.evacuates.last in
@@ -218,7 +237,8 @@ keeps_offline {s = s} {x = x} {l = l} {m = m} {base = base} {heir = heir} {budge
           record { counted = omega (arith, end.0, many); done = refl },
           omega (arith, end.0, fits.evacuates.few, none_more budget (length fits.evacuates.timers) end.1.1.2),
         ))
-        (λ e follows joined. (
+        (λ e follows joined may. (
+          may,
           runs_none next m e follows joined base end.1.1.1,
           (end.1.0, ap (is_armed_on base) (timer_last next m e follows joined end.1.0) ∙ end.1.1.3),
         ))
@@ -229,10 +249,11 @@ keeps_offline {s = s} {x = x} {l = l} {m = m} {base = base} {heir = heir} {budge
           record { counted = omega (arith, end.0, many); done = refl },
           omega (arith, end.0, ltb-true 0 (budget - length fits.evacuates.timers) end.1.2),
         ))
-        (λ e follows joined.
+        (λ e follows joined may.
         let terms = ap (λ (u : Timer). u.terms) (ap (λ ts. timer_at ts t) (opened_timers next)
         ∙ get_or-map (λ d. opening d (terms_of s)) (declareds_of s) t no_declared no_timer
         (armed_there next e joined m.pass.timers.known.seen follows.timers base t end.1.3)) in (
+          may,
           runs_none next m e follows joined base end.1.1,
           record {
             front = front_seen next e joined m.pass.timers.known.seen follows.timers base t end.1.6;
@@ -245,10 +266,10 @@ keeps_offline {s = s} {x = x} {l = l} {m = m} {base = base} {heir = heir} {budge
         let end = fits.evacuates.last in
         ended_by_shift m next c.reading c.reads c.objects c.empty fits n stamp end.1.0 end.1.1 end.1.3 notes
         (λ many e. (record { counted = omega (arith, end.0, many); done = refl }, omega (arith, end.0, fits.evacuates.few)))
-        (λ e follows joined. record {
+        (λ e follows joined may. (may, record {
           unarmed = λ t. ap (is_armed_on base) (timer_last next m e follows joined t) ∙ end.1.2.unarmed t;
           idle = λ t. ap (runs_on base) (timer_last next m e follows joined t) ∙ end.1.2.idle t;
-        })
+        }))
 
 -- ---- on line again
 

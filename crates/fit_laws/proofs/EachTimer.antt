@@ -273,24 +273,24 @@ module _ (w : Witness) (f : FitsIn w) where
       seen = seen w last;
       points = λ u. point_then w f.history f.timers c actions [] last u all_own ends;
       unused = record {
-        unarmed = λ u. sym (same_then w f.history f.timers (is_armed_on base) refl last u) ∙ is.unarmed u;
-        idle = λ u. sym (same_then w f.history f.timers (runs_on base) refl last u) ∙ is.idle u;
+        unarmed = λ u. sym (same_then w f.history f.timers (is_armed_on base) refl last u) ∙ is.1.unarmed u;
+        idle = λ u. sym (same_then w f.history f.timers (runs_on base) refl last u) ∙ is.1.idle u;
       };
     }
     told_then (calls.Offline base heir budget) (answers.OfflineBusy moved t generation) is =
-        let runs = running_there base (timer_along w last t) generation is.0 in
+        let runs = running_there base (timer_along w last t) generation is.1.0 in
         let on : (timer_after w.script w.run t (timer_along w last t).stamp).base ≡ base =
         ap (λ k. (timer_after w.script w.run t k).base) (stamp_then w f.history f.timers last t)
         ∙ sym (same_then w f.history f.timers (λ x. x.base) refl last t) ∙ runs.1 in
         let so = was_so t (timer_along w last t).stamp (observations.Running generation) (record { stamp = refl; holds = runs.0 }) in
         ((timer_along w last t).stamp, so, on)
     told_then (calls.Offline base heir budget) (answers.OfflineSpent moved t stamp) is =
-        let same : seen w last t ≡ stamp = sym (stamp_then w f.history f.timers last t) ∙ is.1.stamp in
+        let same : seen w last t ≡ stamp = sym (stamp_then w f.history f.timers last t) ∙ is.2.stamp in
         record {
           point = subst (IsOwnPoint w.script w.run c actions t) same (point_then w f.history f.timers c actions [] last t all_own ends);
           armed = subst (λ k. is_armed_on base (timer_after w.script w.run t k) ≡ true) same
-              (sym (same_then w f.history f.timers (is_armed_on base) refl last t) ∙ is.1.armed);
-          full = is.1.full;
+              (sym (same_then w f.history f.timers (is_armed_on base) refl last t) ∙ is.2.armed);
+          full = is.2.full;
         }
     told_then call answer is = tt
 

@@ -19,7 +19,7 @@ use Rattle.run_history.specs.Traces.{HasTraced}
 use Rattle.run_history.specs.Calls.{AllKeepExpiries, AllMoved, Does}
 use Rattle.run_history.specs.Truths.{AreTrue, IsMoment, AnswerHolds, WasFront, WasOffLine}
 
--- how many of the clock's writes, and of all entries and the writes among them, a lane has seen
+-- how many of the clock's writes, and how many moves, a lane has seen
 pub record Seen : Type 0 where
   pub clock : ℕ
   pub moves : ℕ
@@ -36,7 +36,7 @@ pub record FitsCall (w : Witness) (c : Label) (call : Call) (answer : Answer) (b
       (w.traces c).actions
   -- the timers that it moved off a base keep their expiries
   pub keeps : AllKeepExpiries w.script w.run call (w.traces c).moved
-  -- and each was the next one when it was moved
+  -- and each was the next one, while no function ran there, at a moment at which it had just the entries before its move
   pub turns : AllMoved (WasFront w (w.traces c).first (w.traces c).last) call (w.traces c).moved
   pub reading : IsPoint w.script c 0 (w.traces c).at (clock_labels w.run)
   -- its first moment, at which it had made no entry, and its last, at which it had made them all
@@ -98,7 +98,7 @@ pub record FitsIn (w : Witness) : Type 0 where
   pub timers : length w.run.timers ≡ length w.script.timers
   pub objects : length w.run.objects ≡ length w.script.timers
   pub lanes : length w.run.answers ≡ w.script.lanes
-  -- no line bears another label than that of a call; those of objects are among the moves
+  -- no line bears another label than that of a call; an object's lines are moves
   pub clock_calls : AllByRecursion (IsLabel w.script) (clock_labels w.run)
   pub move_calls : AllByRecursion (IsLabel w.script) (labels w)
   pub looks : (t : ℕ) → AllByRecursion (λ line. AreUnder w.script (map (λ look. look.label) line.looks)) (lines_of_timer w.run t)

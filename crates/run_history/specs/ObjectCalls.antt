@@ -56,7 +56,7 @@ module _ (Reached : ℕ → ℕ → Type 0) (limit : ℕ) where
       (a : Arming) × (actions ≡ arming_actions timer (without_slack mode ns base) reading a) × (generation ≡ a.number) × IsArming Reached limit base a
   Arms timer mode ns reading base armings.Unarmed actions = actions ≡ []
 
-  -- a settime that made an entry: a cancel, a start, and the entry of the object, with the call's own arguments
+  -- a settime that made an entry: a cancel and a start, where there are any, and the entry of the object, with the call's own arguments
   pub record MakesSettime (kind : Kind) (timer flags : ℕ) (value interval : TimeSpec) (reading : ℕ) (reply : SettimeReply)
       (actions : List Action) : Type 0 where
     pub taken : AreValidFor kind flags value interval

@@ -1,4 +1,4 @@
--- Receipts of timers' and bases' entries: where each stands in the order of all entries; and the lines of a record that are made of them.
+-- Receipts of entries and rises: where each stands in the one order; and the lines of a record that are made of them.
 use Rattle.std.specs.List.{AllByRecursion, slice_get}
 use Rattle.std.specs.Prelude.{ℕ, ◌≡◌, ◌≤◌, ◌<◌, ◌+◌, ◌⊎◌, Some, List, [], ◌∷◌, ◌++◌, length, map, take, get_or}
 use Rattle.seq_timer.specs.Systems.{entries_of, rises_of, shifts_of}
@@ -11,7 +11,7 @@ use Rattle.record_text.specs.declared.record.RunRecord.{RunRecord}
 use Rattle.run_history.specs.Actions.{also, own}
 use Rattle.run_history.specs.Witnesses.{BasesList, CountersList, Move, OfBase, OfRise, OfTimer, Owner, Shown, ShownLine, TimersList, entry_of_shown, is_owner, lines_at, owner_of, owner_of_entry}
 
--- a receipt of an entry: how many entries of all timers and bases stand before it, and the entry with its number in its list
+-- a receipt of an entry or a rise: how many moves stand before it, and what it shows, with its number in its list
 pub record PlacedEntry : Type 0 where
   pub place : ℕ
   pub number : ℕ

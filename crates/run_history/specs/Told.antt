@@ -1,4 +1,4 @@
--- What calls are told: by callbacks and by a refused write of the clock, and of the start of an object's timer.
+-- What callbacks are told, why a write is refused, and how an object's start is told.
 use Rattle.std.specs.Prelude.{ℕ, ◌≡◌, ◌<◌, Bool, true, Option, Some, None}
 use Rattle.ktime.specs.Readings.{latest}
 use Rattle.clock_model.specs.Clocks.{last_stamp}

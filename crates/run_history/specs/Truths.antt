@@ -1,5 +1,5 @@
--- What a call told held at one moment of the order of all timers', bases' and objects' entries, a moment at which it had done just so much.
-use Rattle.std.specs.Prelude.{ℕ, ◌≡◌, ◌≤◌, ◌+◌, ◌⊎◌, None, Bool, true, false, Some, IsSome, List, [], ◌∷◌, ◌++◌, length}
+-- What a call was told held at one moment of the one order, a moment at which it had done just so much.
+use Rattle.std.specs.Prelude.{ℕ, ◌≡◌, ◌≤◌, ◌<◌, ◌+◌, ◌⊎◌, None, Bool, true, false, Some, IsSome, List, [], ◌∷◌, ◌++◌, length}
 use Rattle.clock_model.specs.Clocks.{after_write, greatest}
 use Rattle.seq_timer.specs.declared.observation.Observation.{Observation}
 use Rattle.seq_timer.specs.declared.observation.Observation.TheVariants as observations
@@ -63,12 +63,14 @@ RunsFirst w base timer generation n =
 abbrev pub IsFront : Witness → ℕ → ℕ → ℕ → Type 0
 IsFront w base timer n = (expires : ℕ) × (front_of ((system_along w n).bases base).content ≡ Some (expires, timer))
 
--- a timer that was moved off a base was the next one at a moment between these two, at which it had just the entries before its move
+-- A timer that was moved off a base was the next one there, while no function ran on the base, at a moment between these two at which the timer had just the
+-- entries before its move. Entries of others may stand between that moment and the move.
 pub record WasFront (w : Witness) (first last base : ℕ) (e : Evacuation) : Type 0 where
   pub at : ℕ
   pub from : first ≤ at
   pub to : at ≤ last
   pub stamp : (timer_along w at e.timer).stamp ≡ e.before
+  pub idle : RunsNone w base at
   pub front : IsFront w base e.timer at
 
 -- a start was refused: the timer's history was full, and the timer was not on the move between bases
@@ -128,8 +130,8 @@ IsTrueEntry w i number (object_entries.Accept reading arm reply) n = IsTrueStart
 IsTrueEntry w i number (object_entries.Read reading arm reply) n = IsTrueStart w i number false arm n
 IsTrueEntry w i number (object_entries.Gettime reading arm left interval) n = IsTrueStart w i number false arm n
 
--- A call that makes an entry of an object has the object from its first moment on: then it had just the entries before it. An expiry run has it, for a
--- trigger, at the moment before the entry alone.
+-- For any entry but a trigger, the object has just the entries before it from the call's first moment on; for a trigger that is asked only at a moment
+-- behind the claim.
 abbrev pub HadFromFirst : Witness → ℕ → ℕ → ℕ → ObjectEntry → Type 0
 HadFromFirst w first i number (object_entries.Trigger generation reading counted) = Unit
 HadFromFirst w first i number (object_entries.Settime flags value interval reading arm reply) = StoodBefore w i number first
@@ -137,7 +139,7 @@ HadFromFirst w first i number (object_entries.Accept reading arm reply) = StoodB
 HadFromFirst w first i number (object_entries.Read reading arm reply) = StoodBefore w i number first
 HadFromFirst w first i number (object_entries.Gettime reading arm left interval) = StoodBefore w i number first
 
--- an entry of an object was made while a call had the object, and what it tells of its timer's start is true
+-- an entry of an object was made while its call had the object, and what it tells of its timer's start is true
 pub record MadeInTurn (w : Witness) (first i number : ℕ) (entry : ObjectEntry) (n : ℕ) : Type 0 where
   pub true_start : IsTrueEntry w i number entry n
   pub had : HadFromFirst w first i number entry
@@ -156,7 +158,7 @@ abbrev pub AreTrue : Witness → Label → ℕ → ℕ → List Action → List 
 AreTrue w c first from before [] last = from ≤ last
 AreTrue w c first from before (d ∷ ds) last = (n : ℕ) × (from ≤ n) × IsTrue w c first before d n × AreTrue w c first n (before ++ d ∷ []) ds last
 
--- no function of a context ran on the base, no timer of it was the first to expire there, and the base was stopped for each clock
+-- no function of a context ran on the base, no timer of that context was next to expire there, and the base was stopped for each clock
 pub record IsDone (w : Witness) (context : Context) (reading base n : ℕ) : Type 0 where
   pub free : (t : ℕ) → runs_on base (in_context context (timer_along w n) t) ≡ false
   pub first : next_on context ((system_along w n).bases base) (reading_at w.run.clock reading) ≡ None
@@ -173,9 +175,15 @@ pub record SawFullOn (w : Witness) (base timer number n : ℕ) : Type 0 where
 abbrev pub StandsAt : Witness → ℕ → ℕ → ℕ → Type 0
 StandsAt w base stamp n = (standing_along w n base).stamp ≡ stamp
 
--- An answer that tells of a state tells of that of the call's last moment: of timers, bases and objects; but for a settime, that of an idle timer at its
--- first, where it cancelled nothing, and of a refused start that of the moment before its object's entry. A write is refused only while the clock may take more of them, and where one of its times would be past the latest, and the answer
--- is the greatest of these.
+-- at this moment the base might go off line with this heir: both were on line, and the base's history had room
+pub record MayGo (w : Witness) (base heir n : ℕ) : Type 0 where
+  pub online : (standing_along w n base).heir ≡ None
+  pub heir_online : (standing_along w n heir).heir ≡ None
+  pub room : (standing_along w n base).stamp < last_standing
+
+-- An answer that tells of a state of timers, bases or objects tells of that of the call's last moment, but that a base might go off line held at its first.
+-- A settime that cancelled nothing found an idle timer at its first moment; one whose start was refused tells of the moment before its object's entry. A
+-- write is refused only while the clock may take more of them, and where one of its times would be past the latest; the answer is the greatest of these.
 abbrev pub AnswerHolds : Witness → ℕ → ℕ → Label → ℕ → List Action → Call → Answer → Type 0
 AnswerHolds w first last c reading actions (calls.Start timer request) (answers.Spent stamp) = SawRefusal w timer stamp last
 AnswerHolds w first last c reading actions (calls.Cancel timer) (answers.Running generation stamp) = Saw w timer stamp (observations.Running generation) last
@@ -204,13 +212,14 @@ AnswerHolds w first last c reading actions (calls.Read timer len) (answers.Spent
 AnswerHolds w first last c reading actions (calls.Readable timer) (answers.Readable ready shown stamp) =
     HadEntries w timer stamp last
     × (is_readable (fd_after w.script w.run timer (base_of (kind_of w.script timer)) stamp) (reading_at w.run.clock reading) ≡ ready)
-AnswerHolds w first last c reading actions (calls.Offline base heir budget) (answers.Offline moved stamp) = IsUnused (timer_along w last) base
+AnswerHolds w first last c reading actions (calls.Offline base heir budget) (answers.Offline moved stamp) =
+    MayGo w base heir first × IsUnused (timer_along w last) base
 AnswerHolds w first last c reading actions (calls.Offline base heir budget) (answers.OfflineBusy moved timer generation) =
-    RunsFirst w base timer generation last
+    MayGo w base heir first × RunsFirst w base timer generation last
 AnswerHolds w first last c reading actions (calls.Offline base heir budget) (answers.OfflineMore moved) =
-    RunsNone w base last × ((t : ℕ) × (is_armed_on base (timer_along w last t) ≡ true))
+    MayGo w base heir first × RunsNone w base last × ((t : ℕ) × (is_armed_on base (timer_along w last t) ≡ true))
 AnswerHolds w first last c reading actions (calls.Offline base heir budget) (answers.OfflineSpent moved timer stamp) =
-    RunsNone w base last × SawFullOn w base timer stamp last
+    MayGo w base heir first × RunsNone w base last × SawFullOn w base timer stamp last
 AnswerHolds w first last c reading actions (calls.Offline base heir budget) (answers.Already stamp) =
     StandsAt w base stamp last × IsSome (standing_along w last base).heir
 AnswerHolds w first last c reading actions (calls.Offline base heir budget) (answers.HeirOffline stamp) =

@@ -76,13 +76,13 @@ owner_of (OfTimer t entry) = TimersList t
 owner_of (OfBase b event) = BasesList b
 owner_of (OfRise k) = CountersList k
 
--- the list in which an entry of all timers' and bases' history is shown
+-- the list in which an entry or a rise is shown
 abbrev pub owner_of_entry : SystemEntry → Owner
 owner_of_entry (entries.Timer e) = TimersList e.timer
 owner_of_entry (entries.Base c) = BasesList c.base
 owner_of_entry (entries.Rise k) = CountersList k
 
--- a line of a timer, of a base, of the clock or of an object, but for what was only looked at, and for what a write or an object's entry was
+-- a line's label and what it shows: looks, skips, what was written and an object's entry are left out
 pub record ShownLine : Type 0 where
   pub label : Label
   pub shown : Shown
@@ -150,23 +150,23 @@ labels w = map (λ m. m.label) w.moves
 abbrev pub entries_in : Witness → List SystemEntry
 entries_in w = map (entry_of_move w.run.clock) w.moves
 
--- all timers and bases after so many of their entries
+-- all timers and bases after so many moves
 abbrev pub system_along : Witness → ℕ → System
 system_along w n = system_of (declareds_of w.script) (terms_of w.script) (take n (entries_in w))
 
--- a timer after so many entries of all timers and bases
+-- a timer after so many moves
 abbrev pub timer_along : Witness → ℕ → ℕ → Timer
 timer_along w n t = (system_along w n).timers t
 
--- whether a base is on line, after so many entries of all timers and bases
+-- whether a base is on line, after so many moves
 abbrev pub standing_along : Witness → ℕ → ℕ → Standing
 standing_along w n b = ((system_along w n).bases b).standing
 
--- how many of the first of them are writes of the clock
+-- how many of the first so many moves are writes of the clock
 abbrev pub writes_along : Witness → ℕ → ℕ
 writes_along w n = rises_of 0 (take n (entries_in w))
 
--- how many of the first of them are entries of an object
+-- how many of the first so many moves are entries of an object
 abbrev pub object_along : Witness → ℕ → ℕ → ℕ
 object_along w n i = rises_of (suc i) (take n (entries_in w))
 
