@@ -37,7 +37,7 @@ use Rattle.timer_objects.specs.Calls.{
 }
 use Rattle.timer_objects.specs.Turns.{HasTurn}
 use Rattle.timer_objects.specs.Valid.{IsSettimeReply, IsValidSettime, SetsAnew, settime_with}
-use Rattle.timer_objects.specs.Rearming.{Ends, KeepsNames, MakesEntry, rearming_kind}
+use Rattle.timer_objects.specs.Rearming.{Ends, EndsAt, KeepsNames, MakesEntry, rearming_kind}
 use Rattle.timer_objects.proofs.Bearing.{allows, bears, replies_to}
 use Rattle.timer_objects.proofs.Entering.{commits, enters_call, stamp_before}
 use Rattle.timer_objects.proofs.Retrying.{arms_names, enters_after, turn_after, turn_names}
@@ -125,6 +125,12 @@ module _ (x : ObjectsOf) (id : ℕ) (h : Locked Object) (index : h.index ≡ id)
               sets.arms);
           answer = tells;
         })
+
+-- a call that found this object ends
+pub ends_at : (x : ObjectsOf) (o : Opening) (old new : Caller) (id : ℕ) (r : Rearming) (reading : ClockReading) (e : Ended) (object : Object)
+    → EndsAt x o old new id r reading e object → Ends x o old new id r reading e
+ends_at x o old new id r reading (ends.Full n) object full = full
+ends_at x o old new id r reading (ends.Made n reply) object made = (made.0, made.2)
 
 -- ---- turns that only looked
 
