@@ -23,7 +23,8 @@ use Rattle.timer_objects.specs.declared.object.ObjectReply.{ObjectReply}
 use Rattle.timer_objects.specs.declared.wanting.Rearming.{Rearming}
 use Rattle.timer_objects.specs.declared.wanting.Rearming.TheVariants as rearmings
 use Rattle.timer_objects.specs.Steps.{IsObjectOf, ObjectAllows, object_answer, object_step}
-use Rattle.timer_objects.specs.Calls.{BearsRestart, RearmsFor, phase_of, rearming_call, wanted_by}
+use Rattle.timer_objects.specs.Arming.{ArmsFor}
+use Rattle.timer_objects.specs.Calls.{BearsRestart, phase_of, rearming_call, wanted_by}
 use Rattle.timer_objects.specs.Rearming.{RepliesTo, rearming_kind}
 use Rattle.timer_objects.proofs.Restarting.{expiry}
 
@@ -57,48 +58,47 @@ module _ (d : Decl) (limit n : ℕ) (reading : ClockReading) (arm : Arm) where
   replies_to rearmings.Getting (objects.Posix t) reply is k e = cc
   replies_to rearmings.Getting (objects.Fd t) reply is k e = (left_by arm t reading, t.interval, e)
 
-module _ (o : Opening) (v w : KnownOfTimers) (id last base : ℕ) (reading : ClockReading) (arm : Arm) (span : Span) (log log' : List Receipt) where
+module _ (o : Opening) (v w : KnownOfTimers) (id base : ℕ) (reading : ClockReading) (arm : Arm) (log log' : List Receipt) where
   bears_none : (phase : Phase) → arm ≡ arms.NotAsked → BearsRestart o w id arm phase
   bears_none phase e = subst (λ a. BearsRestart o w id a phase) (sym e) tt
 
   -- a timer that has expired and was started again has the generation and the expiry of that start
-  bears_expired : (a : Arm) (phase : Phase) (interval : ℕ) → RearmsFor o v w id last (next_start phase interval reading) base reading a span log log'
+  bears_expired : (a : Arm) (phase : Phase) (interval : ℕ) → ArmsFor o v w id (next_start phase interval reading) base reading a log log'
       → a ≡ arm → BearsRestart o w id arm (rearmed phase interval reading arm)
-  bears_expired a phases.Idle interval rearms e = bears_none phases.Idle (sym e ∙ rearms.0)
-  bears_expired a (phases.Armed generation clock expires) interval rearms e = bears_none (phases.Armed generation clock expires) (sym e ∙ rearms.0)
-  bears_expired arms.NotAsked (phases.Expired clock expires) interval rearms e =
+  bears_expired a phases.Idle interval started e = bears_none phases.Idle (sym e ∙ started.0)
+  bears_expired a (phases.Armed generation clock expires) interval started e = bears_none (phases.Armed generation clock expires) (sym e ∙ started.0)
+  bears_expired arms.NotAsked (phases.Expired clock expires) interval started e =
       bears_none (rearmed (phases.Expired clock expires) interval reading arm) (sym e)
-  bears_expired (arms.Armed g) (phases.Expired clock expires) interval rearms e =
+  bears_expired (arms.Armed g) (phases.Expired clock expires) interval started e =
       let next = next_after expires (value_of clock reading) interval in
-      let start = rearms.starts in
       subst (λ a. BearsRestart o w id a (rearmed (phases.Expired clock expires) interval reading a)) e
-      (refl, omega (arith, expiry o rearms.begin w id next base reading start.answer g start.starts start.outcome))
-  bears_expired (arms.Unarmed n) (phases.Expired clock expires) interval rearms e =
+      (refl, omega (arith, expiry o v w id next base reading started.answer g started.starts started.outcome))
+  bears_expired (arms.Unarmed n) (phases.Expired clock expires) interval started e =
       subst (λ a. BearsRestart o w id a (rearmed (phases.Expired clock expires) interval reading a)) e refl
 
   module _ (phase : Phase) (interval : ℕ) where
     bears_accept : (b c : Bool) (p q : PosixTimer) → p.phase ≡ rearmed phase interval reading arm
-        → RearmsFor o v w id last (if b && c then next_start phase interval reading else None) base reading arm span log log'
+        → ArmsFor o v w id (if b && c then next_start phase interval reading else None) base reading arm log log'
         → BearsRestart o w id arm (if b then p else q).phase
-    bears_accept true true p q e rearms = subst (BearsRestart o w id arm) (sym e) (bears_expired arm phase interval rearms refl)
-    bears_accept true false p q e rearms = bears_none p.phase rearms.0
-    bears_accept false c p q e rearms = bears_none q.phase rearms.0
+    bears_accept true true p q e started = subst (BearsRestart o w id arm) (sym e) (bears_expired arm phase interval started refl)
+    bears_accept true false p q e started = bears_none p.phase started.0
+    bears_accept false c p q e started = bears_none q.phase started.0
 
     bears_read : (b c : Bool) (p q s : Descriptor) → s.phase ≡ rearmed phase interval reading arm
-        → RearmsFor o v w id last (if b || c then None else next_start phase interval reading) base reading arm span log log'
+        → ArmsFor o v w id (if b || c then None else next_start phase interval reading) base reading arm log log'
         → BearsRestart o w id arm (if b then p else (if c then q else s)).phase
-    bears_read true c p q s e rearms = bears_none p.phase rearms.0
-    bears_read false true p q s e rearms = bears_none q.phase rearms.0
-    bears_read false false p q s e rearms = subst (BearsRestart o w id arm) (sym e) (bears_expired arm phase interval rearms refl)
+    bears_read true c p q s e started = bears_none p.phase started.0
+    bears_read false true p q s e started = bears_none q.phase started.0
+    bears_read false false p q s e started = subst (BearsRestart o w id arm) (sym e) (bears_expired arm phase interval started refl)
 
-  pub bears : (r : Rearming) (x : Object) → RearmsFor o v w id last (wanted_by r x reading) base reading arm span log log'
+  pub bears : (r : Rearming) (x : Object) → ArmsFor o v w id (wanted_by r x reading) base reading arm log log'
       → BearsRestart o w id arm (phase_of (object_step x (rearming_call r reading arm)))
-  bears rearmings.Accepting objects.Raw rearms = bears_none phases.Idle rearms.0
-  bears rearmings.Accepting (objects.Posix t) rearms = bears_accept t.phase t.interval t.pending (nat_lt t.stamp t.limit) _ _ refl rearms
-  bears rearmings.Accepting (objects.Fd t) rearms = bears_none t.phase rearms.0
-  bears rearmings.Reading objects.Raw rearms = bears_none phases.Idle rearms.0
-  bears rearmings.Reading (objects.Posix t) rearms = bears_none t.phase rearms.0
-  bears rearmings.Reading (objects.Fd t) rearms = bears_read t.phase t.interval (is_canceled t reading) (nat_eq t.count 0) _ _ _ refl rearms
-  bears rearmings.Getting objects.Raw rearms = bears_none phases.Idle rearms.0
-  bears rearmings.Getting (objects.Posix t) rearms = bears_none t.phase rearms.0
-  bears rearmings.Getting (objects.Fd t) rearms = bears_expired arm t.phase t.interval rearms refl
+  bears rearmings.Accepting objects.Raw started = bears_none phases.Idle started.0
+  bears rearmings.Accepting (objects.Posix t) started = bears_accept t.phase t.interval t.pending (nat_lt t.stamp t.limit) _ _ refl started
+  bears rearmings.Accepting (objects.Fd t) started = bears_none t.phase started.0
+  bears rearmings.Reading objects.Raw started = bears_none phases.Idle started.0
+  bears rearmings.Reading (objects.Posix t) started = bears_none t.phase started.0
+  bears rearmings.Reading (objects.Fd t) started = bears_read t.phase t.interval (is_canceled t reading) (nat_eq t.count 0) _ _ _ refl started
+  bears rearmings.Getting objects.Raw started = bears_none phases.Idle started.0
+  bears rearmings.Getting (objects.Posix t) started = bears_none t.phase started.0
+  bears rearmings.Getting (objects.Fd t) started = bears_expired arm t.phase t.interval started refl

@@ -24,7 +24,7 @@ use Rattle.timer_objects.specs.declared.object.Object.TheVariants as objects
 use Rattle.timer_objects.specs.declared.object.ObjectCall.{ObjectCall}
 use Rattle.timer_objects.specs.declared.object.ObjectCall.TheVariants as calls
 use Rattle.timer_objects.specs.declared.object.ObjectReply.{ObjectReply}
-use Rattle.timer_objects.specs.Steps.{IsObjectOf, ObjectAllows, object_step, opened_as}
+use Rattle.timer_objects.specs.Steps.{IsObjectOf, ObjectAllows, object_step, opened_as, opened_object}
 use Rattle.timer_objects.specs.Meaning.{object_meaning, opened_objects}
 use Rattle.timer_objects.specs.Known.{ObjectsOf, decl_at}
 
@@ -59,12 +59,12 @@ one_more d limit n (objects.Fd t) (calls.Posix c) is allows = absurd allows
 one_more d limit n (objects.Fd t) (calls.Fd c) is allows =
     (is.0, fd_step-clock t c ∙ is.1, fd_step-base t c ∙ is.2, fd_step-limit t c ∙ is.3, fd_step-stamp t c ∙ ap (λ k. k + 1) is.4)
 
-after_log : (d : Decl) (limit n : ℕ) (x y : Object) (log : List (Entry ObjectCall ObjectReply)) → IsObjectOf d limit n x.object
-    → Leads object_meaning x log y → IsObjectOf d limit (n + length log) y.object
-after_log d limit n x y [] is leads = subst (λ z. IsObjectOf d limit (n + 0) z.object) (sym leads) (subst (λ k. IsObjectOf d limit k x.object) (omega arith) is)
+after_log : (d : Decl) (limit n : ℕ) (x y : Object) (log : List (Entry ObjectCall ObjectReply)) → IsObjectOf d limit n x → Leads object_meaning x log y
+    → IsObjectOf d limit (n + length log) y
+after_log d limit n x y [] is leads = subst (λ z. IsObjectOf d limit (n + 0) z) (sym leads) (subst (λ k. IsObjectOf d limit k x) (omega arith) is)
 after_log d limit n x y (e ∷ es) is leads =
-    subst (λ k. IsObjectOf d limit k y.object) (omega arith)
-    (after_log d limit (n + 1) (object_meaning.next x e.call) y es (one_more d limit n x.object e.call.call is leads.0.allowed) leads.2)
+    subst (λ k. IsObjectOf d limit k y) (omega arith)
+    (after_log d limit (n + 1) (object_step x e.call) y es (one_more d limit n x e.call is leads.0) leads.2)
 
 opened_is : (d : Decl) (limit : ℕ) (kind : Kind) → d.kind ≡ kind → IsObjectOf d limit 0 (opened_as kind d.clock d.base limit)
 opened_is d limit kinds.Raw e = (e, refl)
@@ -79,10 +79,10 @@ opened_at limit (y ∷ ys) zero x d e = some-injective x (opened_object limit y)
 opened_at limit (y ∷ ys) (suc i) x d e = opened_at limit ys i x d e
 
 -- the state after a history is that of the object that was declared, with as many entries
-pub state_is : (x : ObjectsOf) (i : ℕ) (log : List (Entry ObjectCall ObjectReply)) (cell : Object)
-    → StateAfter object_meaning (opened_objects x.decls x.limit) i log cell → IsObjectOf (decl_at x i) x.limit (length log) cell.object
-state_is x i log cell after =
+pub state_is : (x : ObjectsOf) (i : ℕ) (log : List (Entry ObjectCall ObjectReply)) (now : Object)
+    → StateAfter object_meaning (opened_objects x.decls x.limit) i log now → IsObjectOf (decl_at x i) x.limit (length log) now
+state_is x i log now after =
     let d = decl_at x i in
     let from = opened_at x.limit x.decls i after.from (record { kind = kinds.Raw; clock = clocks.Monotonic; base = 0 }) after.at in
-    let opens : IsObjectOf d x.limit 0 after.from.object = subst (λ c. IsObjectOf d x.limit 0 c.object) (sym from) (opened_is d x.limit d.kind refl) in
-    subst (λ n. IsObjectOf d x.limit n cell.object) (omega arith) (after_log d x.limit 0 after.from cell log opens after.leads)
+    let opens : IsObjectOf d x.limit 0 after.from = subst (λ c. IsObjectOf d x.limit 0 c) (sym from) (opened_is d x.limit d.kind refl) in
+    subst (λ n. IsObjectOf d x.limit n now) (omega arith) (after_log d x.limit 0 after.from now log opens after.leads)

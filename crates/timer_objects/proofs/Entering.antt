@@ -6,6 +6,8 @@ use Rattle.counted_row.specs.declared.view.Locked.{Locked}
 use Rattle.counted_row.specs.Views.{IsPassOfRow, Locks}
 use Rattle.counted_row.specs.Calls.{Commits}
 use Rattle.counted_row.proofs.Calls.{commits_of}
+use Rattle.timer_objects.specs.declared.object.Object.{Object}
+use Rattle.timer_objects.specs.declared.object.ObjectCall.{ObjectCall}
 use Rattle.timer_objects.specs.declared.object.ObjectReply.{ObjectReply}
 use Rattle.timer_objects.specs.Steps.{object_answer}
 use Rattle.timer_objects.specs.Meaning.{object_meaning}
@@ -30,11 +32,11 @@ module _ (x : ObjectsOf) (p m q : ObjectsPass) (id : ℕ) (h : Locked Object) (c
       → new.object_log ≡ old.object_log ++ receipt_of h call ∷ [] → EntersCall x (record old { objects = p }) (record new { objects = q }) id call answer
   enters_call old new e f room noted = record {
     commits = commits;
-    reply = enters.reply;
     may = enters.may;
+    reply = enters.reply;
     room = omega (arith, stamp_before, room);
     object_log = noted ∙ ap (λ r. old.object_log ++ r ∷ [])
-        (ap (λ i. record { object = i; number = h.stamp + 1; call = call; reply = object_answer h.state.object call.call }) locks.index
-        ∙ (ap (λ n. record { object = id; number = n + 1; call = call; reply = object_answer h.state.object call.call }) (sym stamp_before)
+        (ap (λ i. record { object = i; number = h.stamp + 1; call = call; reply = object_answer h.state call }) locks.index
+        ∙ (ap (λ n. record { object = id; number = n + 1; call = call; reply = object_answer h.state call }) (sym stamp_before)
         ∙ ap (λ r. record { object = id; number = length commits.adds.before + 1; call = call; reply = r }) (sym enters.reply)));
   }

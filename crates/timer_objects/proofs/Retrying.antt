@@ -1,4 +1,4 @@
--- A call that arms its object's timer again, after turns that only looked.
+-- A call on an object after turns that only looked, and the names of its passes.
 use Rattle.std.proofs.Common.{ap, subst, ◌≡◌, ◌∙◌, ◌+◌, ℕ, List, [], ◌∷◌, ◌++◌, length, ◌<◌}
 use Rattle.std.specs.Prelude.{Option, Some, None}
 use Rattle.ktime.specs.Readings.{ClockReading}
@@ -16,9 +16,12 @@ use Rattle.timer_objects.specs.declared.log.ObjectReceipt.{ObjectReceipt}
 use Rattle.timer_objects.specs.declared.object.ObjectReply.{ObjectReply}
 use Rattle.timer_objects.specs.Meaning.{object_meaning}
 use Rattle.timer_objects.specs.Known.{IsObjectsPass, ObjectsOf, ObjectsPass, row_of, seen_of}
-use Rattle.timer_objects.specs.Calls.{Caller, EntersCall, FindsFull, HasWaited, RearmsFor}
+use Rattle.timer_objects.specs.declared.object.Object.{Object}
+use Rattle.timer_objects.specs.declared.object.ObjectCall.{ObjectCall}
+use Rattle.timer_objects.specs.Arming.{ArmsFor}
+use Rattle.timer_objects.specs.Calls.{Caller, EntersCall, FindsFull, HasWaited}
 use Rattle.timer_objects.specs.Turns.{HasTurn}
-use Rattle.timer_objects.specs.Waiting.{HasToWait}
+use Rattle.timer_objects.specs.Waiting.{HasToWait, IsHindered}
 
 -- a turn of an object behind looks
 abbrev pub turn_after : {id n : ℕ} {u v begun worked w : KnownOfTimers} → LooksOn u v → HasTurn id n v begun worked w → HasTurn id n u begun worked w
@@ -31,8 +34,8 @@ module _ {a b c : Caller} where
       → EntersCall x a c id call answer
   enters_after {x} {id} {call} {answer} waits e = record {
     commits = commits_after waits.objects e.commits;
-    reply = e.reply;
     may = e.may;
+    reply = e.reply;
     room = e.room;
     object_log = e.object_log ∙ ap (λ l. l ++ record { object = id; number = length e.commits.adds.before + 1; call = call; reply = answer } ∷ []) waits.object_log;
   }
@@ -49,14 +52,14 @@ module _ {a b c : Caller} where
     object_log = found.object_log ∙ waits.object_log;
   }
 
--- a turn that was given up while the object was held
-pub held_up : (x : ObjectsOf) (p m q : ObjectsPass) (id : ℕ) (h : Locked Object) → Locks object_meaning p m id h → IsPassOfRow (row_of x) m
+-- a settime that was given up while the object was held
+pub held_up : (x : ObjectsOf) (o : Opening) (p m q : ObjectsPass) (id : ℕ) (h : Locked Object) → Locks object_meaning p m id h → IsPassOfRow (row_of x) m
     → IsObjectsPass x q → p.knows.held ≡ None → q.knows ≡ released m.knows → h.stamp ≡ length (seen_of q h.index) → h.stamp < x.limit
-    → (why : Object → Type 0) → why h.state → HasToWait x p q id why
-held_up x p m q id h locks here after idle is count room why because = record {
+    → (k : KnownOfTimers) → IsHindered o k id → HasToWait x o p q k id
+held_up x o p m q id h locks here after idle is count room k hindered = record {
   reads = reads_of {r = row_of x} locks here after.row idle is after.knows;
   room = subst (λ n. n < x.limit) (count ∙ ap (λ i. length (seen_of q i)) locks.index) room;
-  because = because;
+  hindered = hindered;
 }
 
 -- a caller whose turn was given up has waited
@@ -79,8 +82,7 @@ pub turn_names : {id n : ℕ} {old begun worked new : KnownOfTimers} → HasTurn
     → worked.claims ≡ begun.claims → (new.id ≡ old.id) × (new.claims ≡ old.claims)
 turn_names t same claims = (t.ends.id ∙ (same ∙ t.looks.id), t.ends.claims ∙ (claims ∙ t.looks.claims))
 
-pub rearms_names : (o : Opening) (v w : KnownOfTimers) (t last base : ℕ) (reading : ClockReading) (arm : Arm) (span : Span) (log log' : List Receipt)
-    (wanted : Option Wanted) → RearmsFor o v w t last wanted base reading arm span log log' → (w.id ≡ v.id) × (w.claims ≡ v.claims)
-rearms_names o v w t last base reading arm span log log' None rearms = (rearms.1.looks.id, rearms.1.looks.claims)
-rearms_names o v w t last base reading arm span log log' (Some wanted) rearms =
-    let s = rearms.starts.starts in (s.made.id ∙ rearms.looks.id, s.claims ∙ rearms.looks.claims)
+pub arms_names : (o : Opening) (v w : KnownOfTimers) (t base : ℕ) (reading : ClockReading) (arm : Arm) (log log' : List Receipt) (wanted : Option Wanted)
+    → ArmsFor o v w t wanted base reading arm log log' → (w.id ≡ v.id) × (w.claims ≡ v.claims)
+arms_names o v w t base reading arm log log' None a = (ap (λ (k : KnownOfTimers). k.id) a.1, ap (λ (k : KnownOfTimers). k.claims) a.1)
+arms_names o v w t base reading arm log log' (Some wanted) a = (a.starts.made.id, a.starts.claims)

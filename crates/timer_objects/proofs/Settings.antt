@@ -40,38 +40,9 @@ use Rattle.timer_objects.specs.declared.object.Kind.TheVariants as kinds
 use Rattle.timer_objects.specs.declared.object.Object.{Object}
 use Rattle.timer_objects.specs.declared.object.Object.TheVariants as objects
 use Rattle.timer_objects.specs.Steps.{IsObjectOf, ObjectAllows, object_answer, object_step}
-use Rattle.timer_objects.specs.Arming.{ArmsFor, Disarms, arm_of, asked_by, stamp_seen}
+use Rattle.timer_objects.specs.Arming.{ArmsFor, arm_of}
 use Rattle.timer_objects.specs.Calls.{BearsStart, SettimeTells, flags_of, phase_of, settime_call}
-use Rattle.timer_objects.specs.Valid.{IsSettimeReply, end_by}
-
--- ---- spans
-
-module _ (o : Opening) (v w : KnownOfTimers) (t : ℕ) where
-  -- a timer that was disarmed has then so many entries
-  pub disarmed_end : (last : ℕ) (span : Span) (log log' : List Receipt) → Disarms o v w t last span log log' → span.to ≡ stamp_seen o w t
-  disarmed_end last span log log' d = omega (arith, d.to, d.from, stamp_made o v w t d.cancelled.at (cancel_entries d.answer) d.cancelled.made)
-
-  number_by : (a : StartAnswer) (before : ℕ) → end_by (arm_of a) before ≡ start_number a
-  number_by (starts.Started was g base outs placement) before = refl
-  number_by (starts.Spent n) before = refl
-
-  started_end : (wanted : Wanted) (base : ℕ) (reading : ClockReading) (before : ℕ) (a : StartAnswer) (arm : Arm) → arm ≡ arm_of a
-      → StartsTimer o v w t (asked_by wanted base reading) a → end_by arm before ≡ stamp_seen o w t
-  started_end wanted base reading before a arm e s =
-      ap (λ x. end_by x before) e ∙ (number_by a before ∙ start_tells o v w t (asked_by wanted base reading) a s)
-
-  -- and after the start that was wanted, if one was
-  pub armed_end : (wanted : Option Wanted) (base : ℕ) (reading : ClockReading) (arm : Arm) (log log' : List Receipt) (before : ℕ)
-      → ArmsFor o v w t wanted base reading arm log log' → before ≡ stamp_seen o v t → end_by arm before ≡ stamp_seen o w t
-  armed_end None base reading arm log log' before a same =
-      ap (λ x. end_by x before) a.0 ∙ (same ∙ ap (λ k. stamp_seen o k t) (sym a.1))
-  armed_end (Some wanted) base reading arm log log' before a same = started_end wanted base reading before a.answer arm a.outcome a.starts
-
-  -- what was seen goes on
-  pub arms_goes_on : (wanted : Option Wanted) (base : ℕ) (reading : ClockReading) (arm : Arm) (log log' : List Receipt)
-      → ArmsFor o v w t wanted base reading arm log log' → Begins v.seen w.seen
-  arms_goes_on None base reading arm log log' a = subst (λ (k : KnownOfTimers). Begins v.seen k.seen) (sym a.1) (begins_refl v.seen)
-  arms_goes_on (Some wanted) base reading arm log log' a = begins_trans a.starts.made.from a.starts.made.seen
+use Rattle.timer_objects.specs.Valid.{IsSettimeReply}
 
 -- ---- the object
 

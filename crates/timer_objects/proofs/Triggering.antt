@@ -5,6 +5,8 @@ use Rattle.hr_timers.specs.Known.{KnownOfTimers}
 use Rattle.counted_row.specs.declared.view.Locked.{Locked}
 use Rattle.counted_row.specs.Views.{IsPassOfRow, Locks}
 use Rattle.counted_row.proofs.Calls.{commits_of}
+use Rattle.timer_objects.specs.declared.object.Object.{Object}
+use Rattle.timer_objects.specs.declared.object.ObjectCall.{ObjectCall}
 use Rattle.timer_objects.specs.declared.log.ObjectReceipt.{ObjectReceipt}
 use Rattle.timer_objects.specs.declared.object.ObjectReply.{ObjectReply}
 use Rattle.timer_objects.specs.Steps.{object_answer}
@@ -33,6 +35,6 @@ module _ (x : ObjectsOf) (p m q : ObjectsPass) (id : ℕ) (h : Locked Object) (c
           object = locks.index i;
           number = counted i + 1;
           call = call;
-          reply = object_answer h.state.object call.call;
+          reply = object_answer h.state call;
         } ∷ []);
       }

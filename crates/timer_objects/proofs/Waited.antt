@@ -22,7 +22,7 @@ use Rattle.timer_objects.specs.Calls.{Caller, HasWaited, RearmingMade}
 use Rattle.timer_objects.specs.Known.{ObjectsOf}
 use Rattle.timer_objects.specs.Rearming.{Ends, EndsAt, KeepsNames}
 use Rattle.timer_objects.specs.Steps.{object_answer}
-use Rattle.timer_objects.specs.BlockingReads.{AnswersBy, EndsRead, HasSome, ReadsBlocking, ReadsSome, read_at}
+use Rattle.timer_objects.specs.BlockingReads.{AnswersBy, EndsRead, HasSome, ReadsBlocking, ReadsSome}
 use Rattle.timer_objects.proofs.Asking.{ends_names, rearming_after}
 use Rattle.timer_objects.proofs.Retrying.{full_after}
 
@@ -56,14 +56,14 @@ cancels false false false n is = absurd (cc)
 module _ (x : ObjectsOf) (o : Opening) (old new : Caller) (id : ℕ) (reading : ClockReading) where
   -- the reply is that of a read of the descriptor that was found
   told : (a : ReadAnswer) (m : RearmingMade x o old new id rearmings.Reading reading (replies.Fd (fd_replies.Read a))) (t : Descriptor)
-      → m.enters.commits.state.object ≡ objects.Fd t → a ≡ fd_read_answer t reading
+      → m.enters.commits.state ≡ objects.Fd t → a ≡ fd_read_answer t reading
   told a m t found =
       let is : replies.Fd (fd_replies.Read a) ≡ replies.Fd (fd_replies.Read (fd_read_answer t reading)) =
       m.enters.reply ∙ ap (λ (k : Object). object_answer k (calls.Fd (fd_calls.Read reading m.arm))) found in
       cc
 
   abbrev some_of : (a : ReadAnswer) (m : RearmingMade x o old new id rearmings.Reading reading (replies.Fd (fd_replies.Read a)))
-      → (s : HasSome reading m.enters.commits.state.object) → ReadsSome x o old new id reading a
+      → (s : HasSome reading m.enters.commits.state) → ReadsSome x o old new id reading a
   some_of a m s = record { made = m; descriptor = s.0; found = s.1; some = s.2 }
 
   -- law: a turn that ended the read gives the answer of a read that waits
@@ -100,20 +100,19 @@ module _ (x : ObjectsOf) (o : Opening) (old new : Caller) (id : ℕ) (reading : 
   reads_blocking len long (ends.Made n replies.None) a ended is = absurd is
 
   -- law: a call that found a descriptor with something to read ended the read
-  pub ends_read : (e : Ended) (cell : Object) → HasSome reading cell.object → EndsAt x o old new id (read_at reading) e cell
+  pub ends_read : (e : Ended) (object : Object) → HasSome reading object → EndsAt x o old new id rearmings.Reading reading e object
       → EndsRead x o old new id reading e
-  ends_read (ends.Full n) cell some full = full
-  ends_read (ends.Made n reply) cell some made =
-      (made.0, subst (λ (k : Object). HasSome reading k.object) (sym made.1) some, made.2)
+  ends_read (ends.Full n) object some full = full
+  ends_read (ends.Made n reply) object some made = (made.0, subst (λ (k : Object). HasSome reading k) (sym made.1) some, made.2)
 
   -- law: it ended as a call
-  pub ends_as_call : (e : Ended) → EndsRead x o old new id reading e → Ends x o old new id (read_at reading) e
+  pub ends_as_call : (e : Ended) → EndsRead x o old new id reading e → Ends x o old new id rearmings.Reading reading e
   ends_as_call (ends.Full n) full = full
   ends_as_call (ends.Made n reply) ended = (ended.0, ended.2)
 
   -- law: and left the passes their names
   pub read_names : (e : Ended) → EndsRead x o old new id reading e → KeepsNames old new
-  read_names e ended = ends_names x o old new id (read_at reading) e (ends_as_call e ended)
+  read_names e ended = ends_names x o old new id rearmings.Reading reading e (ends_as_call e ended)
 
 -- law: turns that only looked come before it
 pub read_after : (x : ObjectsOf) (o : Opening) (a b c : Caller) (id : ℕ) (reading : ClockReading) (e : Ended) → HasWaited a b

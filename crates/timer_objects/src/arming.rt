@@ -32,10 +32,11 @@ pub(crate) fn disarm<R: Wait>(
     ensures why { result ≡ false → IsHindered timers.now.about pass.new.known timer }
     ensures room { log.old.spare ≤ log.new.spare + 1 }
 {
-    match timers.try_to_cancel_logged(rt, pass, log, timer) {
-        CancelAnswer::Running { .. } => false,
-        CancelAnswer::Idle { .. } | CancelAnswer::Cancelled { .. } => true,
-    }
+    let answer = timers.try_to_cancel_logged(rt, pass, log, timer);
+    let CancelAnswer::Running { .. } = answer else {
+        return true;
+    };
+    false
 }
 
 /// Makes the start that a step wants, if it wants one.

@@ -161,11 +161,12 @@ impl Objects {
         let base = self.decl(id).base;
         let outcome = arm(rt, timers, pass, log, id, wants, base, reading);
         let stamp = held.stamp();
+        let number = stamp + 1;
         raise(rt, timers, pass, id, stamp);
         let made = call_of(call, reading, outcome);
         let reply = self.enter(objects_pass, held, object_log, id, &made);
         Ended::Made {
-            stamp: stamp + 1,
+            stamp: number,
             reply,
         }
     }

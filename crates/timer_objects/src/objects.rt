@@ -174,7 +174,11 @@ impl Objects {
         ensures receipt { log.new.receipts ≡ log.old.receipts ++ receipt_of held call.now ∷ [] }
         ensures spare { log.new.spare + 1 ≡ log.old.spare }
     {
-        let (number, reply) = self.row.commit(pass, held, *call);
+        // Each kind by itself, since the check of a commit has to see the type of its calls.
+        let (number, reply) = match *call {
+            ObjectCall::Posix(call) => self.row.commit(pass, held, ObjectCall::Posix(call)),
+            ObjectCall::Fd(call) => self.row.commit(pass, held, ObjectCall::Fd(call)),
+        };
         note(log, id, number, *call, reply);
         reply
     }

@@ -14,4 +14,4 @@ returns-clause-holds g c =
     let now = c.lock.ensures.locks.now in
     let log = entries h.index c.lock.new.pass.knows.pass.seen in
     let after = subst (λ made. StateAfter object_meaning made h.index log h.state) (c.lock.ensures.locks.opening ∙ c.requires.row.made) now.state in
-    subst (λ n. IsObjectOf (decl_at x h.index) x.limit n h.state.object) (sym now.stamp) (state_is x h.index log h.state after)
+    subst (λ n. IsObjectOf (decl_at x h.index) x.limit n h.state) (sym now.stamp) (state_is x h.index log h.state after)
