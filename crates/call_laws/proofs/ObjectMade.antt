@@ -36,6 +36,7 @@ use Rattle.lane_world.specs.Worlds.{WorldOf}
 use Rattle.pass_names.proofs.Passes.{begins_length, begins_refl, begins_trans}
 use Rattle.timer_setting.specs.declared.arming.Arm.{Arm}
 use Rattle.timer_objects.specs.declared.object.ObjectReply.{ObjectReply}
+use Rattle.timer_objects.specs.declared.object.ObjectCall.{ObjectCall}
 use Rattle.script_text.specs.declared.script.Call.{Call}
 use Rattle.run_history.specs.Fits.{FitsCall}
 use Rattle.run_history.proofs.Kept.{IsKept, Stops}
