@@ -2,7 +2,7 @@
 use Rattle.call_laws.proofs.Starts.{entries_so, told_so}
 use Rattle.call_laws.proofs.Noted.{entered_on, notes_of}
 use Rattle.call_laws.proofs.Parts.{HasRead, part_logged}
-use Rattle.std.proofs.Common.{Bool, false, ◌≡◌, ◌≤◌, ◌<◌, ℕ, ◌+◌, Some, List, [], ◌++◌, length, arith, refl, sym, ap, ◌∙◌, subst}
+use Rattle.std.proofs.Common.{Bool, false, ◌≡◌, ◌<◌, ℕ, ◌+◌, Some, List, [], ◌++◌, length, arith, refl, sym, ap, ◌∙◌, subst}
 use Rattle.std.proofs.lemmas.List.{append-nil}
 use Rattle.ktime.specs.Readings.{ClockReading}
 use Rattle.ktime.specs.declared.mode.Mode.{Mode}

@@ -43,7 +43,6 @@ use Rattle.lane_notes.specs.declared.notes.WriteNote.{WriteNote}
 use Rattle.lane_notes.specs.declared.notes.BaseNote.{BaseNote}
 use Rattle.lane_notes.specs.declared.notes.EntryNote.{EntryNote}
 use Rattle.lane_notes.specs.declared.notes.ObjectNote.{ObjectNote}
-use Rattle.timer_objects.specs.Known.{ObjectsPass}
 use Rattle.call_laws.proofs.Entering.{EntersNotes, own_places, place_told}
 use Rattle.run_history.specs.Objects.{present}
 use Rattle.lane_notes.proofs.Receipts.{present-append}

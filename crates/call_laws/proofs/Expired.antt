@@ -5,9 +5,6 @@ use Rattle.ktime.specs.Readings.{ClockReading}
 use Rattle.call_laws.proofs.Noted.{with_done-joins}
 use Rattle.call_laws.proofs.Parts.{part_looks}
 use Rattle.std.proofs.Common.{◌≡◌, ◌≤◌, ℕ, List, [], ◌∷◌, ◌++◌, length, map, arith, refl, sym, ◌∙◌, subst}
-use Rattle.std.specs.Prelude.{flat_map}
-use Rattle.std.proofs.lemmas.List.{append-nil}
-use Rattle.std.proofs.lemmas.Option.{slice_get_within}
 use Rattle.pass_names.specs.SharedHistory.{LooksOn}
 use Rattle.seq_timer.specs.Halves.{running_on}
 use Rattle.seq_timer.specs.Systems.{System, next_on, system_after}
@@ -25,12 +22,9 @@ use Rattle.timer_objects.specs.declared.log.ObjectReceipt.{ObjectReceipt}
 use Rattle.record_text.specs.declared.record.Answer.TheVariants as answers
 use Rattle.record_text.specs.declared.record.Answer.{Answer}
 use Rattle.record_text.specs.declared.record.Label.{Label}
-use Rattle.run_history.specs.Actions.{Action}
 use Rattle.run_history.specs.Histories.{reading_at}
-use Rattle.run_history.specs.Order.{calls_of, IsLabel}
 use Rattle.script_text.specs.declared.script.Call.TheVariants as calls
 use Rattle.script_text.specs.declared.script.Script.{Script}
-use Rattle.run_history.specs.Calls.{fires}
 use Rattle.run_history.specs.Witnesses as witnesses
 use Rattle.run_history.specs.Witnesses.{Witness, Fired}
 use Rattle.run_history.specs.Fits.{FitsCall}

@@ -8,8 +8,7 @@ use Rattle.lane_notes.specs.Notes.{both_noted}
 use Rattle.lane_notes.specs.Objects.{object_note, skip_note}
 use Rattle.lane_world.proofs.PartLists.{notes_same}
 use Rattle.std.proofs.lemmas.List.Sorted.{IsPermutation-sym, IsPermutation-trans}
-use Rattle.std.proofs.Common.{◌≡◌, ◌≤◌, ◌<◌, ℕ, ◌+◌, unwrap_or, List, [], ◌∷◌, ◌++◌, length, length-append, map, get_or, arith, refl, sym, ap, ◌∙◌, subst, zero, suc, Option}
-use Rattle.std.specs.List.{AllByRecursion}
+use Rattle.std.proofs.Common.{◌≡◌, ◌≤◌, ℕ, ◌+◌, unwrap_or, List, [], ◌∷◌, ◌++◌, length, length-append, map, get_or, arith, refl, sym, ap, ◌∙◌, subst, zero, suc, Option}
 use Rattle.std.specs.List.Sorted.{IsPermutation}
 use Rattle.std.proofs.lemmas.List.{append_assoc, append-nil, map-append}
 use Rattle.std.proofs.lemmas.List.Sorted.{IsPermutation-cons, IsPermutation-to_front, IsPermutation-append_right}
@@ -31,12 +30,12 @@ use Rattle.expire_pass.specs.declared.handler.Restart.{Restart}
 use Rattle.base_row.specs.declared.log.Receipt.{Receipt}
 use Rattle.timer_objects.specs.Callbacks.{RunsCallback}
 use Rattle.timer_objects.specs.Firings.{callback_at, Fires, FiresBy, Firing, firing}
-use Rattle.timer_objects.specs.Known.{decl_at, ObjectsPass, seen_of}
+use Rattle.timer_objects.specs.Known.{decl_at, ObjectsPass}
 use Rattle.timer_objects.specs.Triggers.{trigger_of}
 use Rattle.timer_objects.specs.declared.log.ObjectReceipt.{ObjectReceipt}
 use Rattle.record_text.specs.declared.record.Label.{Label}
 use Rattle.script_text.specs.Declarations.{declared_of, declareds_of, terms_of, kind_of}
-use Rattle.run_history.specs.Actions.{Action, Entered, made}
+use Rattle.run_history.specs.Actions.{Entered}
 use Rattle.run_history.specs.Objects.{present}
 use Rattle.script_text.specs.declared.script.Kind.{Kind}
 use Rattle.script_text.specs.declared.script.Script.{Script}
@@ -46,7 +45,6 @@ use Rattle.run_history.specs.Witnesses.{Fired, OfTimer, TimersList}
 use Rattle.run_history.specs.Receipts.{PlacedEntry}
 use Rattle.run_history.specs.Runs.{witness_of, Ending, IsJoined}
 use Rattle.run_history.specs.Truths.{WasOffLine}
-use Rattle.run_history.proofs.Actions.{made-append}
 use Rattle.run_history.proofs.Expires.{claim_of, finish_of, HaveRun, run_push}
 use Rattle.run_history.proofs.Known.{made_goes_on}
 use Rattle.run_history.proofs.Reached.{body_wider, was_wider}
@@ -60,8 +58,8 @@ use Rattle.std.specs.Prelude.{flat_map}
 use Rattle.std.proofs.lemmas.List.Concat.{flat_map-append}
 use Rattle.call_laws.proofs.Claimed.{claimed_in-append}
 use Rattle.call_laws.proofs.Bodies.{callback_kept}
-use Rattle.call_laws.proofs.Parts.{BodyKept, fired_of, HasRead, IsClaimed, IsPart, objects_grow, part_none}
-use Rattle.lane_world.proofs.PartLists.{each_joined, each_weaker, notes-append}
+use Rattle.call_laws.proofs.Parts.{BodyKept, fired_of, HasRead, IsClaimed, IsPart, part_none}
+use Rattle.lane_world.proofs.PartLists.{notes-append}
 use Rattle.call_laws.proofs.Entering.{enters_once}
 use Rattle.seq_timer.specs.declared.event.Restarted.{Restarted}
 use Rattle.seq_timer.specs.declared.event.Reply.TheVariants as replies

@@ -32,7 +32,6 @@ use Rattle.run_history.specs.Truths.{HadEntries}
 use Rattle.call_laws.proofs.ObjectTurns.{entries_had}
 use Rattle.lane_world.specs.Called.{CalledThen, lane_caller, CallsOverrun, gettime_told, LaneOf, with_done}
 use Rattle.lane_world.proofs.Kept.{Follows, IsNextCall, KeepsCall}
-use Rattle.lane_world.proofs.SeenMore.{begins_same}
 use Rattle.lane_world.specs.Worlds.{WorldOf}
 use Rattle.call_laws.proofs.CallKept.{clock_left, LooksAtClock}
 use Rattle.lane_world.proofs.PartLists.{no_notes-joins}

@@ -4,9 +4,8 @@ use Rattle.call_laws.proofs.Noted.{notes_of, notes_of-append, with_done-joins}
 use Rattle.call_laws.proofs.Parts.{part_made, part_none, part_then}
 use Rattle.call_laws.proofs.Stays.{timer_stays}
 use Rattle.lane_notes.specs.Notes.{both_noted}
-use Rattle.std.proofs.Common.{◌≤◌, ◌≡◌, ℕ, ◌+◌, Option, Some, List, [], length, arith, refl, sym, ap, ◌∙◌, subst, Bool, ◌∷◌, ◌++◌}
+use Rattle.std.proofs.Common.{◌≤◌, ◌≡◌, ℕ, ◌+◌, Option, List, [], length, arith, refl, sym, ap, ◌∙◌, subst, Bool, ◌∷◌, ◌++◌}
 use Rattle.ktime.specs.Readings.{ClockReading}
-use Rattle.seq_timer.specs.Steps.{Timer}
 use Rattle.base_row.specs.declared.log.Receipt.{Receipt}
 use Rattle.hr_timers.specs.Known.{KnownOfTimers, timer_then}
 use Rattle.timer_objects.specs.Calls.{phase_of, EntersCall}
@@ -46,7 +45,6 @@ use Rattle.call_laws.proofs.Armed.{IsArmedSo, IsLike, start_true, TimerPart}
 use Rattle.call_laws.proofs.CallKept.{clock_left, reading_goes_on}
 use Rattle.call_laws.proofs.PartKept.{keeps_part}
 use Rattle.call_laws.proofs.Parts.{IsNotedAs}
-use Rattle.timer_setting.specs.declared.arming.Arm.TheVariants as arms
 use Rattle.std.proofs.lemmas.List.{append-nil}
 use Rattle.timer_objects.specs.Steps.{object_answer}
 use Rattle.lane_world.specs.Runs.{ObjectMove}

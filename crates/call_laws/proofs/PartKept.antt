@@ -5,7 +5,6 @@ use Rattle.clock_cell.specs.Views.{writes}
 use Rattle.pass_names.specs.Counts.{count, one_if}
 use Rattle.pass_names.specs.Passes.{is_place}
 use Rattle.pass_names.proofs.Counts.{total-append}
-use Rattle.timer_objects.specs.Known.{seen_of}
 use Rattle.record_text.specs.declared.record.Answer.{Answer}
 use Rattle.record_text.specs.declared.record.ClockLine.{ClockLine}
 use Rattle.script_text.specs.declared.script.Call.{Call}
@@ -16,7 +15,6 @@ use Rattle.run_history.specs.Receipts.{PlacedEntry, Rises}
 use Rattle.run_history.specs.Runs.{Ending}
 use Rattle.lane_world.specs.Called.{LaneOf}
 use Rattle.std.specs.List.{AllByRecursion}
-use Rattle.std.proofs.lemmas.Option.{slice_get_within}
 use Rattle.lane_world.proofs.Kept.{IsNextCall, IsNoteSeen, list_of, EntryNotes, LookNotes, ObjectNotes, SkipNotes, BaseNotes, KeepsCall, log_of, SeesOn}
 use Rattle.lane_world.specs.Worlds.{WorldOf}
 use Rattle.call_laws.proofs.CallKept.{FitsOn, logged_from, LooksAtClock, places_told, promised_from, stand_from}

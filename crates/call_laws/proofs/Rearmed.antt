@@ -1,5 +1,5 @@
 -- What a call does to its object's timer that may have expired: a start that keeps the timer's clock, or none; as a part of the call, and in the run.
-use Rattle.std.proofs.Common.{◌≡◌, ◌≤◌, ℕ, Bool, true, false, if◌then◌else◌, Option, None, Some, List, [], arith, refl, sym, ap, ◌∙◌, subst}
+use Rattle.std.proofs.Common.{◌≡◌, ◌≤◌, ℕ, Bool, true, false, if◌then◌else◌, Option, None, Some, List, [], arith, refl, sym, subst}
 use Rattle.std.proofs.lemmas.Option.{same_Some}
 use Rattle.ktime.specs.Readings.{ClockReading}
 use Rattle.ktime.specs.Times.{last_time}
@@ -7,9 +7,7 @@ use Rattle.ktime.specs.declared.mode.Mode.TheVariants as modes
 use Rattle.base_row.specs.declared.view.Opening.{Opening}
 use Rattle.base_row.specs.declared.log.Receipt.{Receipt}
 use Rattle.hr_timers.specs.Known.{KnownOfTimers, timer_then}
-use Rattle.pass_names.specs.Passes.{Begins}
 use Rattle.pass_names.specs.SharedHistory.{LooksOn}
-use Rattle.pass_names.proofs.Passes.{begins_trans}
 use Rattle.timer_setting.specs.Phases.{next_start}
 use Rattle.timer_setting.specs.declared.arming.Arm.TheVariants as arms
 use Rattle.timer_setting.specs.declared.arming.Arm.{Arm}

@@ -20,8 +20,6 @@ use Rattle.timer_objects.specs.declared.log.ObjectReceipt.{ObjectReceipt}
 use Rattle.record_text.specs.Replies.{answer_of_settime}
 use Rattle.record_text.specs.declared.record.Answer.TheVariants as answers
 use Rattle.record_text.specs.declared.record.Answer.{Answer}
-use Rattle.record_text.specs.declared.record.SettimeReply.TheVariants as settimes
-use Rattle.record_text.specs.declared.record.SettimeReply.{SettimeReply}
 use Rattle.run_history.specs.ObjectCalls.{Arms, cancels, nanoseconds_of, start_mode}
 use Rattle.script_text.specs.Declarations.{kind_of}
 use Rattle.script_text.specs.declared.script.Call.TheVariants as calls
@@ -39,7 +37,6 @@ use Rattle.pass_names.proofs.Passes.{begins_length}
 use Rattle.lane_world.proofs.Declared.{declared_base, declared_over}
 use Rattle.call_laws.proofs.Sights.{keeps_full, keeps_same}
 use Rattle.timer_objects.specs.Steps.{ObjectAllows}
-use Rattle.base_row.specs.Logs.{receipts_of}
 use Rattle.hr_timers.specs.Calls.{cancel_entries}
 use Rattle.call_laws.proofs.Armed.{disarmed_part, settime_start, TimerPart, TimersPart}
 use Rattle.call_laws.proofs.ObjectMade.{keeps_made, outcome_is, receipts, start_is, stood_first, stood_last, stop_first, stop_last, timer_found}

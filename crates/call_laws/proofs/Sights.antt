@@ -1,17 +1,14 @@
 -- Calls on objects that make no entry: a lane keeps a call that looked at timers and objects only, and one that found its object's history full.
 use Rattle.call_laws.proofs.Parts.{part_alone, part_as}
-use Rattle.std.proofs.Common.{◌≡◌, ◌≤◌, ℕ, List, [], length, arith, refl, sym, ap, ◌∙◌, subst}
-use Rattle.std.proofs.lemmas.Option.{slice_get_within}
+use Rattle.std.proofs.Common.{◌≡◌, ◌≤◌, ℕ, List, [], length, refl, sym, ap, ◌∙◌, subst}
 use Rattle.clock_cell.specs.Views.{writes}
 use Rattle.pass_names.specs.Passes.{Begins}
 use Rattle.base_row.specs.Logs.{receipts_of}
 use Rattle.base_row.specs.declared.log.Receipt.{Receipt}
 use Rattle.seq_timer.specs.Histories as seq
 use Rattle.timer_objects.specs.Calls.{Caller, FindsFull}
-use Rattle.timer_objects.specs.Known.{seen_of}
 use Rattle.timer_objects.specs.declared.log.ObjectReceipt.{ObjectReceipt}
 use Rattle.record_text.specs.declared.record.Answer.{Answer}
-use Rattle.run_history.specs.Order.{calls_of, IsLabel}
 use Rattle.script_text.specs.declared.script.Call.{Call}
 use Rattle.script_text.specs.declared.script.Script.{Script}
 use Rattle.run_history.specs.Calls.{Does}
@@ -44,7 +41,6 @@ use Rattle.run_history.proofs.Stamped.{HaveReadings}
 use Rattle.call_laws.proofs.CallKept.{opened_timers}
 use Rattle.call_laws.proofs.Parts.{part_at}
 use Rattle.call_laws.proofs.Noted.{entered_on, with_done-joins}
-use Rattle.call_laws.proofs.Parts.{objects_grow}
 use Rattle.call_laws.proofs.Stays.{saw_quiet}
 use Rattle.lane_notes.specs.Notes.{no_notes}
 

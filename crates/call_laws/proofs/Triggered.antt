@@ -1,7 +1,7 @@
 -- What the claim of an object's timer does: a trigger of the object, which made an entry of it or was refused.
 use Rattle.call_laws.proofs.Noted.{notes_of, same_notes}
 use Rattle.call_laws.proofs.Parts.{IsPart}
-use Rattle.std.proofs.Common.{◌≡◌, ◌≤◌, ◌-◌, ℕ, ◌+◌, Bool, true, false, if◌then◌else◌, None, Some, [], ◌∷◌, length, arith, refl, sym, ap, ◌∙◌, inl, inr}
+use Rattle.std.proofs.Common.{◌≡◌, ◌≤◌, ℕ, ◌+◌, Bool, true, false, if◌then◌else◌, None, Some, [], ◌∷◌, length, arith, refl, sym, ap, ◌∙◌, inl, inr}
 use Rattle.std.proofs.Math.Logic.{⊎_elim}
 use Rattle.std.proofs.lemmas.List.{append-nil}
 use Rattle.ktime.specs.Readings.{ClockReading}

@@ -1,5 +1,5 @@
 -- An object as a pass has seen it is the record's, in every run that goes on from there.
-use Rattle.std.proofs.Common.{◌≡◌, ℕ, true, is_some, Option, ◌+◌, zero, suc, Some, List, [], ◌∷◌, ◌++◌, length, map, take, refl, sym, ap, ◌∙◌, subst}
+use Rattle.std.proofs.Common.{◌≡◌, ℕ, true, is_some, Option, suc, Some, List, [], ◌∷◌, ◌++◌, length, map, take, refl, sym, ap, ◌∙◌, subst}
 use Rattle.counted_row.specs.Meaning.{Leads}
 use Rattle.counted_row.specs.Views.{StateAfter}
 use Rattle.posix_timer.specs.States.{posix_opening, PosixTimer}

@@ -2,7 +2,7 @@
 use Rattle.std.proofs.Common.{◌≡◌, ◌≤◌, ◌<◌, ℕ, ◌+◌, true, false, nat_eq, Option, List, [], ◌∷◌, ◌++◌, map, arith, refl, ap, ◌∙◌, Bool}
 use Rattle.std.specs.List.{AllByRecursion}
 use Rattle.std.proofs.lemmas.List.{map-append}
-use Rattle.run_history.specs.Actions.{Action, also, Looked, looked, Made, Skipped}
+use Rattle.run_history.specs.Actions.{Action, also, Looked, looked}
 use Rattle.run_history.specs.Objects.{present}
 use Rattle.run_history.specs.Order.{NeverFall}
 use Rattle.lane_notes.proofs.Receipts.{present-append}

@@ -4,8 +4,6 @@ use Rattle.std.proofs.lemmas.List.{append-nil, length-map}
 use Rattle.record_text.specs.declared.record.Answer.{Answer}
 use Rattle.record_text.specs.declared.record.ClockLine.{ClockLine}
 use Rattle.record_text.specs.declared.record.Label.{Label}
-use Rattle.record_text.specs.declared.record.ObjectLine.{ObjectLine}
-use Rattle.run_history.specs.Objects.{lines_of_object}
 use Rattle.script_text.specs.declared.script.Script.{Script}
 use Rattle.lane_notes.specs.Notes.{NotesOf}
 use Rattle.lane_notes.specs.Records.{record_from}
@@ -23,7 +21,7 @@ use Rattle.timer_objects.specs.Known.{seen_of}
 use Rattle.seq_timer.specs.Systems.{AreSystemSteps, first_system, openings}
 use Rattle.base_row.specs.declared.view.Opening.{Opening}
 use Rattle.lane_notes.proofs.Lists.{length-bases, length-objects, length-timers}
-use Rattle.std.proofs.Common.{◌≡◌, ℕ}
+use Rattle.std.proofs.Common.{◌≡◌}
 use Rattle.clock_cell.specs.Views.{writes}
 use Rattle.run_history.specs.Promises.{HasLog}
 use Rattle.run_history.specs.Histories.{clock_labels}

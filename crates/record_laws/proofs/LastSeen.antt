@@ -1,15 +1,13 @@
 -- What the last passes know at the end of a run: of which timers, bases, counters and objects entries are, and that each of them was noted once.
 use Rattle.run_history.specs.Receipts as receipts
-use Rattle.std.proofs.Common.{◌≡◌, ℕ, ◌<◌, ◌≤◌, zero, suc, Some, List, [], ◌∷◌, filter, length, map, take, arith, refl, sym, ap, ◌∙◌, subst}
+use Rattle.std.proofs.Common.{◌≡◌, ℕ, ◌<◌, ◌≤◌, zero, suc, Some, List, [], ◌∷◌, filter, length, map, arith, refl, sym, ap, ◌∙◌, subst}
 use Rattle.std.specs.List.{slice_get}
 use Rattle.std.proofs.Math.Logic.{⊎_elim}
 use Rattle.std.proofs.lemmas.Bool.{and_right, cases_lt, lt-leb, and_parts, eqb-true}
-use Rattle.std.proofs.lemmas.List.{get_or_past, length-map, take_all}
-use Rattle.std.proofs.lemmas.Option.{same_Some, slice_get_within}
 use Rattle.clock_cell.specs.Views.{writes}
 use Rattle.pass_names.specs.Counts.{count, one_if}
 use Rattle.pass_names.specs.Passes.{within}
-use Rattle.seq_timer.specs.Systems.{after_one, AreSystemSteps, MayCome, rises_of, shifts_of, System}
+use Rattle.seq_timer.specs.Systems.{rises_of, shifts_of}
 use Rattle.seq_timer.specs.declared.system.SystemEntry.{SystemEntry}
 use Rattle.seq_timer.specs.declared.system.SystemEntry.TheVariants as entries
 use Rattle.std.specs.List.{AllByRecursion}
@@ -20,7 +18,6 @@ use Rattle.std.proofs.lemmas.Bool.{ne_eqb}
 use Rattle.std.proofs.lemmas.Bool.Decides.{nat_tests}
 use Rattle.std.proofs.lemmas.List.Elements.{filter-append}
 use Rattle.pass_names.specs.Passes.{is_place}
-use Rattle.base_row.specs.declared.view.Opening.{Opening}
 use Rattle.timer_objects.specs.Known.{seen_of}
 use Rattle.lane_notes.specs.Notes.{NotesOf}
 use Rattle.lane_notes.specs.Sorted.{Place, place_of_base, place_of_entry, place_of_object, place_of_write, IsSortedFrom}
@@ -35,21 +32,17 @@ use Rattle.script_text.specs.declared.script.Script.{Script}
 use Rattle.run_history.specs.Receipts.{IsMade, PlacedEntry, receipt}
 use Rattle.run_history.specs.Runs.{CallLog}
 use Rattle.run_history.proofs.Labels.{label_itself, same_label}
-use Rattle.run_history.proofs.Laid.{counts_more}
 use Rattle.run_history.proofs.Lists.{all_at, at_left, each}
-use Rattle.run_history.proofs.Owners.{count_is, entries_at}
 use Rattle.run_history.specs.Witnesses.{BasesList, CountersList, OfRise, Owner, Shown, TimersList, owner_of, owner_of_entry}
 use Rattle.lane_world.proofs.Kept.{ToldNote, base_note_place, note_place, of_base, of_entry, of_object, of_write, own_notes, told_in, told_notes}
 use Rattle.lane_world.proofs.Left.{AreLastOf, AreLeft}
 use Rattle.lane_world.specs.Worlds.{WorldOf}
 use Rattle.lane_world.specs.declared.WorldPass.{WorldPass}
-use Rattle.run_history.proofs.Shown.{entry_place}
 use Rattle.record_laws.proofs.SeenThere.{bases_many, IsThere, none_past, objects_past, rose_more, there_within, timers_many}
 use Rattle.record_laws.proofs.Numbered.{AreEachOnce, count-map, nobody, as_many, lines_are, none_long, once_from, within_from}
 use Rattle.lane_notes.specs.Records.{base_line, noted_base_lines, noted_object_lines, noted_timer_lines, record_from, numbered_from}
 use Rattle.record_text.specs.declared.record.Answer.{Answer}
 use Rattle.run_history.specs.Histories.{lines_of_base, lines_of_timer}
-use Rattle.script_text.specs.Declarations.{declared_as, declareds_of}
 use Rattle.run_history.specs.Objects.{lines_of_object}
 
 -- ---- notes and receipts

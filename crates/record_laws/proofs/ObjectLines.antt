@@ -1,7 +1,7 @@
 -- The record's lines of objects are the entries that the last pass has seen of each, each under the label of the call that made it.
 use Rattle.timer_objects.specs.declared.object.Object.TheVariants as objects
 use Rattle.script_text.specs.declared.script.Kind.TheVariants as kinds
-use Rattle.std.proofs.Common.{◌≡◌, ℕ, ◌+◌, ◌<◌, ◌≤◌, Some, List, [], ◌∷◌, filter, length, map, arith, refl, sym, ap, ◌∙◌, subst, suc}
+use Rattle.std.proofs.Common.{◌≡◌, ℕ, ◌<◌, ◌≤◌, Some, List, [], ◌∷◌, filter, length, map, arith, refl, sym, ap, ◌∙◌, subst, suc}
 use Rattle.std.specs.List.{slice_get}
 use Rattle.std.proofs.Math.Logic.{⊎_elim}
 use Rattle.std.proofs.lemmas.Bool.{cases_lt}
@@ -27,7 +27,7 @@ use Rattle.run_history.specs.Order.{is_label}
 use Rattle.script_text.specs.declared.script.Script.{Script}
 use Rattle.run_history.specs.Promises.{GoesOnClock}
 use Rattle.run_history.specs.Runs.{CallLog, Ending, RoundStarts}
-use Rattle.run_history.proofs.Lists.{all_at, map_get}
+use Rattle.run_history.proofs.Lists.{all_at}
 use Rattle.lane_world.specs.Runs.{AreObjectLines, ObjectMove, ShowsObjectCall}
 use Rattle.lane_world.proofs.Kept.{ObjectNotes, made_on}
 use Rattle.lane_world.proofs.Left.{AreLastOf, AreLeft, ending_of}

@@ -1,10 +1,10 @@
 -- Of which timers, bases, counters and objects the last passes have seen entries: of those that are there.
 use Rattle.run_history.specs.Receipts as receipts
-use Rattle.std.proofs.Common.{◌≡◌, ℕ, ◌<◌, ◌≤◌, ◌+◌, zero, suc, Some, List, [], ◌∷◌, ◌++◌, length, map, take, arith, refl, sym, ap, ◌∙◌, subst}
+use Rattle.std.proofs.Common.{◌≡◌, ℕ, ◌<◌, ◌≤◌, ◌+◌, zero, suc, Some, List, [], ◌∷◌, ◌++◌, length, take, arith, refl, sym, ap, ◌∙◌, subst}
 use Rattle.std.specs.List.{slice_get}
 use Rattle.std.proofs.Math.Logic.{⊎_elim}
 use Rattle.std.proofs.lemmas.Bool.{and_right, cases_lt, lt-leb}
-use Rattle.std.proofs.lemmas.List.{append-nil, get_or_past, length-append, length-map, take_all}
+use Rattle.std.proofs.lemmas.List.{append-nil, get_or_past, length-map, take_all}
 use Rattle.std.proofs.lemmas.Option.{same_Some, slice_get_within}
 use Rattle.base_row.specs.declared.view.Opening.{Opening}
 use Rattle.pass_names.specs.Counts.{count, one_if}
@@ -25,6 +25,7 @@ use Rattle.lane_world.proofs.Left.{AreLastPasses}
 use Rattle.lane_world.specs.Worlds.{WorldOf}
 use Rattle.lane_world.specs.declared.WorldPass.{WorldPass}
 use Rattle.record_laws.proofs.Numbered.{nobody, none_long, within_from}
+
 -- an entry of a timer or of a base is of one that is there
 abbrev pub IsWithin : ℕ → ℕ → SystemEntry → Type 0
 IsWithin bases many (entries.Timer e) = e.timer < many
