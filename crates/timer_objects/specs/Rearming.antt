@@ -66,7 +66,7 @@ RepliesTo rearmings.Getting reply = (left interval : ℕ) × (reply ≡ replies.
 -- ---- a caller and its passes
 
 -- a caller has passes of these timers and objects, and calls on an object
-pub record MayCall (x : ObjectsOf) (timers : BaseRowOf) (pass : PassOf) (objects_pass : ObjectsPass) (id : ℕ) : Type 0 where
+pub record IsCallerOf (x : ObjectsOf) (timers : BaseRowOf) (pass : PassOf) (objects_pass : ObjectsPass) (id : ℕ) : Type 0 where
   pub of_timers : IsPassOf timers pass
   pub of_objects : IsObjectsPass x objects_pass
   pub suits : Suits x timers.about

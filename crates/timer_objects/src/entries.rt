@@ -4,7 +4,7 @@ ghost use Rattle.hr_timers.specs.Known.{IsPassOf, PassOf};
 ghost use Rattle.timer_objects.specs.declared.object.Kind.TheVariants as kinds;
 ghost use Rattle.timer_objects.specs.Known.{IsObjectsPass, ObjectsPass, Suits, decl_at, most_noted};
 ghost use Rattle.timer_objects.specs.Calls.{Accepts, ReadsFd, rearming_call};
-ghost use Rattle.timer_objects.specs.Rearming.{Ends, EndsAt, HasLocked, IsHolding, KeepsNames, LeavesPasses, MayCall, caller_of, rearming_kind};
+ghost use Rattle.timer_objects.specs.Rearming.{Ends, EndsAt, HasLocked, IsHolding, KeepsNames, LeavesPasses, IsCallerOf, caller_of, rearming_kind};
 
 use crate::arming::arm;
 use crate::log::ObjectLog;
@@ -109,7 +109,7 @@ impl Objects {
         call: Rearming,
         reading: Reading,
     ) -> Ended
-        requires may { MayCall self.now timers.now pass.old objects_pass.old id }
+        requires may { IsCallerOf self.now timers.now pass.old objects_pass.old id }
         requires kind { (decl_at self.now id).kind ≡ rearming_kind call }
         requires room { (most_noted self.now timers.now.about id ≤ log.old.spare) × (1 ≤ object_log.old.spare) }
         ensures leaves { LeavesPasses self.now timers.now pass.new objects_pass.new }
