@@ -47,7 +47,17 @@ impl Objects {
         ensures room { (log.old.spare ≤ log.new.spare + most_noted self.now timers.now.about id) × (object_log.old.spare ≤ object_log.new.spare + 1) }
     {
         let call = Rearming::Accepting;
-        match self.rearm(rt, timers, pass, objects_pass, log, object_log, id, call, reading) {
+        match self.rearm(
+            rt,
+            timers,
+            pass,
+            objects_pass,
+            log,
+            object_log,
+            id,
+            call,
+            reading,
+        ) {
             Ended::Full { stamp } => AcceptAnswer::Spent { stamp },
             Ended::Made {
                 stamp: _,
@@ -86,7 +96,17 @@ impl Objects {
             return ReadAnswer::ShortBuffer;
         }
         let call = Rearming::Reading;
-        match self.rearm(rt, timers, pass, objects_pass, log, object_log, id, call, reading) {
+        match self.rearm(
+            rt,
+            timers,
+            pass,
+            objects_pass,
+            log,
+            object_log,
+            id,
+            call,
+            reading,
+        ) {
             Ended::Full { stamp } => ReadAnswer::Spent { stamp },
             Ended::Made {
                 stamp: _,
