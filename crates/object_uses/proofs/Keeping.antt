@@ -20,14 +20,13 @@ use Rattle.posix_timer.specs.declared.answers.AcceptAnswer.{AcceptAnswer}
 use Rattle.posix_timer.specs.declared.answers.AcceptAnswer.TheVariants as acceptances
 use Rattle.timer_fd.specs.declared.answers.ReadAnswer.{ReadAnswer}
 use Rattle.timer_fd.specs.declared.answers.ReadAnswer.TheVariants as reads
-use Rattle.timer_objects.specs.declared.cell.Span.{Span}
 use Rattle.timer_objects.specs.declared.object.ObjectReply.{ObjectReply}
 use Rattle.timer_objects.specs.declared.wanting.Rearming.{Rearming}
 use Rattle.timer_objects.specs.Arming.{ArmsFor}
 use Rattle.timer_objects.specs.BlockingReads.{ReadsBlocking}
 use Rattle.timer_objects.specs.declared.answers.BlockingRead.{BlockingRead}
 use Rattle.timer_objects.specs.declared.answers.BlockingRead.TheVariants as blocking
-use Rattle.timer_objects.specs.Calls.{Accepts, Caller, FindsFull, RearmingMade, ReadsFd, RearmsFor, SetsTimer, SettimeMade}
+use Rattle.timer_objects.specs.Calls.{Accepts, Caller, FindsFull, RearmingMade, ReadsFd, SetsTimer, SettimeMade}
 use Rattle.timer_objects.specs.Known.{ObjectsOf}
 use Rattle.timer_objects.specs.Turns.{HasTurn}
 use Rattle.timer_objects.proofs.Lending.{keeps_added, keeps_read, keeps_same}
@@ -85,16 +84,10 @@ module _ (x : ObjectsOf) (o : Opening) (old new : Caller) (id flags value interv
   keeps_unless None a made = keeps_settime a made
   keeps_unless (Some r) a refused = keeps_none refused.1
 
-  keeps_rearmed : (v w : KnownOfTimers) (t last : ℕ) (wanted : Option Wanted) (base : ℕ) (arm : Arm) (span : Span)
-      → RearmsFor o v w t last wanted base reading arm span old.log new.log → KeepsPass v w
-  keeps_rearmed v w t last None base arm span rearms = keeps_looks v w rearms.1.looks
-  keeps_rearmed v w t last (Some wanted) base arm span rearms =
-      let s = rearms.starts.starts in
-      keeps_trans v rearms.begin w (keeps_looks v rearms.begin rearms.looks) (keeps_made rearms.begin w t s.at _ s.made s.claims)
-
   keeps_call : (r : Rearming) (reply : ObjectReply) → RearmingMade x o old new id r reading reply → KeepsBoth old new
   keeps_call r reply made =
-      (keeps_turn made.turn (keeps_rearmed made.begun made.worked id _ _ _ made.arm made.span made.rearms), keeps_added old.objects new.objects id _ made.enters.commits.adds)
+      (keeps_turn made.turn (keeps_armed o made.begun made.worked id _ _ reading made.arm old.log new.log made.arms),
+      keeps_added old.objects new.objects id _ made.enters.commits.adds)
 
   pub keeps_accept : (a : AcceptAnswer) → Accepts x o old new id reading a → KeepsBoth old new
   keeps_accept (acceptances.Spent n) full = keeps_full n full

@@ -22,16 +22,16 @@ use Rattle.counted_row.specs.Calls.{Commits}
 use Rattle.timer_objects.specs.BlockingReads.{ReadsBlocking}
 use Rattle.timer_objects.specs.declared.answers.BlockingRead.{BlockingRead}
 use Rattle.timer_objects.specs.declared.answers.BlockingRead.TheVariants as blocking
-use Rattle.timer_objects.specs.declared.cell.SpannedCall.{SpannedCall}
 use Rattle.timer_objects.specs.declared.object.Object.{Object}
 use Rattle.timer_objects.specs.declared.object.Object.TheVariants as objects
 use Rattle.timer_objects.specs.declared.object.ObjectCall.TheVariants as calls
 use Rattle.timer_objects.specs.declared.object.ObjectReply.{ObjectReply}
 use Rattle.timer_objects.specs.declared.object.ObjectReply.TheVariants as replies
+use Rattle.timer_objects.specs.declared.object.ObjectCall.{ObjectCall}
 use Rattle.timer_objects.specs.declared.wanting.Rearming.{Rearming}
 use Rattle.timer_objects.specs.declared.wanting.Rearming.TheVariants as rearmings
 use Rattle.timer_objects.specs.Calls.{Accepts, Caller, RearmingMade, ReadsFd}
-use Rattle.timer_objects.specs.Cells.{cell_meaning}
+use Rattle.timer_objects.specs.Meaning.{object_meaning}
 use Rattle.timer_objects.specs.Known.{ObjectsOf, ObjectsPass}
 use Rattle.timer_objects.specs.Steps.{object_answer}
 use Rattle.object_uses.specs.Callers.{AcceptFits, EndsWith, HasCounted, HasSignal, ReadFits, TakesCount, TakesSignal, WaitFits}
@@ -78,11 +78,11 @@ module _ (reading : ClockReading) (arm : Arm) (n : ℕ) where
         left = by.1;
       }
 
-abbrev ends_with : (p q : ObjectsPass) (id : ℕ) (call : SpannedCall) (commits : Commits cell_meaning p q id call)
+abbrev ends_with : (p q : ObjectsPass) (id : ℕ) (call : ObjectCall) (commits : Commits object_meaning p q id call)
     → EndsWith p q id
 ends_with p q id call commits = record {
   state = commits.state;
-  entry = record { call = call; reply = cell_meaning.reply commits.state call };
+  entry = record { call = call; reply = object_meaning.reply commits.state call };
   before = commits.adds.before;
   seen = commits.adds.begins;
   at = commits.at;

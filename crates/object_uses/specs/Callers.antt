@@ -24,8 +24,6 @@ use Rattle.counted_row.specs.declared.view.Entry.{Entry}
 use Rattle.counted_row.specs.Views.{StateAfter}
 use Rattle.timer_objects.specs.declared.answers.BlockingRead.{BlockingRead}
 use Rattle.timer_objects.specs.declared.answers.BlockingRead.TheVariants as blocking
-use Rattle.timer_objects.specs.declared.cell.ObjectCell.{ObjectCell}
-use Rattle.timer_objects.specs.declared.cell.SpannedCall.{SpannedCall}
 use Rattle.timer_objects.specs.declared.object.Object.{Object}
 use Rattle.timer_objects.specs.declared.object.Object.TheVariants as objects
 use Rattle.timer_objects.specs.declared.object.ObjectCall.{ObjectCall}
@@ -34,7 +32,7 @@ use Rattle.timer_objects.specs.declared.object.ObjectReply.{ObjectReply}
 use Rattle.timer_objects.specs.declared.log.ObjectReceipt.{ObjectReceipt}
 use Rattle.timer_objects.specs.declared.callback.Callback.{Callback}
 use Rattle.timer_objects.specs.Callbacks.{bases_of}
-use Rattle.timer_objects.specs.Cells.{cell_meaning}
+use Rattle.timer_objects.specs.Meaning.{object_meaning}
 use Rattle.timer_objects.specs.Calls.{Caller}
 use Rattle.timer_objects.specs.Known.{IsObjectsPass, KeepsObjectsPass, ObjectsOf, ObjectsPass, Suits, most_noted, seen_of}
 
@@ -78,11 +76,11 @@ KeepsBoth old new = KeepsPass old.timers new.timers × KeepsObjectsPass old.obje
 
 -- an object was in a state when an entry was made, which then stands last among those that the pass has seen
 pub record EndsWith (p q : ObjectsPass) (id : ℕ) : Type 0 where
-  pub state : ObjectCell
-  pub entry : Entry SpannedCall ObjectReply
-  pub before : List (Entry SpannedCall ObjectReply)
+  pub state : Object
+  pub entry : Entry ObjectCall ObjectReply
+  pub before : List (Entry ObjectCall ObjectReply)
   pub seen : Begins (seen_of p id) before
-  pub at : StateAfter cell_meaning p.knows.opening id before state
+  pub at : StateAfter object_meaning p.knows.opening id before state
   pub last : seen_of q id ≡ before ++ entry ∷ []
 
 -- a POSIX timer's signal is pending, and the overrun is by the periods that have passed at this reading
@@ -104,12 +102,12 @@ pub record HasCounted (object : Object) (call : ObjectCall) (reading : ClockRead
 -- a signal was accepted at this reading: it was pending in the state before the call
 pub record TakesSignal (p q : ObjectsPass) (id : ℕ) (reading : ClockReading) (n : ℕ) : Type 0 where
   pub ends : EndsWith p q id
-  pub had : HasSignal ends.state.object reading n
+  pub had : HasSignal ends.state reading n
 
 -- a count was read at this reading, of the state before the call
 pub record TakesCount (p q : ObjectsPass) (id : ℕ) (reading : ClockReading) (n : ℕ) : Type 0 where
   pub ends : EndsWith p q id
-  pub had : HasCounted ends.state.object ends.entry.call.call reading n
+  pub had : HasCounted ends.state ends.entry.call reading n
 
 -- what an acceptance answers
 abbrev pub AcceptFits : ObjectsPass → ObjectsPass → ℕ → ClockReading → AcceptAnswer → Type 0

@@ -16,7 +16,7 @@ use std::alloc::{AllocError, Global};
 use std::sync::Wait;
 use std::thread::{Threads, join_mut};
 use timer_fd::ReadAnswer;
-use timer_objects::{Callback, ObjectCell, ObjectLog, Objects};
+use timer_objects::{Callback, Object, ObjectLog, Objects};
 
 /// One thread runs the functions of at most so many timers on a base, the other reads a descriptor.
 fn expire_and_read<R: Threads + Wait + Sync>(
@@ -30,10 +30,10 @@ fn expire_and_read<R: Threads + Wait + Sync>(
     id: u32,
     reading: Reading,
     runner: &mut Pass,
-    objects_runner: &mut RowPass<ObjectCell>,
+    objects_runner: &mut RowPass<Object>,
     runner_log: &mut Log,
     reader: &mut Pass,
-    objects_reader: &mut RowPass<ObjectCell>,
+    objects_reader: &mut RowPass<Object>,
     log: &mut Log,
     object_log: &mut ObjectLog,
 ) -> (Result<Expired, AllocError>, ReadAnswer)
@@ -87,7 +87,7 @@ pub fn read_beside<R: Threads + Wait + Sync>(
     timers: &Timers,
     main: &mut Pass,
     objects: &Objects,
-    objects_main: &mut RowPass<ObjectCell>,
+    objects_main: &mut RowPass<Object>,
     callbacks: &[Callback],
     base: u32,
     budget: u32,

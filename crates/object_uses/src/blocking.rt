@@ -13,7 +13,7 @@ use expire_pass::Log;
 use hr_timers::{Pass, Timers};
 use std::alloc::{AllocError, Global};
 use std::sync::Wait;
-use timer_objects::{BlockingRead, Callback, ObjectCell, ObjectLog, Objects, Reader};
+use timer_objects::{BlockingRead, Callback, Object, ObjectLog, Objects, Reader};
 
 /// Waits until there is something to read of a reader's descriptor, and reads it. A count that it is told is at least 1, and after it none is left.
 pub fn wait_for_count<R: Wait>(
@@ -21,7 +21,7 @@ pub fn wait_for_count<R: Wait>(
     timers: &Timers,
     pass: &mut Pass,
     objects: &Objects,
-    objects_pass: &mut RowPass<ObjectCell>,
+    objects_pass: &mut RowPass<Object>,
     log: &mut Log,
     object_log: &mut ObjectLog,
     reader: &mut Reader,
@@ -58,7 +58,7 @@ pub fn advance_and_expire<R: Wait>(
     timers: &Timers,
     pass: &mut Pass,
     objects: &Objects,
-    objects_pass: &mut RowPass<ObjectCell>,
+    objects_pass: &mut RowPass<Object>,
     callbacks: &[Callback],
     base: u32,
     clock: &SharedClock,

@@ -10,7 +10,7 @@ use hr_timers::{Pass, Timers};
 use ktime::Reading;
 use std::sync::Wait;
 use timer_fd::ReadAnswer;
-use timer_objects::{ObjectCell, ObjectLog, Objects};
+use timer_objects::{Object, ObjectLog, Objects};
 
 /// Reads how often a descriptor's timer has expired, into a buffer of so many bytes. After a count was read none is left.
 pub fn read_count<R: Wait>(
@@ -18,7 +18,7 @@ pub fn read_count<R: Wait>(
     timers: &Timers,
     pass: &mut Pass,
     objects: &Objects,
-    objects_pass: &mut RowPass<ObjectCell>,
+    objects_pass: &mut RowPass<Object>,
     log: &mut Log,
     object_log: &mut ObjectLog,
     id: u32,

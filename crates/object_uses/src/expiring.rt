@@ -10,7 +10,7 @@ use hr_timers::{Pass, Timers};
 use ktime::Reading;
 use std::alloc::{AllocError, Global};
 use std::sync::Wait;
-use timer_objects::{Callback, Firing, ObjectCell, ObjectLog, Objects};
+use timer_objects::{Callback, Firing, Object, ObjectLog, Objects};
 
 /// What a run answers, with the receipts of what callbacks did and of the triggers of objects.
 #[derive(Drop)]
@@ -28,7 +28,7 @@ pub fn expire_objects<R: Wait>(
     timers: &Timers,
     pass: &mut Pass,
     objects: &Objects,
-    objects_pass: &mut RowPass<ObjectCell>,
+    objects_pass: &mut RowPass<Object>,
     callbacks: &[Callback],
     base: u32,
     reading: Reading,

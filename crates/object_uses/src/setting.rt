@@ -12,7 +12,7 @@ use hr_timers::{Pass, Timers};
 use ktime::{Reading, TimeSpec};
 use std::sync::Wait;
 use timer_fd::SettimeAnswer;
-use timer_objects::{ObjectCell, ObjectLog, Objects};
+use timer_objects::{Object, ObjectLog, Objects};
 
 /// Arms an object's timer anew, to expire after these nanoseconds, and then at each interval. Both are below a second.
 pub fn set_timer<R: Wait>(
@@ -20,7 +20,7 @@ pub fn set_timer<R: Wait>(
     timers: &Timers,
     pass: &mut Pass,
     objects: &Objects,
-    objects_pass: &mut RowPass<ObjectCell>,
+    objects_pass: &mut RowPass<Object>,
     log: &mut Log,
     object_log: &mut ObjectLog,
     id: u32,

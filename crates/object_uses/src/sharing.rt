@@ -5,10 +5,10 @@ ghost use Rattle.timer_objects.specs.Known.{IsObjectsPass};
 ghost use Rattle.object_uses.specs.Callers.{HasHeard};
 
 use counted_row::RowPass;
-use timer_objects::{ObjectCell, Objects};
+use timer_objects::{Object, Objects};
 
 /// A pass meets another that was split off it, and takes it in: then it has seen every entry of both, and has made all that both have made.
-pub fn hear_all(objects: &Objects, first: &mut RowPass<ObjectCell>, mut second: RowPass<ObjectCell>)
+pub fn hear_all(objects: &Objects, first: &mut RowPass<Object>, mut second: RowPass<Object>)
     requires pass { IsObjectsPass objects.now first.old × IsObjectsPass objects.now second }
     requires answers { AnswersFor first.old.knows.pass.id second.knows.pass.id }
     ensures pass { IsObjectsPass objects.now first.new }

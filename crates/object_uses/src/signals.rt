@@ -10,7 +10,7 @@ use hr_timers::{Pass, Timers};
 use ktime::Reading;
 use posix_timer::AcceptAnswer;
 use std::sync::Wait;
-use timer_objects::{ObjectCell, ObjectLog, Objects};
+use timer_objects::{Object, ObjectLog, Objects};
 
 /// Accepts the pending signal of a POSIX timer, which arms a periodic one again. The overrun that it answers is how many periods had passed
 /// beside the one of the signal.
@@ -19,7 +19,7 @@ pub fn accept_signal<R: Wait>(
     timers: &Timers,
     pass: &mut Pass,
     objects: &Objects,
-    objects_pass: &mut RowPass<ObjectCell>,
+    objects_pass: &mut RowPass<Object>,
     log: &mut Log,
     object_log: &mut ObjectLog,
     id: u32,

@@ -11,14 +11,14 @@ use std::alloc::{AllocError, Global};
 use std::marker::Model;
 use std::sync::Wait;
 use timer_fd::{ReadAnswer, SettimeAnswer};
-use timer_objects::{Callback, Decl, Kind, ObjectCell, ObjectLog, Objects};
+use timer_objects::{Callback, Decl, Kind, Object, ObjectLog, Objects};
 
 /// A descriptor, which is object 0, on base 0, and the only pass of each kind.
 pub struct Ticker {
     timers: Timers,
     pass: Pass,
     objects: Objects,
-    objects_pass: RowPass<ObjectCell>,
+    objects_pass: RowPass<Object>,
     log: Log,
     object_log: ObjectLog,
 }

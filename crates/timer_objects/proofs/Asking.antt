@@ -1,5 +1,5 @@
 -- A call that makes an entry and may start its object's timer before that, in one turn of the object.
-use Rattle.std.proofs.Common.{refl, sym, subst, ◌≡◌, ◌≢◌, ℕ, ◌<◌, List, [], ◌∷◌, ◌++◌, length, Some}
+use Rattle.std.proofs.Common.{refl, sym, subst, ◌≡◌, ◌≢◌, ℕ, ◌<◌, List, [], ◌∷◌, ◌++◌, length}
 use Rattle.ktime.specs.Readings.{ClockReading}
 use Rattle.base_row.specs.declared.view.Opening.{Opening}
 use Rattle.hr_timers.specs.Known.{KnownOfTimers}

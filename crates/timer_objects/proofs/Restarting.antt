@@ -1,10 +1,8 @@
 -- The expiry that a start leaves which keeps its timer's clock.
-use Rattle.std.proofs.Common.{arith, sym, ap, subst, ◌≡◌, ◌∙◌, ℕ, ◌≤◌, List, [], ◌∷◌}
-use Rattle.std.specs.Prelude.{Option, Some, None}
+use Rattle.std.proofs.Common.{arith, ap, ◌≡◌, ◌∙◌, ℕ, List, [], ◌∷◌}
 use Rattle.ktime.specs.declared.mode.Mode.TheVariants as modes
 use Rattle.ktime.specs.Readings.{ClockReading}
 use Rattle.ktime.specs.Times.{sat}
-use Rattle.pass_names.proofs.Passes.{begins_trans}
 use Rattle.base_row.specs.declared.view.Opening.{Opening}
 use Rattle.seq_timer.specs.declared.event.EventBy.TheVariants as events
 use Rattle.seq_timer.specs.Steps.{Timer, after}
@@ -14,11 +12,8 @@ use Rattle.hr_timers.specs.declared.answer.StartAnswer.TheVariants as starts
 use Rattle.hr_timers.specs.Known.{KnownOfTimers, timer_then}
 use Rattle.hr_timers.specs.Calls.{StartsTimer}
 use Rattle.hr_timers.specs.Ways.{start_on}
-use Rattle.hr_timers.proofs.Moments.{along, stamp_rises, timer_after}
-use Rattle.base_row.specs.declared.log.Receipt.{Receipt}
-use Rattle.timer_setting.specs.declared.arming.Arm.{Arm}
+use Rattle.hr_timers.proofs.Moments.{along, timer_after}
 use Rattle.timer_setting.specs.declared.arming.Arm.TheVariants as arms
-use Rattle.timer_setting.specs.declared.arming.Wanted.{Wanted}
 use Rattle.timer_objects.specs.Arming.{arm_of}
 
 module _ (o : Opening) (v w : KnownOfTimers) (t ns asked : ℕ) (reading : ClockReading) where

@@ -1,13 +1,11 @@
 -- A settime: what its steps leave.
 use Rattle.std.proofs.Common.{arith, refl, sym, ap, subst, ◌≡◌, ◌≢◌, ◌∙◌, ℕ, ◌+◌, ◌≤◌, ◌<◌, Bool, true, false, nat_eq, List, [], ◌∷◌}
-use Rattle.std.specs.Prelude.{Option, Some, None, if◌then◌else◌}
+use Rattle.std.specs.Prelude.{Some, None, if◌then◌else◌}
 use Rattle.ktime.specs.declared.clock_id.ClockId.{ClockId}
 use Rattle.ktime.specs.declared.clock_id.ClockId.TheVariants as clocks
 use Rattle.ktime.specs.declared.mode.Mode.TheVariants as modes
 use Rattle.ktime.specs.Readings.{ClockReading, value_of}
 use Rattle.ktime.specs.Times.{effective_clock, last_time, sat}
-use Rattle.pass_names.specs.Passes.{Begins}
-use Rattle.pass_names.proofs.Passes.{begins_refl, begins_trans}
 use Rattle.ktime.specs.declared.mode.Mode.{Mode}
 use Rattle.seq_timer.specs.declared.context.Declared.{Declared}
 use Rattle.seq_timer.specs.declared.event.EventBy.TheVariants as events
@@ -18,15 +16,12 @@ use Rattle.base_row.specs.declared.view.Opening.{Opening}
 use Rattle.hr_timers.specs.declared.answer.StartAnswer.{StartAnswer}
 use Rattle.hr_timers.specs.declared.answer.StartAnswer.TheVariants as starts
 use Rattle.hr_timers.specs.Known.{KnownOfTimers, timer_then}
-use Rattle.hr_timers.specs.Answered.{start_number}
-use Rattle.hr_timers.specs.Calls.{StartsTimer, cancel_entries}
+use Rattle.hr_timers.specs.Calls.{StartsTimer}
 use Rattle.hr_timers.specs.Ways.{start_on}
-use Rattle.hr_timers.proofs.Answered.{start_tells}
-use Rattle.hr_timers.proofs.Moments.{along, declared_kept, stamp_made, timer_after}
+use Rattle.hr_timers.proofs.Moments.{along, declared_kept, timer_after}
 use Rattle.base_row.specs.declared.log.Receipt.{Receipt}
 use Rattle.timer_setting.specs.declared.arming.Arm.{Arm}
 use Rattle.timer_setting.specs.declared.arming.Arm.TheVariants as arms
-use Rattle.timer_setting.specs.declared.arming.Wanted.{Wanted}
 use Rattle.timer_setting.specs.declared.phase.Phase.{Phase}
 use Rattle.timer_setting.specs.declared.phase.Phase.TheVariants as phases
 use Rattle.timer_setting.specs.declared.settime_call.SettimeCall.{SettimeCall}

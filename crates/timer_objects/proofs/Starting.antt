@@ -1,27 +1,17 @@
 -- What calls on an object do to its timer.
-use Rattle.std.proofs.Common.{arith, refl, sym, ap, subst, inr, IsSome, ◌<◌, ◌≡◌, ◌∙◌, ℕ, ◌+◌, ◌-◌, ◌≤◌, Bool, true, false, List, [], ◌∷◌, ◌++◌, length, max}
-use Rattle.std.specs.Prelude.{Option, None, Some, is_some, if◌then◌else◌}
+use Rattle.std.proofs.Common.{refl, sym, ap, subst, IsSome, ◌≡◌, ◌∙◌, ℕ, []}
 use Rattle.ktime.specs.Readings.{ClockReading}
-use Rattle.pass_names.specs.Passes.{places}
-use Rattle.pass_names.proofs.Passes.{begins_trans}
-use Rattle.seq_timer.specs.Systems.{entries_of}
 use Rattle.timer_setting.specs.declared.arming.Wanted.{Wanted}
-use Rattle.pass_names.specs.SharedHistory.{LooksOn}
-use Rattle.pass_names.proofs.SharedHistory.{looks_refl}
-use Rattle.seq_timer.specs.Events.{Asked, Event}
-use Rattle.seq_timer.specs.declared.event.EventBy.TheVariants as events
-use Rattle.seq_timer.specs.declared.observation.Peek.{Peek}
 use Rattle.seq_timer.specs.Steps.{Timer}
 use Rattle.seq_timer.specs.declared.answer.CancelAnswer.{CancelAnswer}
 use Rattle.seq_timer.specs.declared.answer.CancelAnswer.TheVariants as cancels
 use Rattle.base_row.specs.declared.view.Opening.{Opening}
 use Rattle.hr_timers.specs.declared.answer.StartAnswer.{StartAnswer}
-use Rattle.hr_timers.specs.Known.{KnownOfTimers, timer_then}
-use Rattle.hr_timers.specs.Calls.{Cancels, Peeks, cancel_entries}
-use Rattle.hr_timers.proofs.Moments.{stamp_made, stamp_rises, timer_after}
-use Rattle.expire_pass.proofs.Turning.{looks_then}
+use Rattle.hr_timers.specs.Known.{KnownOfTimers}
+use Rattle.hr_timers.specs.Calls.{Cancels}
+use Rattle.hr_timers.proofs.Moments.{timer_after}
 use Rattle.base_row.specs.declared.log.Receipt.{Receipt}
-use Rattle.base_row.specs.Logs.{LogOf, kept, receipts_of}
+use Rattle.base_row.specs.Logs.{LogOf, kept}
 use Rattle.base_row.proofs.Logging.{all_kept}
 use Rattle.hr_timers.specs.Logged.{CancelsLogged, StartsLogged}
 use Rattle.timer_objects.specs.Arming.{Disarms, Starts, arm_of, asked_by}

@@ -27,7 +27,7 @@ use Rattle.counted_row.specs.declared.view.Locked.{Locked}
 use Rattle.counted_row.specs.Views.{IsPassOfRow, Locks}
 use Rattle.timer_objects.specs.Meaning.{object_meaning}
 use Rattle.timer_objects.specs.declared.log.ObjectReceipt.{ObjectReceipt}
-use Rattle.timer_objects.specs.Known.{HoldsObject, IsObjectsPass, ObjectsOf, ObjectsPass, Suits, decl_at, row_of, seen_of}
+use Rattle.timer_objects.specs.Known.{HoldsObject, IsObjectsPass, ObjectsOf, ObjectsPass, Suits, row_of, seen_of}
 use Rattle.timer_objects.specs.Calls.{Caller, FindsFull, RearmingMade}
 use Rattle.timer_objects.specs.Turns.{entries_told}
 use Rattle.base_row.specs.declared.log.Receipt.{Receipt}
@@ -66,7 +66,7 @@ RepliesTo rearmings.Getting reply = (left interval : ℕ) × (reply ≡ replies.
 -- ---- a caller and its passes
 
 -- a caller has passes of these timers and objects, and calls on an object
-pub record MayCall (x : ObjectsOf) (timers : BaseRowOf) (pass : PassOf) (objects_pass : ObjectsPass) (id : ℕ) : Type 0 where
+pub record IsCallerOf (x : ObjectsOf) (timers : BaseRowOf) (pass : PassOf) (objects_pass : ObjectsPass) (id : ℕ) : Type 0 where
   pub of_timers : IsPassOf timers pass
   pub of_objects : IsObjectsPass x objects_pass
   pub suits : Suits x timers.about

@@ -6,7 +6,7 @@ ghost use Rattle.hr_timers.specs.Known.{IsPassOf};
 ghost use Rattle.timer_objects.specs.declared.object.Kind.TheVariants as kinds;
 ghost use Rattle.timer_objects.specs.Known.{IsObjectsPass, Suits, decl_at, most_noted};
 ghost use Rattle.timer_objects.specs.Calls.{HasWaited};
-ghost use Rattle.timer_objects.specs.Rearming.{KeepsNames, LeavesPasses, MayCall, caller_of};
+ghost use Rattle.timer_objects.specs.Rearming.{KeepsNames, LeavesPasses, IsCallerOf, caller_of};
 ghost use Rattle.timer_objects.specs.BlockingReads.{AnswersBy, EndedByRead, EndsRead, HasSome, ReadsBlocking};
 
 use crate::answers::BlockingRead;
@@ -93,7 +93,7 @@ impl Objects {
         clock: &SharedClock,
         clock_pass: &mut ClockPass,
     ) -> Option<Ended>
-        requires may { MayCall self.now timers.now pass.old objects_pass.old id }
+        requires may { IsCallerOf self.now timers.now pass.old objects_pass.old id }
         requires kind { (decl_at self.now id).kind ≡ kinds.Fd }
         requires clock { IsPassOfClock clock.now clock_pass.old }
         requires room { (most_noted self.now timers.now.about id ≤ log.old.spare) × (1 ≤ object_log.old.spare) }

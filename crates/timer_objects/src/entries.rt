@@ -4,7 +4,7 @@ ghost use Rattle.hr_timers.specs.Known.{IsPassOf, PassOf};
 ghost use Rattle.timer_objects.specs.declared.object.Kind.TheVariants as kinds;
 ghost use Rattle.timer_objects.specs.Known.{IsObjectsPass, ObjectsPass, Suits, decl_at, most_noted};
 ghost use Rattle.timer_objects.specs.Calls.{Accepts, ReadsFd, rearming_call};
-ghost use Rattle.timer_objects.specs.Rearming.{Ends, EndsAt, HasLocked, IsHolding, KeepsNames, LeavesPasses, MayCall, caller_of, rearming_kind};
+ghost use Rattle.timer_objects.specs.Rearming.{Ends, EndsAt, HasLocked, IsHolding, KeepsNames, LeavesPasses, IsCallerOf, caller_of, rearming_kind};
 
 use crate::arming::arm;
 use crate::log::ObjectLog;
@@ -47,7 +47,17 @@ impl Objects {
         ensures room { (log.old.spare ≤ log.new.spare + most_noted self.now timers.now.about id) × (object_log.old.spare ≤ object_log.new.spare + 1) }
     {
         let call = Rearming::Accepting;
-        match self.rearm(rt, timers, pass, objects_pass, log, object_log, id, call, reading) {
+        match self.rearm(
+            rt,
+            timers,
+            pass,
+            objects_pass,
+            log,
+            object_log,
+            id,
+            call,
+            reading,
+        ) {
             Ended::Full { stamp } => AcceptAnswer::Spent { stamp },
             Ended::Made {
                 stamp: _,
@@ -86,7 +96,17 @@ impl Objects {
             return ReadAnswer::ShortBuffer;
         }
         let call = Rearming::Reading;
-        match self.rearm(rt, timers, pass, objects_pass, log, object_log, id, call, reading) {
+        match self.rearm(
+            rt,
+            timers,
+            pass,
+            objects_pass,
+            log,
+            object_log,
+            id,
+            call,
+            reading,
+        ) {
             Ended::Full { stamp } => ReadAnswer::Spent { stamp },
             Ended::Made {
                 stamp: _,
@@ -109,7 +129,7 @@ impl Objects {
         call: Rearming,
         reading: Reading,
     ) -> Ended
-        requires may { MayCall self.now timers.now pass.old objects_pass.old id }
+        requires may { IsCallerOf self.now timers.now pass.old objects_pass.old id }
         requires kind { (decl_at self.now id).kind ≡ rearming_kind call }
         requires room { (most_noted self.now timers.now.about id ≤ log.old.spare) × (1 ≤ object_log.old.spare) }
         ensures leaves { LeavesPasses self.now timers.now pass.new objects_pass.new }

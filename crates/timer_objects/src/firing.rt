@@ -1,5 +1,5 @@
 //! The handler that runs the functions of objects' timers.
-ghost use Rattle.std.specs.Prelude.{◌≡◌, ◌≤◌, [], length, None, OnOk, min};
+ghost use Rattle.std.specs.Prelude.{◌≡◌, ◌≤◌, [], length, None, OnOk};
 ghost use Rattle.counted_row.specs.Views.{IsPassOfRow};
 ghost use Rattle.timer_objects.specs.Known.{IsObjectsPass, row_of};
 

@@ -63,7 +63,17 @@ impl Objects {
             }
             Kind::Fd => {
                 let call = Rearming::Getting;
-                match self.rearm(rt, timers, pass, objects_pass, log, object_log, id, call, reading) {
+                match self.rearm(
+                    rt,
+                    timers,
+                    pass,
+                    objects_pass,
+                    log,
+                    object_log,
+                    id,
+                    call,
+                    reading,
+                ) {
                     Ended::Full { stamp } => Gettime::Spent { stamp },
                     Ended::Made {
                         stamp,

@@ -3,7 +3,7 @@ ghost use Rattle.std.specs.Prelude.{◌≡◌, ◌≤◌, ◌<◌, ◌+◌, ◌^
 ghost use Rattle.pass_names.specs.Names.{AnswersFor, IsLast};
 ghost use Rattle.pass_names.specs.Passes.{HasEach, Meets, Retires};
 ghost use Rattle.timer_setting.specs.Settimes.{most_entries};
-ghost use Rattle.counted_row.specs.Views.{IsPassOfRow, Knows, Locks, first_view, new_view, released, split_view};
+ghost use Rattle.counted_row.specs.Views.{IsPassOfRow, Locks, first_view, new_view, released, split_view};
 ghost use Rattle.timer_objects.specs.declared.object.ObjectCall.TheVariants as calls;
 ghost use Rattle.timer_objects.specs.BlockingReads.{descriptors_below};
 ghost use Rattle.timer_objects.specs.Meaning.{object_meaning, opened_objects};
@@ -135,12 +135,7 @@ impl Objects {
     }
 
     /// Waits until the lock of an object is free, and takes it.
-    pub(crate) fn lock<R: Wait>(
-        &self,
-        rt: &R,
-        pass: &mut RowPass<Object>,
-        id: u32,
-    ) -> Held<Object>
+    pub(crate) fn lock<R: Wait>(&self, rt: &R, pass: &mut RowPass<Object>, id: u32) -> Held<Object>
         requires row { IsPassOfRow (row_of self.now) pass.old }
         requires idle { pass.old.knows.held ≡ None }
         requires within { id < length self.now.decls }

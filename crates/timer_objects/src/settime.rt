@@ -9,7 +9,7 @@ ghost use Rattle.hr_timers.specs.Ways.{most_to_start};
 ghost use Rattle.timer_objects.specs.declared.object.Kind.TheVariants as kinds;
 ghost use Rattle.timer_objects.specs.Known.{IsObjectsPass, ObjectsPass, Suits, decl_at, most_noted};
 ghost use Rattle.timer_objects.specs.Calls.{HasWaited, SettimeMade, SettimeTells, Settimes, flags_of, settime_call};
-ghost use Rattle.timer_objects.specs.Rearming.{HasLocked, IsHolding, KeepsNames, LeavesPasses, MayCall, caller_of};
+ghost use Rattle.timer_objects.specs.Rearming.{HasLocked, IsHolding, KeepsNames, LeavesPasses, IsCallerOf, caller_of};
 ghost use Rattle.timer_objects.specs.Valid.{IsSettimeReply, IsValidSettime, SetsAnew, settime_with};
 ghost use Rattle.timer_objects.specs.Waiting.{HasToWait, IsHindered};
 
@@ -91,7 +91,7 @@ impl Objects {
         id: u32,
         valid: &ValidSettime,
     ) -> SettimeAnswer
-        requires may { MayCall self.now timers.now pass.old objects_pass.old id }
+        requires may { IsCallerOf self.now timers.now pass.old objects_pass.old id }
         requires kind { (decl_at self.now id).kind ≢ kinds.Raw }
         requires valid { IsValidSettime (decl_at self.now id).kind valid.now }
         requires room { (most_noted self.now timers.now.about id ≤ log.old.spare) × (1 ≤ object_log.old.spare) }
@@ -130,7 +130,7 @@ impl Objects {
         id: u32,
         valid: &ValidSettime,
     ) -> Option<SettimeAnswer>
-        requires may { MayCall self.now timers.now pass.old objects_pass.old id }
+        requires may { IsCallerOf self.now timers.now pass.old objects_pass.old id }
         requires kind { (decl_at self.now id).kind ≢ kinds.Raw }
         requires valid { IsValidSettime (decl_at self.now id).kind valid.now }
         requires room { (most_noted self.now timers.now.about id ≤ log.old.spare) × (1 ≤ object_log.old.spare) }

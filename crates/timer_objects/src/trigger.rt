@@ -1,11 +1,10 @@
 //! The trigger of an object by the expiry of its timer.
-ghost use Rattle.std.specs.Prelude.{◌≡◌, ◌≤◌, ◌<◌, ◌+◌, [], ◌∷◌, ◌++◌, None, Some, length, MatchBool};
-ghost use Rattle.counted_row.specs.Views.{IsPassOfRow, Locks, released};
+ghost use Rattle.std.specs.Prelude.{◌≡◌, ◌<◌, ◌+◌, [], ◌∷◌, ◌++◌, None, Some, length};
+ghost use Rattle.counted_row.specs.Views.{IsPassOfRow, released};
 ghost use Rattle.hr_timers.specs.Known.{IsPassOf};
 ghost use Rattle.pass_names.specs.SharedHistory.{LooksOn};
-ghost use Rattle.timer_objects.specs.Known.{HoldsObject, IsObjectsPass, decl_at, row_of, seen_of};
+ghost use Rattle.timer_objects.specs.Known.{IsObjectsPass, decl_at, row_of, seen_of};
 ghost use Rattle.timer_objects.specs.Triggers.{Triggers, trigger_of, trigger_refused};
-ghost use Rattle.timer_objects.specs.Turns.{entries_told};
 
 use crate::log::{ObjectLog, note};
 use crate::object::{Kind, Object, ObjectCall, ObjectReply};

@@ -12,7 +12,7 @@ use seq_timer::{Declared, Terms};
 use std::alloc::{AllocError, Global};
 use std::sync::Wait;
 use timer_fd::{ReadAnswer, SettimeAnswer};
-use timer_objects::{Callback, Decl, Kind, ObjectCell, ObjectLog, Objects};
+use timer_objects::{Callback, Decl, Kind, Object, ObjectLog, Objects};
 use timer_setting::ABSTIME;
 
 /// The time of all calls.
@@ -28,7 +28,7 @@ pub struct Stand {
     timers: Timers,
     pass: Pass,
     objects: Objects,
-    objects_pass: RowPass<ObjectCell>,
+    objects_pass: RowPass<Object>,
     callbacks: Vec<Callback>,
     log: Log,
     object_log: ObjectLog,

@@ -128,9 +128,9 @@ fn a_periodic_timer_tells_its_overrun(rt: HostRuntime) -> Result<(), Fail> {
     let took = posix_timer::Reply::Accept(accepted);
     let none = posix_timer::Reply::Accept(AcceptAnswer::NoSignal);
     let calls = [
-        posix(1, set, 0, 1, was),
-        posix(3, taken(late, Arm::Armed(4)), 3, 4, took),
-        posix(4, taken(late, Arm::NotAsked), 4, 4, none),
+        posix(1, set, was),
+        posix(3, taken(late, Arm::Armed(4)), took),
+        posix(4, taken(late, Arm::NotAsked), none),
     ];
     let objects = (ClockId::Monotonic, 100);
     let (other, triggers) = taken_steps(&rt, objects, &cases, &entries, &calls)?;
@@ -155,9 +155,9 @@ fn a_descriptor_counts_its_expiries(rt: HostRuntime) -> Result<(), Fail> {
     let entries = armed_again(FD, ClockId::Monotonic, (100, zero), due, (140, late));
     let set = settime(1, 100, 10, zero, Arm::Armed(1));
     let calls = [
-        fd_set(1, set, 0, 1, NONE),
-        fd_read(3, late, Arm::Armed(4), 3, 4, count),
-        fd_read(4, late, Arm::NotAsked, 4, 4, ReadAnswer::Again),
+        fd_set(1, set, NONE),
+        fd_read(3, late, Arm::Armed(4), count),
+        fd_read(4, late, Arm::NotAsked, ReadAnswer::Again),
     ];
     let objects = (ClockId::Monotonic, 100);
     goes_as_expected(&rt, objects, &cases, &entries, &calls)
@@ -229,12 +229,12 @@ fn a_set_clock_cancels_a_setting(rt: HostRuntime) -> Result<(), Fail> {
         interval: 0,
     };
     let calls = [
-        fd_set(1, first, 0, 1, NONE),
-        fd_read(2, fifty, Arm::NotAsked, 1, 1, ReadAnswer::Canceled),
-        fd_read(3, fifty, Arm::NotAsked, 1, 1, ReadAnswer::Again),
-        fd_set(4, second, 1, 3, SettimeAnswer::Canceled),
-        fd_set(5, third, 3, 5, left),
-        fd_read(6, seventy, Arm::NotAsked, 5, 5, ReadAnswer::Again),
+        fd_set(1, first, NONE),
+        fd_read(2, fifty, Arm::NotAsked, ReadAnswer::Canceled),
+        fd_read(3, fifty, Arm::NotAsked, ReadAnswer::Again),
+        fd_set(4, second, SettimeAnswer::Canceled),
+        fd_set(5, third, left),
+        fd_read(6, seventy, Arm::NotAsked, ReadAnswer::Again),
     ];
     let objects = (ClockId::Realtime, 100);
     goes_as_expected(&rt, objects, &cases, &entries, &calls)
@@ -251,8 +251,8 @@ fn a_clock_set_back_before_the_expiry_leaves_none_to_read(rt: HostRuntime) -> Re
     let entries = armed_again(FD, ClockId::Realtime, (1000, due), due, (1000, back));
     let set = settime(1, 1000, 100, due, Arm::Armed(1));
     let calls = [
-        fd_set(1, set, 0, 1, NONE),
-        fd_read(3, back, Arm::Armed(4), 3, 4, ReadAnswer::Again),
+        fd_set(1, set, NONE),
+        fd_read(3, back, Arm::Armed(4), ReadAnswer::Again),
     ];
     let objects = (ClockId::Realtime, 100);
     goes_as_expected(&rt, objects, &cases, &entries, &calls)
@@ -280,9 +280,9 @@ fn a_full_history_refuses_a_settime(rt: HostRuntime) -> Result<(), Fail> {
     ];
     let unarmed = posix_timer::SettimeAnswer::Unarmed { stamp: 4 };
     let calls = [
-        posix_set(1, zero, Arm::Armed(1), 0, 1, posix_old(0)),
-        posix_set(2, zero, Arm::Armed(3), 1, 3, posix_old(100)),
-        posix_set(3, zero, Arm::Unarmed(4), 3, 4, unarmed),
+        posix_set(1, zero, Arm::Armed(1), posix_old(0)),
+        posix_set(2, zero, Arm::Armed(3), posix_old(100)),
+        posix_set(3, zero, Arm::Unarmed(4), unarmed),
     ];
     let objects = (ClockId::Monotonic, 3);
     goes_as_expected(&rt, objects, &cases, &entries, &calls)

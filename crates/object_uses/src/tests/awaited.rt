@@ -19,7 +19,7 @@ use std::sync::Wait;
 use std::sync::atomic::{AtomicBool, Ordering};
 use std::thread::{Threads, join_mut};
 use timer_fd::SettimeAnswer;
-use timer_objects::{BlockingRead, Callback, Decl, Kind, ObjectCell, ObjectLog, Objects, Reader};
+use timer_objects::{BlockingRead, Callback, Decl, Kind, Object, ObjectLog, Objects, Reader};
 
 /// The number of the descriptor, and of its timer.
 pub(super) const FD: u32 = 0;
@@ -31,7 +31,7 @@ const TURNS: u64 = 1_000_000;
 pub(super) fn awaited(
     alloc: Global,
     clock: ClockId,
-) -> Result<(Timers, Pass, Objects, RowPass<ObjectCell>, Reader), AllocError>
+) -> Result<(Timers, Pass, Objects, RowPass<Object>, Reader), AllocError>
     ensures passes { IfOk result (λ r. HasPasses r.0 r.2 r.1 r.3) }
     ensures last { IfOk result (λ r. IsLast r.1.known.id × (r.1.known.claims ≡ []) × IsLast r.3.knows.pass.id) }
     ensures one { IfOk result (λ r. IsAwaited r.0 r.2 r.4) }
@@ -80,7 +80,7 @@ fn read_until<R: Wait>(
     timers: &Timers,
     pass: &mut Pass,
     objects: &Objects,
-    objects_pass: &mut RowPass<ObjectCell>,
+    objects_pass: &mut RowPass<Object>,
     reader: &mut Reader,
     clock: &SharedClock,
     clock_pass: &mut ClockPass,
@@ -127,7 +127,7 @@ fn read_one<R: Wait>(
     timers: &Timers,
     pass: &mut Pass,
     objects: &Objects,
-    objects_pass: &mut RowPass<ObjectCell>,
+    objects_pass: &mut RowPass<Object>,
     reader: &mut Reader,
     clock: &SharedClock,
     clock_pass: &mut ClockPass,
@@ -164,7 +164,7 @@ fn run_until<R: Wait>(
     timers: &Timers,
     pass: &mut Pass,
     objects: &Objects,
-    objects_pass: &mut RowPass<ObjectCell>,
+    objects_pass: &mut RowPass<Object>,
     clock: &SharedClock,
     clock_pass: &mut ClockPass,
     write: Write,
@@ -203,7 +203,7 @@ pub(super) fn run_one<R: Wait>(
     timers: &Timers,
     pass: &mut Pass,
     objects: &Objects,
-    objects_pass: &mut RowPass<ObjectCell>,
+    objects_pass: &mut RowPass<Object>,
     clock: &SharedClock,
     clock_pass: &mut ClockPass,
     write: Option<Write>,
@@ -268,8 +268,8 @@ fn read_and_run<R: Threads + Wait + Sync>(
     reading: &mut Pass,
     running: &mut Pass,
     objects: &Objects,
-    objects_reading: &mut RowPass<ObjectCell>,
-    objects_running: &mut RowPass<ObjectCell>,
+    objects_reading: &mut RowPass<Object>,
+    objects_running: &mut RowPass<Object>,
     reader: &mut Reader,
     clock: &SharedClock,
     clock_reading: &mut ClockPass,
@@ -329,7 +329,7 @@ pub(super) fn read_beside<R: Threads + Wait + Sync>(
     timers: &Timers,
     main: &mut Pass,
     objects: &Objects,
-    objects_main: &mut RowPass<ObjectCell>,
+    objects_main: &mut RowPass<Object>,
     reader: &mut Reader,
     clock: &SharedClock,
     clock_main: &mut ClockPass,
@@ -378,7 +378,7 @@ pub(super) fn set_fd<R: Wait>(
     timers: &Timers,
     pass: &mut Pass,
     objects: &Objects,
-    objects_pass: &mut RowPass<ObjectCell>,
+    objects_pass: &mut RowPass<Object>,
     flags: u64,
     ns: u64,
     reading: Reading,

@@ -17,7 +17,7 @@ use std::alloc::{AllocError, Global};
 use std::sync::Wait;
 use std::test::Fail;
 use std::thread::Threads;
-use timer_objects::{BlockingRead, Gettime, ObjectCell, ObjectLog, Objects, Reader};
+use timer_objects::{BlockingRead, Gettime, Object, ObjectLog, Objects, Reader};
 
 /// Sets a descriptor of this clock, and reads it in one thread while the other writes the clock so many times: how many expiries were read, and the last
 /// answer.
@@ -76,7 +76,7 @@ fn read_set_back<R: Wait>(
     timers: &Timers,
     pass: &mut Pass,
     objects: &Objects,
-    objects_pass: &mut RowPass<ObjectCell>,
+    objects_pass: &mut RowPass<Object>,
     reader: &mut Reader,
     clock: &SharedClock,
     clock_pass: &mut ClockPass,

@@ -4,7 +4,7 @@ use expire_pass::{ExpireAnswer, Noted, Receipt};
 use ktime::{ClockId, Mode, Reading};
 use seq_timer::{Asked, Event, Placement, Reply, Restarted};
 use timer_fd::{ReadAnswer, SettimeAnswer};
-use timer_objects::{ObjectCall, ObjectReceipt, ObjectReply, SpannedCall};
+use timer_objects::{ObjectCall, ObjectReceipt, ObjectReply};
 use timer_setting::{Arm, SettimeCall, TriggerAnswer};
 
 /// What a settime of the descriptor tells that replaces no setting.
@@ -74,19 +74,17 @@ pub(super) fn cancel(timer: u32, number: u64, generation: u64) -> Receipt {
     entry(timer, number, Event::Cancel, Reply::Cancel { generation })
 }
 
-/// The entry of a call of an object, over these entries of its timer.
+/// The entry of a call of an object.
 fn call_of(
     object: u32,
     number: u64,
     call: ObjectCall,
-    from: u64,
-    to: u64,
     reply: ObjectReply,
 ) -> ObjectReceipt {
     ObjectReceipt {
         object,
         number,
-        call: SpannedCall { call, from, to },
+        call,
         reply,
     }
 }
@@ -95,30 +93,19 @@ fn call_of(
 pub(super) fn posix(
     number: u64,
     call: posix_timer::Call,
-    from: u64,
-    to: u64,
     reply: posix_timer::Reply,
 ) -> ObjectReceipt {
     let (call, reply) = (ObjectCall::Posix(call), ObjectReply::Posix(reply));
-    call_of(POSIX, number, call, from, to, reply)
+    call_of(POSIX, number, call, reply)
 }
 
 /// The entry of a call of the descriptor.
 pub(super) fn fd(
     number: u64,
     call: timer_fd::Call,
-    from: u64,
-    to: u64,
     reply: timer_fd::Reply,
 ) -> ObjectReceipt {
-    call_of(
-        FD,
-        number,
-        ObjectCall::Fd(call),
-        from,
-        to,
-        ObjectReply::Fd(reply),
-    )
+    call_of(FD, number, ObjectCall::Fd(call), ObjectReply::Fd(reply))
 }
 
 /// A settime with these arguments.
@@ -148,12 +135,10 @@ pub(super) fn posix_set(
     number: u64,
     at: Reading,
     arm: Arm,
-    from: u64,
-    to: u64,
     answer: posix_timer::SettimeAnswer,
 ) -> ObjectReceipt {
     let call = posix_timer::Call::Settime(settime(1, 100, 0, at, arm));
-    posix(number, call, from, to, posix_timer::Reply::Settime(answer))
+    posix(number, call, posix_timer::Reply::Settime(answer))
 }
 
 /// What a settime of the POSIX timer tells that replaces a setting without an interval.
@@ -165,12 +150,10 @@ pub(super) fn posix_old(left: u64) -> posix_timer::SettimeAnswer {
 pub(super) fn fd_set(
     number: u64,
     call: SettimeCall,
-    from: u64,
-    to: u64,
     answer: SettimeAnswer,
 ) -> ObjectReceipt {
     let call = timer_fd::Call::Settime(call);
-    fd(number, call, from, to, timer_fd::Reply::Settime(answer))
+    fd(number, call, timer_fd::Reply::Settime(answer))
 }
 
 /// The entry of a read.
@@ -178,15 +161,13 @@ pub(super) fn fd_read(
     number: u64,
     reading: Reading,
     arm: Arm,
-    from: u64,
-    to: u64,
     answer: ReadAnswer,
 ) -> ObjectReceipt {
     let call = timer_fd::Call::Read { reading, arm };
-    fd(number, call, from, to, timer_fd::Reply::Read(answer))
+    fd(number, call, timer_fd::Reply::Read(answer))
 }
 
-/// The receipt of the trigger of the POSIX timer by generation 1, which was armed as its first entry.
+/// The receipt of the trigger of the POSIX timer by generation 1.
 pub(super) fn posix_triggered(
     number: u64,
     reading: Reading,
@@ -196,24 +177,17 @@ pub(super) fn posix_triggered(
         generation: 1,
         reading,
     };
-    posix(number, call, 1, 2, posix_timer::Reply::Trigger(answer))
+    posix(number, call, posix_timer::Reply::Trigger(answer))
 }
 
-/// The receipt of such a trigger of a descriptor, as its second entry.
+/// The receipt of such a trigger of a descriptor, which is its second entry.
 pub(super) fn fd_triggered(object: u32, reading: Reading) -> ObjectReceipt {
     let call = timer_fd::Call::Trigger {
         generation: 1,
         reading,
     };
     let reply = timer_fd::Reply::Trigger(TriggerAnswer::Counted);
-    call_of(
-        object,
-        2,
-        ObjectCall::Fd(call),
-        1,
-        2,
-        ObjectReply::Fd(reply),
-    )
+    call_of(object, 2, ObjectCall::Fd(call), ObjectReply::Fd(reply))
 }
 
 /// What a run tells that found so many timers due and no more.

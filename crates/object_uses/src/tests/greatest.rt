@@ -15,7 +15,7 @@ use ktime::{ClockId, Reading};
 use seq_timer::{Declared, Terms};
 use std::alloc::{AllocError, Global};
 use std::test::Fail;
-use timer_objects::{Decl, Kind, ObjectCell, ObjectLog, Objects};
+use timer_objects::{Decl, Kind, Object, ObjectLog, Objects};
 
 /// The most timers that there may be.
 const TIMERS: u32 = 65_536;
@@ -27,7 +27,7 @@ const LIMIT: u64 = (1 << 48) - 16;
 fn posix_timers(
     alloc: Global,
     count: usize,
-) -> Result<(Timers, Pass, Objects, RowPass<ObjectCell>), AllocError>
+) -> Result<(Timers, Pass, Objects, RowPass<Object>), AllocError>
     requires few { count ≤ 65536 }
     ensures passes { IfOk result (λ r. HasPasses r.0 r.2 r.1 r.3) }
     ensures last { IfOk result (λ r. IsLast r.1.known.id × (r.1.known.claims ≡ []) × IsLast r.3.knows.pass.id) }

@@ -17,7 +17,7 @@ use seq_timer::{Declared, Event, Moved, Observation, Reply, Terms};
 use std::alloc::{AllocError, Global};
 use std::sync::Wait;
 use std::test::Fail;
-use timer_objects::{Callback, Kind, ObjectCell, ObjectLog, ObjectReceipt, Objects};
+use timer_objects::{Callback, Kind, Object, ObjectLog, ObjectReceipt, Objects};
 use timer_setting::TriggerAnswer;
 
 /// What an expiry run and the function in it have noted.
@@ -40,7 +40,7 @@ fn arm<R: Wait>(
     timers: &Timers,
     pass: &mut Pass,
     objects: &Objects,
-    objects_pass: &mut RowPass<ObjectCell>,
+    objects_pass: &mut RowPass<Object>,
     log: &mut Log,
     calls: &mut ObjectLog,
 )

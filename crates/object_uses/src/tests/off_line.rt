@@ -21,13 +21,13 @@ use std::sync::Wait;
 use std::test::Fail;
 use std::thread::{Threads, join_mut};
 use timer_fd::{ReadAnswer, SettimeAnswer};
-use timer_objects::{Callback, Decl, Kind, ObjectCell, ObjectLog, Objects};
+use timer_objects::{Callback, Decl, Kind, Object, ObjectLog, Objects};
 
 /// The number of the descriptor, and of its timer.
 const FD: u32 = 0;
 
 /// A descriptor on base 1 of two bases that may go off line, and the first passes.
-fn evacuable(alloc: Global) -> Result<(Timers, Pass, Objects, RowPass<ObjectCell>), AllocError>
+fn evacuable(alloc: Global) -> Result<(Timers, Pass, Objects, RowPass<Object>), AllocError>
     ensures passes { IfOk result (λ r. HasPasses r.0 r.2 r.1 r.3) }
     ensures first { IfOk result (λ r. (r.1.known.id ≡ first_pass_id) × (r.1.known.claims ≡ []) × IsLast r.3.knows.pass.id) }
     ensures sizes { IfOk result (λ r. (r.0.about.bases ≡ 2) × (length r.0.about.timers ≡ 1) × (length r.2.decls ≡ 1)) }
@@ -69,7 +69,7 @@ fn set_fd<R: Wait>(
     timers: &Timers,
     pass: &mut Pass,
     objects: &Objects,
-    objects_pass: &mut RowPass<ObjectCell>,
+    objects_pass: &mut RowPass<Object>,
     log: &mut Log,
     calls: &mut ObjectLog,
     ns: u64,
@@ -110,7 +110,7 @@ fn take_off_and_set<R: Threads + Wait + Sync>(
     first: &mut Pass,
     other: &mut Pass,
     objects: &Objects,
-    objects_other: &mut RowPass<ObjectCell>,
+    objects_other: &mut RowPass<Object>,
     log: &mut Log,
     calls: &mut ObjectLog,
 ) -> (OfflineAnswer, SettimeAnswer)
@@ -134,7 +134,7 @@ fn take_off_beside<R: Threads + Wait + Sync>(
     timers: &Timers,
     main: &mut Pass,
     objects: &Objects,
-    objects_main: &mut RowPass<ObjectCell>,
+    objects_main: &mut RowPass<Object>,
     log: &mut Log,
     calls: &mut ObjectLog,
 ) -> (OfflineAnswer, SettimeAnswer)
@@ -170,7 +170,7 @@ fn run_on<R: Wait>(
     timers: &Timers,
     pass: &mut Pass,
     objects: &Objects,
-    objects_pass: &mut RowPass<ObjectCell>,
+    objects_pass: &mut RowPass<Object>,
     base: u32,
     log: &mut Log,
 ) -> Option<ExpireAnswer>

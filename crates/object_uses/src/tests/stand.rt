@@ -12,9 +12,7 @@ use std::alloc::{AllocError, Global};
 use std::marker::Model;
 use std::sync::Wait;
 use timer_fd::{ReadAnswer, SettimeAnswer};
-use timer_objects::{
-    Callback, Decl, Gettime, Kind, ObjectCell, ObjectLog, Objects, Overrun, Readable,
-};
+use timer_objects::{Callback, Decl, Gettime, Kind, Object, ObjectLog, Objects, Overrun, Readable};
 
 /// The number of the POSIX timer.
 pub const POSIX: u32 = 0;
@@ -55,7 +53,7 @@ pub struct Stand {
     pub timers: Timers,
     pub pass: Pass,
     pub objects: Objects,
-    pub objects_pass: RowPass<ObjectCell>,
+    pub objects_pass: RowPass<Object>,
     /// The receipts of timers' entries.
     pub log: Log,
     /// The receipts of calls on objects.

@@ -20,7 +20,7 @@ use std::sync::Wait;
 use std::test::Fail;
 use std::thread::{Threads, join_mut};
 use timer_fd::SettimeAnswer;
-use timer_objects::{Callback, Firing, ObjectCell, ObjectLog, Objects};
+use timer_objects::{Callback, Firing, Object, ObjectLog, Objects};
 use timer_setting::Arm;
 
 /// How often a thread looks for what the other one does.
@@ -106,7 +106,7 @@ fn run_one<R: Wait>(
     timers: &Timers,
     pass: &mut Pass,
     objects: &Objects,
-    objects_pass: &mut RowPass<ObjectCell>,
+    objects_pass: &mut RowPass<Object>,
     log: &mut Log,
 ) -> Result<Ran, AllocError>
     requires passes { HasPasses timers.now objects.now pass.old objects_pass.old }
@@ -141,7 +141,7 @@ fn set_one<R: Wait>(
     timers: &Timers,
     pass: &mut Pass,
     objects: &Objects,
-    objects_pass: &mut RowPass<ObjectCell>,
+    objects_pass: &mut RowPass<Object>,
     log: &mut Log,
     calls: &mut ObjectLog,
     id: u32,
@@ -175,7 +175,7 @@ fn set_running<R: Wait>(
     timers: &Timers,
     pass: &mut Pass,
     objects: &Objects,
-    objects_pass: &mut RowPass<ObjectCell>,
+    objects_pass: &mut RowPass<Object>,
     log: &mut Log,
     calls: &mut ObjectLog,
 ) -> Option<SettimeAnswer>
@@ -219,8 +219,8 @@ fn run_and_set<R: Threads + Wait + Sync>(
     runner: &mut Pass,
     setter: &mut Pass,
     objects: &Objects,
-    objects_runner: &mut RowPass<ObjectCell>,
-    objects_setter: &mut RowPass<ObjectCell>,
+    objects_runner: &mut RowPass<Object>,
+    objects_setter: &mut RowPass<Object>,
     runs: &mut Log,
     log: &mut Log,
     calls: &mut ObjectLog,
@@ -316,12 +316,12 @@ fn settime_waits_for_the_trigger(rt: HostRuntime) -> Result<(), Fail> {
     assert_equal(
         &rt,
         stand.calls.receipts().get(0).copied(),
-        Some(fd_set(1, first, 0, 1, NONE)),
+        Some(fd_set(1, first, NONE)),
     );
     assert_equal(
         &rt,
         stand.calls.receipts().get(2).copied(),
-        Some(fd_set(3, late, 3, 4, NONE)),
+        Some(fd_set(3, late, NONE)),
     );
     stand.close();
     Ok(())

@@ -1,4 +1,4 @@
-use Rattle.std.proofs.Common.{◌<◌, subst, arith, inl}
+use Rattle.std.proofs.Common.{◌<◌, subst, inl}
 use Rattle.counted_row.specs.Views.{Locks}
 use Rattle.base_row.specs.Plays.{RisesFrom}
 use Rattle.timer_objects.specs.Meaning.{object_meaning}

@@ -1,7 +1,7 @@
 use Rattle.std.proofs.Common.{rules, refl, ◌≡◌, ◌∙◌, sym, subst}
 use Rattle.seq_timer.specs.declared.context.Context.TheVariants as contexts
 use Rattle.counted_row.specs.Views.{Knows}
-use Rattle.timer_objects.specs.Cells.{cell_meaning}
+use Rattle.timer_objects.specs.Meaning.{object_meaning}
 use Rattle.timer_objects.specs.Known.{IsObjectsPass, KeepsObjectsPass, ObjectsPass}
 use Rattle.object_uses.specs.declared.tests.waiting.Gated.{Gated}
 use Rattle.expire_pass.proofs.Leaving.{run_leaves}
@@ -28,7 +28,7 @@ returns g c =
     let left = run_leaves _ c.args.timers.now.about _ LeavesGated gated_same gated_trans
     (λ h h' v w n restart later. record { lent = later.0; leaves = leaves_fired _ h.firing.now h'.firing.now later.1.0 w n _ restart later.1.1 })
     contexts.Hard 0 _ c.args.pass.now.known _ c.args.log.now.receipts ran.new.pass.known ran.new.handler ran.new.log.receipts ran.result ran.ensures.expires in
-    let knows = subst (λ (p : ObjectsPass). Knows cell_meaning p.knows) (sym was) c.requires.passes.of_objects.knows in
+    let knows = subst (λ (p : ObjectsPass). Knows object_meaning p.knows) (sym was) c.requires.passes.of_objects.knows in
     let objects = pass_after c.args.objects.now ready ran.new.handler.firing.now (c.reserve.ensures.loan.objects ∙ c.make-firing.ensures.objects) left.leaves knows in
     let goes_on = subst (λ (p : ObjectsPass). KeepsObjectsPass p ran.new.handler.firing.now.objects_pass.now) was left.leaves.keeps in
     record {

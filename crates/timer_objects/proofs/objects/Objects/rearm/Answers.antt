@@ -1,4 +1,3 @@
-use Rattle.timer_objects.specs.Rearming.{Ends, HasLocked, caller_of}
 use Rattle.timer_objects.proofs.Asking.{ends_at, ends_names}
 use Rattle.timer_objects.proofs.objects.Objects.rearm.Goals as goal
 

@@ -1,4 +1,4 @@
-use Rattle.std.proofs.Common.{ap, sym, subst, length, ◌≡◌, ◌∙◌, ◌+◌, [], ◌∷◌, ◌++◌}
+use Rattle.std.proofs.Common.{ap, sym, subst, length, ◌∙◌, ◌+◌, [], ◌∷◌, ◌++◌}
 use Rattle.base_row.specs.Plays.{RisesFrom}
 use Rattle.timer_setting.specs.Phases.{IsOutcomeOf}
 use Rattle.timer_objects.specs.declared.object.Decl.{Decl}

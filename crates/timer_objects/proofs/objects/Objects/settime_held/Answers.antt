@@ -20,8 +20,8 @@ enter-reply-requires-clause-may g c =
     let holding = c.requires.holding in
     let arm = c.in-Some.outcome in
     let named = c.call_of-call.ensures
-        ∙ (ap (λ (s : SettimeCall). settime_call c.decl-kind.result.kind s) c.with.ensures
-        ∙ ap (λ (d : Decl). settime_call d.kind (settime_with c.args.valid.now arm)) c.decl-kind.ensures) in
+    ∙ (ap (λ (s : SettimeCall). settime_call c.decl-kind.result.kind s) c.with.ensures
+    ∙ ap (λ (d : Decl). settime_call d.kind (settime_with c.args.valid.now arm)) c.decl-kind.ensures) in
     subst (λ call. MayEnter x c.args.objects_pass.now c.args.held c.args.id call) (sym named) (record {
       row = holding.row;
       unclaimed = holding.unclaimed;
@@ -37,8 +37,8 @@ settime_answer-requires g c =
     let holding = c.requires.holding in
     let arm = c.in-Some.outcome in
     let named = c.call_of-call.ensures
-        ∙ (ap (λ (s : SettimeCall). settime_call c.decl-kind.result.kind s) c.with.ensures
-        ∙ ap (λ (d : Decl). settime_call d.kind (settime_with c.args.valid.now arm)) c.decl-kind.ensures) in
+    ∙ (ap (λ (s : SettimeCall). settime_call c.decl-kind.result.kind s) c.with.ensures
+    ∙ ap (λ (d : Decl). settime_call d.kind (settime_with c.args.valid.now arm)) c.decl-kind.ensures) in
     record {
       made = replies_settime c.args.self.now c.args.id c.args.held holding.index holding.holds c.args.valid.now arm c.enter-reply.result c.requires.kind
           (subst (λ call. Enters c.args.objects_pass.now c.enter-reply.new.pass c.args.held call c.enter-reply.result) named
@@ -59,8 +59,8 @@ returns-clause-made g c = λ first begun took.
     let v = c.args.pass.now.known in
     let w = c.set_anew.new.pass.known in
     let named = c.call_of-call.ensures
-        ∙ (ap (λ (s : SettimeCall). settime_call c.decl-kind.result.kind s) c.with.ensures
-        ∙ ap (λ (d : Decl). settime_call d.kind (settime_with c.args.valid.now arm)) c.decl-kind.ensures) in
+    ∙ (ap (λ (s : SettimeCall). settime_call c.decl-kind.result.kind s) c.with.ensures
+    ∙ ap (λ (d : Decl). settime_call d.kind (settime_with c.args.valid.now arm)) c.decl-kind.ensures) in
     let turn : HasTurn c.args.id h.stamp first.known v w c.raise.new.pass.known = record {
       looks = took.looks;
       found = holding.told;
