@@ -85,9 +85,10 @@ module _ (x : ObjectsOf) (o : Opening) (old new : Caller) (id flags value interv
   keeps_unless (Some r) a refused = keeps_none refused.1
 
   keeps_call : (r : Rearming) (reply : ObjectReply) → RearmingMade x o old new id r reading reply → KeepsBoth old new
-  keeps_call r reply made =
-      (keeps_turn made.turn (keeps_armed o made.begun made.worked id _ _ reading made.arm old.log new.log made.arms),
-      keeps_added old.objects new.objects id _ made.enters.commits.adds)
+  keeps_call r reply made = (
+    keeps_turn made.turn (keeps_armed o made.begun made.worked id _ _ reading made.arm old.log new.log made.arms),
+    keeps_added old.objects new.objects id _ made.enters.commits.adds,
+  )
 
   pub keeps_accept : (a : AcceptAnswer) → Accepts x o old new id reading a → KeepsBoth old new
   keeps_accept (acceptances.Spent n) full = keeps_full n full

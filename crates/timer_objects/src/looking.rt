@@ -7,7 +7,7 @@ ghost use Rattle.timer_objects.specs.Known.{IsObjectsPass, Suits, decl_at, most_
 ghost use Rattle.timer_objects.specs.Steps.{IsObjectOf};
 ghost use Rattle.timer_objects.specs.Turns.{entries_told};
 ghost use Rattle.timer_objects.specs.Calls.{Gettimes, LooksOverrun, LooksReadable};
-ghost use Rattle.timer_objects.specs.Rearming.{FindsObject, KeepsNames, caller_of};
+ghost use Rattle.timer_objects.specs.Rearming.{FindsObject, IsCallerOf, KeepsNames, LeavesPasses, caller_of};
 
 use crate::answers::{Gettime, Overrun, Readable};
 use crate::log::ObjectLog;
@@ -62,32 +62,56 @@ impl Objects {
                 }
             }
             Kind::Fd => {
-                let call = Rearming::Getting;
-                match self.rearm(
-                    rt,
-                    timers,
-                    pass,
-                    objects_pass,
-                    log,
-                    object_log,
-                    id,
-                    call,
-                    reading,
-                ) {
-                    Ended::Full { stamp } => Gettime::Spent { stamp },
-                    Ended::Made {
-                        stamp,
-                        reply: ObjectReply::Fd(
-                            timer_fd::Reply::Gettime(GettimeAnswer::Left { left, interval }),
-                        ),
-                    } => Gettime::Left {
-                        left,
-                        interval,
-                        stamp,
-                    },
-                    Ended::Made { .. } => unreachable!(),
-                }
+                self.gettime_fd(rt, timers, pass, objects_pass, log, object_log, id, reading)
             }
+        }
+    }
+
+    /// The same of a descriptor.
+    fn gettime_fd<R: Wait>(
+        &self,
+        rt: &R,
+        timers: &Timers,
+        pass: &mut Pass,
+        objects_pass: &mut RowPass<Object>,
+        log: &mut Log,
+        object_log: &mut ObjectLog,
+        id: u32,
+        reading: Reading,
+    ) -> Gettime
+        requires may { IsCallerOf self.now timers.now pass.old objects_pass.old id }
+        requires kind { (decl_at self.now id).kind ≡ kinds.Fd }
+        requires room { (most_noted self.now timers.now.about id ≤ log.old.spare) × (1 ≤ object_log.old.spare) }
+        ensures leaves { LeavesPasses self.now timers.now pass.new objects_pass.new }
+        ensures gets { Gettimes self.now timers.now.about (caller_of pass.old objects_pass.old log.old object_log.old) (caller_of pass.new objects_pass.new log.new object_log.new) id reading kinds.Fd result }
+        ensures names { KeepsNames (caller_of pass.old objects_pass.old log.old object_log.old) (caller_of pass.new objects_pass.new log.new object_log.new) }
+        ensures room { (log.old.spare ≤ log.new.spare + most_noted self.now timers.now.about id) × (object_log.old.spare ≤ object_log.new.spare + 1) }
+    {
+        let call = Rearming::Getting;
+        let ended = self.rearm(
+            rt,
+            timers,
+            pass,
+            objects_pass,
+            log,
+            object_log,
+            id,
+            call,
+            reading,
+        );
+        match ended {
+            Ended::Full { stamp } => Gettime::Spent { stamp },
+            Ended::Made {
+                stamp,
+                reply: ObjectReply::Fd(
+                    timer_fd::Reply::Gettime(GettimeAnswer::Left { left, interval }),
+                ),
+            } => Gettime::Left {
+                left,
+                interval,
+                stamp,
+            },
+            Ended::Made { .. } => unreachable!(),
         }
     }
 

@@ -75,12 +75,7 @@ pub(super) fn cancel(timer: u32, number: u64, generation: u64) -> Receipt {
 }
 
 /// The entry of a call of an object.
-fn call_of(
-    object: u32,
-    number: u64,
-    call: ObjectCall,
-    reply: ObjectReply,
-) -> ObjectReceipt {
+fn call_of(object: u32, number: u64, call: ObjectCall, reply: ObjectReply) -> ObjectReceipt {
     ObjectReceipt {
         object,
         number,
@@ -100,11 +95,7 @@ pub(super) fn posix(
 }
 
 /// The entry of a call of the descriptor.
-pub(super) fn fd(
-    number: u64,
-    call: timer_fd::Call,
-    reply: timer_fd::Reply,
-) -> ObjectReceipt {
+pub(super) fn fd(number: u64, call: timer_fd::Call, reply: timer_fd::Reply) -> ObjectReceipt {
     call_of(FD, number, ObjectCall::Fd(call), ObjectReply::Fd(reply))
 }
 
@@ -147,11 +138,7 @@ pub(super) fn posix_old(left: u64) -> posix_timer::SettimeAnswer {
 }
 
 /// The entry of a settime of the descriptor.
-pub(super) fn fd_set(
-    number: u64,
-    call: SettimeCall,
-    answer: SettimeAnswer,
-) -> ObjectReceipt {
+pub(super) fn fd_set(number: u64, call: SettimeCall, answer: SettimeAnswer) -> ObjectReceipt {
     let call = timer_fd::Call::Settime(call);
     fd(number, call, timer_fd::Reply::Settime(answer))
 }
