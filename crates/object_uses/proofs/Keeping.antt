@@ -94,7 +94,8 @@ module _ (x : ObjectsOf) (o : Opening) (old new : Caller) (id flags value interv
 
   keeps_call : (r : Rearming) (reply : ObjectReply) → RearmingMade x o old new id r reading reply → KeepsBoth old new
   keeps_call r reply made =
-      (keeps_turn made.turn (keeps_rearmed made.begun made.worked id _ _ _ made.arm made.span made.rearms), keeps_added old.objects new.objects id _ made.enters.commits.adds)
+      let rearmed = keeps_rearmed made.begun made.worked id _ _ _ made.arm made.span made.rearms in
+      (keeps_turn made.turn rearmed, keeps_added old.objects new.objects id _ made.enters.commits.adds)
 
   pub keeps_accept : (a : AcceptAnswer) → Accepts x o old new id reading a → KeepsBoth old new
   keeps_accept (acceptances.Spent n) full = keeps_full n full

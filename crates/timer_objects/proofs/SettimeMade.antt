@@ -21,7 +21,6 @@ use Rattle.timer_objects.specs.Rearming.{KeepsNames, SetsAnew}
 use Rattle.timer_objects.proofs.Retrying.{enters_after, full_after, turn_after, turn_names}
 use Rattle.timer_objects.proofs.Settings.{IsGranted, armed_end, arms_goes_on, disarmed_end}
 
-
 pub made_by : (x : ObjectsOf) (o : Opening) (old new : Caller) (id flags value interval : ℕ) (reading : ClockReading) (a : SettimeAnswer) → IsGranted a
     → SetsTimer x o old new id flags value interval reading a → SettimeMade x o old new id flags value interval reading a
 made_by x o old new id flags value interval reading (settings.Old left was) granted s = s

@@ -80,7 +80,7 @@ running_hinders o v w t last g n c =
     inr (subst IsSome (sym (ap (λ (u : Timer). u.running) (timer_after o v w t c.at [] c.made) ∙ c.fits.0)) refl)
 
 -- what was seen before a cancel goes on to it
-abbrev pub cancels_after : (o : Opening) (u v w : KnownOfTimers) (t : ℕ) (a : CancelAnswer) → LooksOn u v → Cancels o v w t a → Cancels o u w t a
+abbrev cancels_after : (o : Opening) (u v w : KnownOfTimers) (t : ℕ) (a : CancelAnswer) → LooksOn u v → Cancels o v w t a → Cancels o u w t a
 cancels_after o u v w t a looks c = record {
   at = c.at;
   made = record {

@@ -123,7 +123,7 @@ fn start_own<R: Wait>(rt: &R, timers: &Timers, pass: &mut Pass, timer: u32, read
 }
 
 impl Handler for Acting {
-    ghost meaning = { record { did = λ o h h' k k' c reading restart. Unit; ready = λ h. 18446744073709551616; timers = λ h. 65536; bases = λ h. 1 } };
+    ghost meaning = { record { did = λ o h h' k k' c reading restart. Unit; ready = λ h. 18446744073709551616; timers = λ h. 65536; bases = λ h. 1; counters = λ h. 0 } };
 
     fn fire<R: Wait>(
         &mut self,
@@ -152,7 +152,7 @@ pub struct OwnBase {
 impl Handler for OwnBase {
     ghost use Rattle.std.specs.Prelude.{nat_le, if◌then◌else◌};
 
-    ghost meaning = { record { did = λ o h h' k k' c reading restart. Unit; ready = λ h. if nat_le 2 h.log.spare then 1 else 0; timers = λ h. 65536; bases = λ h. 1 } };
+    ghost meaning = { record { did = λ o h h' k k' c reading restart. Unit; ready = λ h. if nat_le 2 h.log.spare then 1 else 0; timers = λ h. 65536; bases = λ h. 1; counters = λ h. 0 } };
 
     fn fire<R: Wait>(
         &mut self,
@@ -189,7 +189,7 @@ pub struct BothRuns {
 impl Handler for BothRuns {
     ghost use Rattle.std.specs.Prelude.{nat_le, if◌then◌else◌};
 
-    ghost meaning = { record { did = λ o h h' k k' c reading restart. Unit; ready = λ h. if nat_le 16 h.log.spare then 1 else 0; timers = λ h. 65536; bases = λ h. 1 } };
+    ghost meaning = { record { did = λ o h h' k k' c reading restart. Unit; ready = λ h. if nat_le 16 h.log.spare then 1 else 0; timers = λ h. 65536; bases = λ h. 1; counters = λ h. 0 } };
 
     fn fire<R: Wait>(
         &mut self,

@@ -43,7 +43,8 @@ returns-clause-ends g c = λ first begun took.
       looks = took.looks;
       found = holding.told;
       ends = c.raise.ensures.looks;
-      enters = subst (λ n. RisesFrom (entries_counter c.args.id) n c.set.new.pass.known.seen c.raise.new.pass.known.seen) c.stamp-stamp.ensures c.raise.ensures.enters;
+      enters = subst (λ n. RisesFrom (entries_counter c.args.id) n c.set.new.pass.known.seen c.raise.new.pass.known.seen) c.stamp-stamp.ensures
+          c.raise.ensures.enters;
     } in
     let made = makes x _ _ _ _ c.args.id h arm c.in-Some.span _ _ holding.index holding.row holding.holds holding.room begun took.locks q log _ _ entry.pass
     holding.suits holding.within first.known c.raise.new.pass.known turn asked holding.fits
@@ -57,7 +58,8 @@ returns-in_default-clause-ends g c = λ first begun took.
     let freed = c.release.ensures in
     let told = c.in_default.ensures in
     waits_held c.args.self.now begun c.args.objects_pass.now c.release.new.pass c.args.id c.args.held took.locks c.requires.holding.row freed.pass
-    took.is.idle freed.knows (looks_trans first.known c.args.pass.now.known c.set.new.pass.known took.looks told.sets.0) (ap (λ (l : LogOf Receipt). l.receipts) told.sets.1) refl
+    took.is.idle freed.knows (looks_trans first.known c.args.pass.now.known c.set.new.pass.known took.looks told.sets.0)
+    (ap (λ (l : LogOf Receipt). l.receipts) told.sets.1) refl
 
 pub returns-in_default-clause-why : goal.returns-in_default-clause-why
 returns-in_default-clause-why g c = λ first begun took.
