@@ -1,11 +1,10 @@
 -- A settime that was made: its span, turns before it that only looked, and the names of passes.
-use Rattle.std.proofs.Common.{arith, ap, subst, ◌≡◌, ◌∙◌, ℕ, ◌≤◌, List, ◌++◌}
+use Rattle.std.proofs.Common.{arith, ap, subst, ◌≡◌, ◌∙◌, ℕ, ◌≤◌, List}
 use Rattle.std.specs.Prelude.{Option, Some, None}
 use Rattle.ktime.specs.Readings.{ClockReading}
 use Rattle.pass_names.proofs.Passes.{begins_trans}
 use Rattle.base_row.specs.declared.view.Opening.{Opening}
 use Rattle.hr_timers.specs.Known.{KnownOfTimers}
-use Rattle.hr_timers.specs.Calls.{cancel_entries}
 use Rattle.hr_timers.proofs.Moments.{stamp_rises}
 use Rattle.base_row.specs.declared.log.Receipt.{Receipt}
 use Rattle.timer_setting.specs.declared.arming.Arm.{Arm}
@@ -14,7 +13,6 @@ use Rattle.timer_fd.specs.declared.answers.SettimeAnswer.{SettimeAnswer}
 use Rattle.timer_fd.specs.declared.answers.SettimeAnswer.TheVariants as settings
 use Rattle.timer_objects.specs.declared.cell.Span.{Span}
 use Rattle.timer_objects.specs.Known.{ObjectsOf}
-use Rattle.base_row.specs.Logs.{receipts_of}
 use Rattle.timer_objects.specs.Arming.{ArmsFor, Disarms, stamp_seen}
 use Rattle.timer_objects.specs.Calls.{Caller, HasWaited, SetsTimer, SettimeMade}
 use Rattle.timer_objects.specs.Rearming.{KeepsNames, SetsAnew}

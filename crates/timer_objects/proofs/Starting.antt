@@ -1,6 +1,6 @@
 -- What calls on an object do to its timer.
-use Rattle.std.proofs.Common.{arith, refl, sym, ap, subst, inr, IsSome, ◌<◌, ◌≡◌, ◌∙◌, ℕ, ◌+◌, ◌-◌, ◌≤◌, Bool, true, false, List, [], ◌∷◌, ◌++◌, length, max}
-use Rattle.std.specs.Prelude.{Option, None, Some, is_some, if◌then◌else◌}
+use Rattle.std.proofs.Common.{arith, refl, sym, ap, subst, inr, IsSome, ◌<◌, ◌≡◌, ◌∙◌, ℕ, ◌+◌, ◌-◌, ◌≤◌, true, false, [], ◌++◌, length, max}
+use Rattle.std.specs.Prelude.{Option, None, Some, is_some}
 use Rattle.ktime.specs.Readings.{ClockReading}
 use Rattle.pass_names.specs.Passes.{places}
 use Rattle.pass_names.proofs.Passes.{begins_trans}
@@ -8,8 +8,6 @@ use Rattle.seq_timer.specs.Systems.{entries_of}
 use Rattle.timer_setting.specs.declared.arming.Wanted.{Wanted}
 use Rattle.pass_names.specs.SharedHistory.{LooksOn}
 use Rattle.pass_names.proofs.SharedHistory.{looks_refl}
-use Rattle.seq_timer.specs.Events.{Asked, Event}
-use Rattle.seq_timer.specs.declared.event.EventBy.TheVariants as events
 use Rattle.seq_timer.specs.declared.observation.Peek.{Peek}
 use Rattle.seq_timer.specs.Steps.{Timer}
 use Rattle.seq_timer.specs.declared.answer.CancelAnswer.{CancelAnswer}

@@ -48,7 +48,13 @@ impl Stand {
             base: 0,
         };
         let decls = vec![in alloc; decl; count as usize]?;
-        let (timers, pass) = Timers::make_counting(alloc, 1, &declared, Terms::limited(LIMIT), count + 1)?;
+        let (timers, pass) = Timers::make_counting(
+            alloc,
+            1,
+            &declared,
+            Terms::limited(LIMIT),
+            count + 1,
+        )?;
         let Ok((objects, objects_pass)) = Objects::make(alloc, &decls, LIMIT) else {
             timers.close(pass);
             return Err(AllocError);

@@ -44,7 +44,13 @@ fn posix_timers(
     let declared = vec![in alloc; Declared::hard(clock); count]?;
     let decls = vec![in alloc; decl; count]?;
     let counters = count as u32 + 1;
-    let (timers, pass) = Timers::make_counting(alloc, 1, &declared, Terms::limited(LIMIT), counters)?;
+    let (timers, pass) = Timers::make_counting(
+        alloc,
+        1,
+        &declared,
+        Terms::limited(LIMIT),
+        counters,
+    )?;
     let Ok((objects, objects_pass)) = Objects::make(alloc, &decls, LIMIT) else {
         timers.close(pass);
         return Err(AllocError);

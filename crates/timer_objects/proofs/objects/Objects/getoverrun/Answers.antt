@@ -4,8 +4,7 @@ use Rattle.timer_objects.proofs.objects.Objects.getoverrun.Goals as goal
 pub returns-clause-looks : goal.returns-clause-looks
 returns-clause-looks g c =
     let seen = c.look_at-object.ensures in
-    let finds = seen.finds in
-    (
+    let finds = seen.finds in (
       c.in-Posix.timer,
       record {
         reads = finds.reads;

@@ -8,6 +8,6 @@ returns-clause-ends g c =
     (record { looks = c.lock_in_turn-held.ensures.looks; is = c.requires.may.of_objects; locks = c.lock_in_turn-held.ensures.locks }))
 
 pub returns-clause-why : goal.returns-clause-why
-returns-clause-why g c = 
+returns-clause-why g c =
     c.make_held.ensures.why c.args.pass.now c.args.objects_pass.now
     (record { looks = c.lock_in_turn-held.ensures.looks; is = c.requires.may.of_objects; locks = c.lock_in_turn-held.ensures.locks })
