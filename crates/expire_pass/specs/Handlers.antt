@@ -8,8 +8,8 @@ use Rattle.hr_timers.specs.Known.{KnownOfTimers}
 use Rattle.expire_pass.specs.declared.handler.Restart.{Restart}
 use Rattle.expire_pass.specs.declared.handler.Restart.TheVariants as restarts
 
--- What a handler's function does of timers with this opening, between what the pass knows after the claim and before the finish; for how many functions the handler's own
--- logs have room; how many timers it has at least; and how many bases and counters it needs.
+-- What a handler's function does of timers with this opening, between what the pass knows after the claim and before the finish; for how many functions the
+-- handler's own logs have room; how many timers it has at least; and how many bases and counters it needs.
 pub record Meaning (A : Type 0) : Type 1 where
   pub did : Opening → A → A → KnownOfTimers → KnownOfTimers → ClaimNumbers → ClockReading → Restart → Type 0
   pub ready : A → ℕ

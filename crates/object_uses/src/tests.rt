@@ -9,6 +9,7 @@ mod of_expire_pass;
 mod of_timer_objects;
 mod off_line;
 mod passes;
+mod places;
 mod stand;
 mod waiting;
 

@@ -17,6 +17,6 @@ returns-clause-passes c =
     record {
       of_timers = search rules;
       of_objects = search rules;
-      suits = suits_alike c.args.count 1 (c.args.count + 1) clocks.Monotonic decl (limited 281474976710640) c.in-Ok.objects c.in_ok-timers.timers.about about made refl
-          (omega arith) (omega arith);
+      suits = suits_alike c.args.count 1 (c.args.count + 1) clocks.Monotonic decl (limited 281474976710640) c.in-Ok.objects c.in_ok-timers.timers.about about
+          made refl (omega arith) (omega arith);
     }
