@@ -14,7 +14,8 @@ entries_counter i = i + 1
 abbrev pub entries_told : ℕ → KnownOfTimers → ℕ
 entries_told i k = rises_of (entries_counter i) k.seen
 
--- A call had the object from one moment to another, with just so many entries; its own entry comes right behind, at a place of its own.
+-- A call's turn: from a moment at which the timers were told of just so many entries of the object to the call's own entry, which is the counter's next
+-- rise, behind all that the call did to the timer.
 pub record HasTurn (i n : ℕ) (old begun worked new : KnownOfTimers) : Type 0 where
   pub looks : LooksOn old begun
   pub found : entries_told i begun ≡ n
