@@ -5,6 +5,7 @@ mod fitting;
 mod wrong;
 
 pub use fitting::{
+    a_settime_cancels_a_timer_and_cannot_start_it, an_heir_off_line_is_refused,
     a_callback_is_told_that_it_runs, a_cancel_beside_an_expiry,
     a_due_timer_waits_behind_an_earlier_one, a_full_object_skips_an_expiry,
     a_look_and_a_write_beside_another_lane, a_look_at_an_object_beside_another_lane,
@@ -15,6 +16,7 @@ pub use fitting::{
     two_lanes_accept_of_two_timers,
 };
 pub use wrong::{
+    a_refused_start_is_told_behind_its_cancel, no_base_goes_off_line_to_an_heir_off_line,
     a_base_comes_on_line_by_an_entry, a_base_goes_off_line_empty, a_hard_run_claims_no_soft_timer,
     a_moved_timer_keeps_its_expiry, a_record_is_of_its_scripts_version, a_settime_cancels_first,
     an_expiry_run_is_done_at_one_moment, entries_of_objects_and_timers_dont_cross,
