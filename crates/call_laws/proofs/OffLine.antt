@@ -211,11 +211,18 @@ keeps_offline {s = s} {x = x} {l = l} {m = m} {base = base} {heir = heir} {budge
     by_answer (offs.AlreadyOffline n) fits notes = quiet (answers.Already n) fits.0 notes (λ e. refl)
         (λ e now. (ap (λ (y : Standing). y.stamp) (now base) ∙ sym fits.2, subst (λ (y : Standing). IsSome y.heir) (sym (now base)) fits.1))
     by_answer (offs.HeirOffline n) fits notes = quiet (answers.HeirOffline n) fits.0 notes (λ e. refl)
-        (λ e now. (ap (λ (y : Standing). y.stamp) (now heir) ∙ sym fits.3, subst (λ (y : Standing). IsSome y.heir) (sym (now heir)) fits.2,
-        ap (λ (y : Standing). y.heir) (now base) ∙ fits.1))
+        (λ e now. (
+          ap (λ (y : Standing). y.stamp) (now heir) ∙ sym fits.3,
+          subst (λ (y : Standing). IsSome y.heir) (sym (now heir)) fits.2,
+          ap (λ (y : Standing). y.heir) (now base) ∙ fits.1,
+        ))
     by_answer (offs.BaseSpent n) fits notes = quiet (answers.BaseSpent n) fits.0 notes (λ e. refl)
-        (λ e now. (ap (λ (y : Standing). y.stamp) (now base) ∙ sym fits.4, ap (λ (y : Standing). y.heir) (now base) ∙ fits.1, fits.3,
-        ap (λ (y : Standing). y.heir) (now heir) ∙ fits.2))
+        (λ e now. (
+          ap (λ (y : Standing). y.stamp) (now base) ∙ sym fits.4,
+          ap (λ (y : Standing). y.heir) (now base) ∙ fits.1,
+          fits.3,
+          ap (λ (y : Standing). y.heir) (now heir) ∙ fits.2,
+        ))
     by_answer (offs.Busy n t g) fits notes =
         let end = fits.evacuates.last in
         ended_by_look m next c.reading c.reads c.objects c.empty fits (answers.OfflineBusy n t g) refl end.1.0.looks end.1.0.sink notes
@@ -266,10 +273,13 @@ keeps_offline {s = s} {x = x} {l = l} {m = m} {base = base} {heir = heir} {budge
         let end = fits.evacuates.last in
         ended_by_shift m next c.reading c.reads c.objects c.empty fits n stamp end.1.0 end.1.1 end.1.3 notes
         (λ many e. (record { counted = omega (arith, end.0, many); done = refl }, omega (arith, end.0, fits.evacuates.few)))
-        (λ e follows joined may. (may, record {
-          unarmed = λ t. ap (is_armed_on base) (timer_last next m e follows joined t) ∙ end.1.2.unarmed t;
-          idle = λ t. ap (runs_on base) (timer_last next m e follows joined t) ∙ end.1.2.idle t;
-        }))
+        (λ e follows joined may. (
+          may,
+          record {
+            unarmed = λ t. ap (is_armed_on base) (timer_last next m e follows joined t) ∙ end.1.2.unarmed t;
+            idle = λ t. ap (runs_on base) (timer_last next m e follows joined t) ∙ end.1.2.idle t;
+          },
+        ))
 
 -- ---- on line again
 

@@ -91,20 +91,27 @@ heir_fits = fits_by heir_witness (record {
         refl,
         record { below = le refl; next = (refl, tt); way = (([], refl), refl, tt) },
       ) (inl refl) tt)
-      (two (right_moving refl refl refl (refl, tt) (refl, tt) (refl, tt) (record { counted = refl; done = refl }, le refl)
-      ((record { armed = refl; soft = refl; slack = refl }, tt), (record {
-        at = 2;
-        from = le refl;
-        to = le refl;
-        stamp = refl;
-        idle = none_along heir_witness 2 (runs_on 1) refl refl (refl, tt);
-        front = (100, refl);
-      }, tt))
-      (inl refl)
-      (record { online = refl; heir_online = refl; room = lt refl }, record {
-        unarmed = none_along heir_witness 5 (is_armed_on 1) refl refl (refl, tt);
-        idle = none_along heir_witness 5 (runs_on 1) refl refl (refl, tt);
-      }))
+      (two (right_moving refl refl refl (refl, tt) (refl, tt) (refl, tt) (record { counted = refl; done = refl }, le refl) (
+        (record { armed = refl; soft = refl; slack = refl }, tt),
+        (
+          record {
+            at = 2;
+            from = le refl;
+            to = le refl;
+            stamp = refl;
+            idle = none_along heir_witness 2 (runs_on 1) refl refl (refl, tt);
+            front = (100, refl);
+          },
+          tt,
+        ),
+      )
+      (inl refl) (
+        record { online = refl; heir_online = refl; room = lt refl },
+        record {
+          unarmed = none_along heir_witness 5 (is_armed_on 1) refl refl (refl, tt);
+          idle = none_along heir_witness 5 (runs_on 1) refl refl (refl, tt);
+        },
+      ))
       (two (right refl refl refl (refl, tt) (refl, tt) (refl, tt) (
         record (armed_as 5 0 200 200) { was_armed = true },
         refl,

@@ -1,27 +1,20 @@
 -- A settime whose start is refused behind its own cancel: it is told so, and not as it was before the cancel.
-use Rattle.std.proofs.Common.{◌≡◌, ℕ, ◌+◌, zero, suc, true, false, None, Some, List, [], ◌∷◌, length, arith, refl, ap, ◌∙◌, inl, inr}
-use Rattle.std.proofs.lemmas.List.{length-append}
+use Rattle.std.proofs.Common.{◌≡◌, false, None, Some, [], ◌∷◌, length, arith, refl, ap, inl, inr}
 use Rattle.ktime.specs.Times.{passed}
 use Rattle.seq_timer.specs.Systems.{after_entry, changed}
 use Rattle.record_text.specs.declared.record.Armed.TheVariants as armings
-use Rattle.record_text.specs.declared.record.Label.{Label}
 use Rattle.run_history.specs.Actions.{Entered, entered, Made}
 use Rattle.run_history.specs.Fits.{Fits}
 use Rattle.fit_laws.proofs.EachTimer.{fits_for_each_timer}
 use Rattle.record_text.specs.declared.record.Answer.TheVariants as answers
-use Rattle.run_history.specs.Order.{made_by}
-use Rattle.run_history.specs.Traces.{all_entered}
-use Rattle.run_history.specs.Witnesses.{CountersList, Move, Owner, TimersList, Trace, Witness, labels, timer_along}
-use Rattle.run_history.proofs.Actions.{all_entered-append}
+use Rattle.run_history.specs.Witnesses.{CountersList, TimersList, Witness}
 use Rattle.run_cases.specs.Fitting.{full_record, full_script, unarmed_entry}
-use Rattle.run_cases.specs.Lines.{at, cancel_entry, set_entry_of, set_start}
+use Rattle.run_cases.specs.Lines.{cancel_entry, set_entry_of, set_start}
 use Rattle.run_cases.specs.Wrong.{early_refusal_record}
 use Rattle.run_cases.proofs.Calls.{right}
-use Rattle.run_cases.proofs.Orders.{in_one_order_of, witness_with}
 use Rattle.run_cases.proofs.Small.{fits_by}
 use Rattle.run_cases.proofs.Tests.{le, lt, point_passes}
-use Rattle.run_cases.proofs.Witnesses.{armed_by, did, in_its_turn, moves_by, stays, step, three, two, witness_along}
-use Rattle.std.proofs.Common.{take}
+use Rattle.run_cases.proofs.Witnesses.{armed_by, did, in_its_turn, stays, step, three, two, witness_along}
 
 -- ---- it is told of the timer with the cancel
 
@@ -70,8 +63,17 @@ full_fits = fits_by full_witness (record {
         number = 2;
         arms = (armed_by 3 60, refl, refl, stays refl refl refl);
         done = refl;
-      }) (inr (2, le refl, tt, (3, le refl, tt,
-      (4, le refl, (point_passes _ _ _ _ _ refl, in_its_turn (refl, (refl, refl, λ e. refl)) refl refl), le refl)))) tt)
+      }) (inr (
+        2,
+        le refl,
+        tt,
+        (
+          3,
+          le refl,
+          tt,
+          (4, le refl, (point_passes _ _ _ _ _ refl, in_its_turn (refl, (refl, refl, λ e. refl)) refl refl), le refl),
+        ),
+      )) tt)
       (two (right refl refl refl (refl, tt) (refl, tt) (refl, tt) (record {
         taken = record { known = refl; good_value = lt refl; good_interval = lt refl };
         cancel = Some (4, 3);
@@ -80,17 +82,28 @@ full_fits = fits_by full_witness (record {
         number = 3;
         arms = refl;
         done = refl;
-      }) (inr (5, le refl, tt, (6, le refl,
-      (point_passes _ _ _ _ _ refl, in_its_turn (record { stamp = refl; holds = le refl }, refl) refl refl), le refl)))
-      (tt, record {
-        early = Entered 0 4 (cancel_entry 3) ∷ [];
-        number = 3;
-        entry = unarmed_entry 4;
-        last = refl;
-        moment = 6;
-        point = point_passes _ _ _ _ _ refl;
-        refused = (record { stamp = refl; holds = le refl }, refl);
-      })) tt))
+      }) (inr (
+        5,
+        le refl,
+        tt,
+        (
+          6,
+          le refl,
+          (point_passes _ _ _ _ _ refl, in_its_turn (record { stamp = refl; holds = le refl }, refl) refl refl),
+          le refl,
+        ),
+      )) (
+        tt,
+        record {
+          early = Entered 0 4 (cancel_entry 3) ∷ [];
+          number = 3;
+          entry = unarmed_entry 4;
+          last = refl;
+          moment = 6;
+          point = point_passes _ _ _ _ _ refl;
+          refused = (record { stamp = refl; holds = le refl }, refl);
+        },
+      )) tt))
       ) tt;
 })
 

@@ -5,23 +5,24 @@ mod fitting;
 mod wrong;
 
 pub use fitting::{
-    a_settime_cancels_a_timer_and_cannot_start_it, an_heir_off_line_is_refused,
     a_callback_is_told_that_it_runs, a_cancel_beside_an_expiry,
     a_due_timer_waits_behind_an_earlier_one, a_full_object_skips_an_expiry,
     a_look_and_a_write_beside_another_lane, a_look_at_an_object_beside_another_lane,
     a_look_between_a_start_and_its_settimes_entry, a_set_clock_cancels_a_read,
-    a_soft_expiry_is_enough, a_start_goes_to_the_heir,
-    a_start_while_running_and_one_to_another_base, an_accepted_signal_arms_a_timer_again,
-    an_expiry_and_an_idle_cancel, each_expiry_run_fires_its_own_timer,
+    a_settime_cancels_a_timer_and_cannot_start_it, a_soft_expiry_is_enough,
+    a_start_goes_to_the_heir, a_start_while_running_and_one_to_another_base,
+    an_accepted_signal_arms_a_timer_again, an_expiry_and_an_idle_cancel,
+    an_heir_off_line_is_refused, each_expiry_run_fires_its_own_timer,
     two_lanes_accept_of_two_timers,
 };
 pub use wrong::{
-    a_refused_start_is_told_behind_its_cancel, no_base_goes_off_line_to_an_heir_off_line,
     a_base_comes_on_line_by_an_entry, a_base_goes_off_line_empty, a_hard_run_claims_no_soft_timer,
-    a_moved_timer_keeps_its_expiry, a_record_is_of_its_scripts_version, a_settime_cancels_first,
+    a_moved_timer_keeps_its_expiry, a_record_is_of_its_scripts_version,
+    a_refused_start_is_told_behind_its_cancel, a_settime_cancels_first,
     an_expiry_run_is_done_at_one_moment, entries_of_objects_and_timers_dont_cross,
     entries_of_two_objects_dont_cross, equal_expiries_are_claimed_in_turn,
-    no_claim_looks_past_the_first_timer, no_expiry_is_skipped_before_its_object_is_full,
+    no_base_goes_off_line_to_an_heir_off_line, no_claim_looks_past_the_first_timer,
+    no_expiry_is_skipped_before_its_object_is_full,
     no_function_runs_before_the_write_that_makes_it_due, no_hard_expiry_is_missed,
     no_look_misses_an_expiry_that_was_over, no_object_is_armed_before_its_timers_start,
     no_read_is_canceled_by_a_later_set, no_run_is_done_by_an_old_reading,
