@@ -98,8 +98,10 @@ full_fits = fits_by full_witness (record {
           early = Entered 0 4 (cancel_entry 3) ∷ [];
           number = 3;
           entry = unarmed_entry 4;
-          last = refl;
+          done = refl;
           moment = 6;
+          from = le refl;
+          to = le refl;
           point = point_passes _ _ _ _ _ refl;
           refused = (record { stamp = refl; holds = le refl }, refl);
         },
