@@ -65,11 +65,11 @@ class Bases:
             return not self.running.get((base, rest[0])) and self.next_of(base, *rest) is None
         if kind == "online":
             return self.heirs.get(base) is None
+        if kind == "might":
+            return self.heirs.get(base) is None and self.heirs.get(rest[0]) is None
         if kind == "first":
             return not self.running.get((base, False))
-        if kind == "front":
-            return self.front(base) == rest[0]
-        if kind == "full":
+        if kind in ("front", "full"):
             return not self.runs(base) and self.front(base) == rest[0]
         has_timer = self.front(base) is not None
         return not self.runs(base) and has_timer == (kind == "more")
@@ -79,14 +79,16 @@ class Bases:
         kind, base, *rest = needs
         if kind == "online":
             return f"base {base} is off line"
+        if kind == "might":
+            return f"base {base if self.heirs.get(base) is not None else rest[0]} is off line"
         runs = self.running.get((base, rest[0] if kind in ("claim", "done") else False)) or self.runs(base)
-        if runs and kind != "front":
+        if runs:
             return f"the function of timer {runs[0]} runs on base {base}"
         timer = self.next_of(base, *rest[:2]) if kind in ("claim", "done") else self.front(base)
         return f"no timer is next on base {base}" if timer is None else f"timer {timer} is next on base {base}"
 
 
-OF_BASES = ("claim", "done", "online", "first", "front", "full", "more", "clear")
+OF_BASES = ("claim", "done", "online", "might", "first", "front", "full", "more", "clear")
 
 
 def look_at_effects(histories, node):
@@ -159,7 +161,7 @@ class Spoils:
             return node.step.move[0] == needs[1]
         if other.kind == "apart":
             return node.label == other.label
-        if other.kind in ("way begins", "way", "online"):
+        if other.kind in ("way begins", "way", "online", "might"):
             return bool(node.shifts)
         return any((
             node.runs and node.runs[1] and self.spoils_by_running(node.runs[0], other),
@@ -178,7 +180,7 @@ class Spoils:
     @staticmethod
     def spoils_by_running(context, other):
         base, soft = context
-        if other.step.needs[1] != base or other.kind == "front":
+        if other.step.needs[1] != base:
             return False
         if other.kind == "first":
             return not soft

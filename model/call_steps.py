@@ -169,6 +169,7 @@ class CallSteps(ObjectSteps):
             return
         names = {"off": ["entries"], "busy": ["running_timer", "generation"], "more": [], "spent": ["full_timer", "entries"]}[self.told]
         moved, *rest = self.has("moved", *names)
+        self.add(f"bases {B} and {H} on line", bounds=((("base", B), 0, LAST_STANDING - 1),), needs=("might", B, H))
         self.need(self.move_all(B, H) == moved, f"it didn't move {moved} timers")
         most = {"more": moved == N, "spent": moved < N}.get(self.told, moved <= N)
         self.need(most, f"it moved {moved} timers of at most {N}")

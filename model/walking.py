@@ -57,12 +57,14 @@ class Walk:
             return all(self.leads(on, *way) for way in rest[0])
         if kind == "online":
             return self.heir(on) is None
+        if kind == "might":
+            return self.heir(on) is None and self.heir(rest[0]) is None
         if kind in ("claim", "done"):
             soft, reading, *timer = rest
             return not self.running(on, soft) and self.due(on, soft, reading) == (timer[0] if timer else None)
         if kind == "first":
             return not self.running(on, False)
-        if kind != "front" and (self.running(on, False) or self.running(on, True)):
+        if self.running(on, False) or self.running(on, True):
             return False
         front = self.front(on)
         return {"clear": front is None, "more": front is not None}.get(kind, front == (rest[0] if rest else None))

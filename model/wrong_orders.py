@@ -1,4 +1,4 @@
-"""Eleven records that no order of all moves explains, each beside one of the same script that fits. In both each list by itself is a right history, and each
+"""Fourteen records that no order of all moves explains, each beside one of the same script that fits. In both each list by itself is a right history, and each
 call did what its words say: what is wrong shows only where the lists are put beside each other."""
 from typing import NamedTuple, Tuple
 
@@ -19,15 +19,15 @@ class Pair(NamedTuple):
         return "\n".join(lines)
 
 
-def script(declarations, *rounds, limit=100):
-    lines = ["hrt 1", "bases 1", "lanes 2", f"limit {limit}", *declarations]
+def script(declarations, *rounds, limit=100, version=1, bases=1):
+    lines = [f"hrt {version}", f"bases {bases}", "lanes 2", f"limit {limit}", *declarations]
     for calls in rounds:
         lines += ["round", *calls]
     return "\n".join([*lines, ""])
 
 
-def record(*lines):
-    return "\n".join(["record 1", *lines, "end", ""])
+def record(*lines, version=1):
+    return "\n".join([f"record {version}", *lines, "end", ""])
 
 
 PAIRS = [
@@ -162,5 +162,45 @@ PAIRS = [
         ),
         (("call 1 0 readable 0 0 1", "call 1 0 readable 0 0 2"),),
         ("0 1", "1 0", "1 1"),
+    ),
+    Pair(
+        "a start is refused by its timer as it was before the settime's own cancel",
+        script(["posix 0 monotonic 0"], ["0 settime 0 1 0 50 0 0", "0 settime 0 1 0 60 0 0", "0 settime 0 1 0 70 0 0"], limit=3),
+        record(
+            "timer 0 1 0 0 start abs 50 0 0 0 monotonic 50 0", "timer 0 2 0 1 cancel 1",
+            "timer 0 3 0 1 start abs 60 0 0 0 monotonic 60 0", "timer 0 4 0 2 cancel 3",
+            "object 0 1 0 0 settime 1 50 0 0 1 old 0 0", "object 0 2 0 1 settime 1 60 0 0 3 old 50 0",
+            "object 0 3 0 2 settime 1 70 0 0 unarmed unarmed 4",
+            "call 0 0 old 0 0", "call 0 1 old 50 0", "call 0 2 unarmed 4",
+        ),
+        (
+            ("object 0 3 0 2 settime 1 70 0 0 unarmed unarmed 4", "object 0 3 0 2 settime 1 70 0 0 unarmed unarmed 3"),
+            ("call 0 2 unarmed 4", "call 0 2 unarmed 3"),
+        ),
+        ("0 2",),
+    ),
+    Pair(
+        "a base goes off line with an heir that is off line",
+        script([], ["0 offline 1 0 4", "0 offline 2 1 4"], version=2, bases=3),
+        record("base 1 1 0 0 offline 0", "call 0 0 off 0 1", "call 0 1 heiroff 1", version=2),
+        (("base 1 1 0 0 offline 0", "base 1 1 0 0 offline 0\nbase 2 1 0 1 offline 1"), ("call 0 1 heiroff 1", "call 0 1 off 0 1")),
+        ("0 1",),
+    ),
+    Pair(
+        "a timer is moved off a base while a function runs there",
+        script(
+            ["soft 0 monotonic once", "raw 1 monotonic once"], ["0 start 0 abs 0 1", "0 start 1 abs 50 1"],
+            ["0 peek 0", "0 offline 1 0 4", "1 softexpire 1 4"], version=2, bases=2,
+        ),
+        record(
+            "timer 0 1 0 0 out 1 0", "timer 0 2 0 0 start abs 0 0 0 1 1 monotonic 0 0 0",
+            "timer 0 3 1 0 claim 1 0 2", "timer 0 4 1 0 finish stop 2 none",
+            "timer 1 1 0 1 out 1 0", "timer 1 2 0 1 start abs 50 0 0 1 1 monotonic 50 50 0",
+            "timer 1 3 0 3 out 0 1", "timer 1 4 0 3 start keep 50 0 0 0 0 monotonic 50 50 0",
+            "call 0 0 started 2 1 0", "call 0 1 started 2 1 0", "call 0 2 peek 2 1 1 0 0", "call 0 3 busy 1 0 2",
+            "call 1 0 done 1 0 0", version=2,
+        ),
+        (("call 0 2 peek 2 1 1 0 0", "call 0 2 peek 3 1 0 1 0"),),
+        ("0 3",),
     ),
 ]

@@ -238,11 +238,11 @@ module _ (w : Witness) (f : FitsIn w) where
     refused t stamp = refused_at actions [] last t stamp all_own ends
 
     -- before the object's entry the call had made as many entries of the timer as at its end
-    refused_before : (t stamp : ℕ) → RefusedBefore w c actions t stamp → WasRefused w.script w.run c actions t stamp
+    refused_before : (t stamp : ℕ) → RefusedBefore w c first last actions t stamp → WasRefused w.script w.run c actions t stamp
     refused_before t stamp r =
         let this = Made t r.number r.entry ∷ [] in
-        let was = refused_at r.early this r.moment t stamp (own_are ∙ ap all_entered r.last) r.point r.refused in
-        let same : entered t r.early ≡ entered t actions = sym (but_made t r.early t r.number r.entry) ∙ ap (entered t) (sym r.last) in
+        let was = refused_at r.early this r.moment t stamp (own_are ∙ ap all_entered r.done) r.point r.refused in
+        let same : entered t r.early ≡ entered t actions = sym (but_made t r.early t r.number r.entry) ∙ ap (entered t) (sym r.done) in
         (record { point = subst (λ es. IsPoint w.script c (length es) stamp (timer_labels w.run t)) same was.0.point; holds = was.0.holds }, was.1)
 
     -- what an answer tells was so

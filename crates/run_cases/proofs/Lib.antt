@@ -14,3 +14,5 @@ pub mod MovedInTurn
 pub mod VersionTwo
 pub mod LooksAndWrites
 pub mod Readings
+pub mod RefusedHeir
+pub mod RefusedStart

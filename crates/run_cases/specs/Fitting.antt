@@ -11,6 +11,7 @@ use Rattle.seq_timer.specs.declared.standing.BaseEvent.TheVariants as shifts
 use Rattle.record_text.specs.declared.record.Answer.TheVariants as answers
 use Rattle.record_text.specs.declared.record.Answer.{Answer}
 use Rattle.record_text.specs.declared.record.Armed.TheVariants as armings
+use Rattle.record_text.specs.declared.record.BaseLine.{BaseLine}
 use Rattle.record_text.specs.declared.record.CallbackReply.TheVariants as replies
 use Rattle.record_text.specs.declared.record.Entry.{Entry}
 use Rattle.record_text.specs.declared.record.ObjectEntry.TheVariants as object_entries
@@ -345,6 +346,28 @@ abbrev pub between_record : RunRecord
 between_record = object_record [] ((line 0 0 (set_start 50 0 false) ∷ []) ∷ []) ((case_object_line 0 0 (set_entry_of 50 0 1 0) ∷ []) ∷ [])
     ((answers.Old 0 0 ∷ []) ∷ (answers.Peek 1 0 true false false ∷ answers.LeftAt 0 0 0 0 ∷ []) ∷ [])
 
+-- ---- a settime cancels its timer, which has as many entries then as it may have, so the start behind it is refused
+
+-- the script: a timer takes no start once it has three entries
+abbrev pub full_script : Script
+full_script = record (case_script 1 1 (kinds.Posix 0 ∷ []) ((by 0 (settime_to 50) ∷ by 0 (settime_to 60) ∷ by 0 (settime_to 70) ∷ []) ∷ [])) { limit = 3 }
+
+-- the third settime's entry, by how many entries it tells of the timer
+abbrev pub unarmed_entry : ℕ → ObjectEntry
+unarmed_entry stamp = object_entries.Settime 1 70 0 0 armings.Unarmed (settings.Unarmed stamp)
+
+-- how many it tells of, and all else
+abbrev pub full_by : ℕ → RunRecord
+full_by stamp = object_record []
+    ((line 0 0 (set_start 50 0 false) ∷ line 0 1 (cancel_entry 1) ∷ line 0 1 (set_start 60 0 false) ∷ line 0 2 (cancel_entry 3) ∷ []) ∷ [])
+    ((case_object_line 0 0 (set_entry_of 50 0 1 0) ∷ case_object_line 0 1 (set_entry_of 60 0 3 50)
+    ∷ case_object_line 0 2 (unarmed_entry stamp) ∷ []) ∷ [])
+    ((answers.Old 0 0 ∷ answers.Old 50 0 ∷ answers.Unarmed stamp ∷ []) ∷ [])
+
+-- its record
+abbrev pub full_record : RunRecord
+full_record = full_by 4
+
 -- ---- a timer with slack expires when its soft expiry is reached and its hard one isn't
 
 -- the script
@@ -385,6 +408,20 @@ heir_lines = line 0 0 (out_entry 1 false) ∷ line 0 0 (case_start_entry modes.A
 abbrev pub heir_record : RunRecord
 heir_record = off_line_record ([] ∷ (base_line 1 (shifts.Offline 0) ∷ base_line 3 shifts.Online ∷ []) ∷ []) (heir_lines ∷ [])
     (answers.Started 2 1 false ∷ answers.Offline 1 1 ∷ answers.Started 5 0 true ∷ answers.Online 2 ∷ [])
+
+-- ---- a base is taken off line, and then another is asked to go off line with that one as its heir
+
+-- the script
+abbrev pub refused_script : Script
+refused_script = case_script_in versions.Two 3 1 [] ((by 0 (calls.Offline 1 0 4) ∷ by 0 (calls.Offline 2 1 4) ∷ []) ∷ [])
+
+-- the entries of the other base, what its call was answered, and all else
+abbrev pub refused_by : List BaseLine → Answer → RunRecord
+refused_by lines answer = off_line_record ([] ∷ (base_line 0 (shifts.Offline 0) ∷ []) ∷ lines ∷ []) [] (answers.Offline 0 1 ∷ answer ∷ [])
+
+-- its record
+abbrev pub refused_record : RunRecord
+refused_record = refused_by [] (answers.HeirOffline 1)
 
 -- ---- a hard and a soft expiry run on one base, each of which fires its own timer
 

@@ -16,7 +16,7 @@ use Rattle.script_text.specs.declared.script.Callback.TheVariants as callbacks
 use Rattle.script_text.specs.declared.script.Kind.TheVariants as kinds
 use Rattle.script_text.specs.declared.script.Kind.{Kind}
 use Rattle.script_text.specs.declared.script.Script.{Script}
-use Rattle.run_cases.specs.Fitting.{accepts_by, armed_seen_by, awaited_by, canceled_by, nothing_by, seen_by, skipped_by, started_by, unreadable_by}
+use Rattle.run_cases.specs.Fitting.{accepts_by, armed_seen_by, awaited_by, canceled_by, full_by, nothing_by, refused_by, seen_by, skipped_by, started_by, unreadable_by}
 use Rattle.run_cases.specs.Lines.{advance_line, at, object_record, set_entry_of, set_start, settime_to, base_line, by, case_object_line, case_script, case_start, claim_lines, hard_expire, hard_raw, line, off_line_record, out_entry, case_start_entry, raw_record, case_record_in, case_script_in, slack_entry, slack_start, start, cancel_entry, claim_entry, finish_entry}
 
 -- two timers whose callbacks do nothing
@@ -161,6 +161,12 @@ foreseen_set_record = canceled_by 2
 abbrev pub unstarted_record : RunRecord
 unstarted_record = armed_seen_by (answers.Peek 0 0 false false false)
 
+-- ---- a start is refused by its timer as it was before its own settime's cancel: the script of a settime whose start is refused
+
+-- a record that breaks it
+abbrev pub early_refusal_record : RunRecord
+early_refusal_record = full_by 3
+
 -- ---- a timer is claimed before its soft expiry: its lines aren't a history either
 
 -- the script
@@ -270,6 +276,12 @@ turns_record = off_line_record ([] ∷ [] ∷ [])
     ((lines_there 1 ++ map (line 0 2) later_move)
     ∷ (line 0 0 (out_entry 1 false) ∷ line 0 0 (case_start_entry modes.Abs 50 0 1 1 50 false) ∷ []) ∷ [])
     (answers.Started 2 1 false ∷ answers.Started 2 1 false ∷ answers.OfflineMore 1 ∷ [])
+
+-- ---- a base goes off line with an heir that is off line: the script of a refused heir
+
+-- a record that breaks it
+abbrev pub taken_record : RunRecord
+taken_record = refused_by (base_line 1 (shifts.Offline 1) ∷ []) (answers.Offline 0 1)
 
 -- ---- a call answers that a base is on line again, and the base has no such entry
 

@@ -77,6 +77,12 @@ pub fn a_look_between_a_start_and_its_settimes_entry()
     ensures { Fits fitting.between_script fitting.between_record }
 {}
 
+/// A start that the limit refuses is told with the settime's own cancel among the timer's entries.
+#[tactic(auto, using(crate::proofs::RefusedStart::full_fits))]
+pub fn a_settime_cancels_a_timer_and_cannot_start_it()
+    ensures { Fits fitting.full_script fitting.full_record }
+{}
+
 /// A timer with slack expires when its soft expiry is reached and its hard one isn't.
 #[tactic(auto, using(crate::proofs::VersionTwo::early_fits))]
 pub fn a_soft_expiry_is_enough()
@@ -99,4 +105,10 @@ pub fn each_expiry_run_fires_its_own_timer()
 #[tactic(auto, using(crate::proofs::OffLine::heir_fits))]
 pub fn a_start_goes_to_the_heir()
     ensures { Fits fitting.heir_script fitting.heir_record }
+{}
+
+/// A base isn't taken off line with an heir that is off line.
+#[tactic(auto, using(crate::proofs::RefusedHeir::refused_fits))]
+pub fn an_heir_off_line_is_refused()
+    ensures { Fits fitting.refused_script fitting.refused_record }
 {}

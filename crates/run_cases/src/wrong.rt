@@ -88,6 +88,12 @@ pub fn no_object_is_armed_before_its_timers_start()
     ensures { Fits fitting.armed_script wrong.unstarted_record → ⊥ }
 {}
 
+/// A start isn't refused by its timer as it was before the settime's own cancel.
+#[tactic(auto, using(crate::proofs::RefusedStart::early_refusal_doesnt_fit))]
+pub fn a_refused_start_is_told_behind_its_cancel()
+    ensures { Fits fitting.full_script wrong.early_refusal_record → ⊥ }
+{}
+
 /// A timer isn't claimed before its soft expiry.
 #[tactic(auto, using(crate::proofs::WrongRecords::soon_doesnt_fit))]
 pub fn no_timer_expires_before_its_soft_expiry()
@@ -140,6 +146,12 @@ pub fn a_moved_timer_keeps_its_expiry()
 #[tactic(auto, using(crate::proofs::MovedInTurn::turns_dont_fit))]
 pub fn timers_are_moved_in_turn()
     ensures { Fits wrong.turns_script wrong.turns_record → ⊥ }
+{}
+
+/// A base doesn't go off line with an heir that was off line when the call began.
+#[tactic(auto, using(crate::proofs::RefusedHeir::taken_doesnt_fit))]
+pub fn no_base_goes_off_line_to_an_heir_off_line()
+    ensures { Fits fitting.refused_script wrong.taken_record → ⊥ }
 {}
 
 /// A base isn't on line again without an entry that says so.

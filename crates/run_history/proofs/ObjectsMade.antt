@@ -148,8 +148,10 @@ module _ (reply : SettimeReply) {w : Witness} {moves : Spans} {c : Label} {at be
           early = cancels timer cancel ++ start;
           number = number;
           entry = entry;
-          last = is;
+          done = is;
           moment = set.ends;
+          from = set.between;
+          to = set.high;
           point = point;
           refused = refused;
         },

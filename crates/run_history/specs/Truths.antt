@@ -77,13 +77,15 @@ pub record WasFront (w : Witness) (first last base : ℕ) (e : Evacuation) : Typ
 abbrev pub SawRefusal : Witness → ℕ → ℕ → ℕ → Type 0
 SawRefusal w timer stamp n = Saw w timer stamp observations.Spent n × ((timer_along w n timer).moving ≡ false)
 
--- a start was refused at a moment at which the call had made all but its last entry, which is its object's
-pub record RefusedBefore (w : Witness) (c : Label) (actions : List Action) (timer stamp : ℕ) : Type 0 where
+-- a start was refused at a moment between these two at which the call had made all but its last entry, which is its object's
+pub record RefusedBefore (w : Witness) (c : Label) (first last : ℕ) (actions : List Action) (timer stamp : ℕ) : Type 0 where
   pub early : List Action
   pub number : ℕ
   pub entry : ObjectEntry
-  pub last : actions ≡ early ++ Made timer number entry ∷ []
+  pub done : actions ≡ early ++ Made timer number entry ∷ []
   pub moment : ℕ
+  pub from : first ≤ moment
+  pub to : moment ≤ last
   pub point : IsMoment w c early moment
   pub refused : SawRefusal w timer stamp moment
 
@@ -199,7 +201,7 @@ AnswerHolds w first last c reading actions (calls.Settime timer flags value inte
 AnswerHolds w first last c reading actions (calls.Settime timer flags value interval) (answers.Old left old) = DisarmedFirst w timer actions first
 AnswerHolds w first last c reading actions (calls.Settime timer flags value interval) answers.Canceled = DisarmedFirst w timer actions first
 AnswerHolds w first last c reading actions (calls.Settime timer flags value interval) (answers.Unarmed stamp) =
-    DisarmedFirst w timer actions first × RefusedBefore w c actions timer stamp
+    DisarmedFirst w timer actions first × RefusedBefore w c first last actions timer stamp
 AnswerHolds w first last c reading actions (calls.Gettime timer) (answers.Spent stamp) = SawFull w timer stamp last
 AnswerHolds w first last c reading actions (calls.Gettime timer) (answers.LeftAt left interval shown stamp) =
     HadEntries w timer stamp last
