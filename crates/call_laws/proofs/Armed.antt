@@ -1,7 +1,7 @@
 -- What a call on an object does to the object's timer, as parts of the call: its disarming, a start, the receipts of both, and the timer after them.
 use Rattle.call_laws.proofs.Starts.{entries_so, told_so}
 use Rattle.call_laws.proofs.Noted.{entered_on, notes_of}
-use Rattle.call_laws.proofs.Parts.{HasRead, part_logged}
+use Rattle.call_laws.proofs.Parts.{ClockHas, part_logged}
 use Rattle.std.proofs.Common.{Bool, false, ◌≡◌, ◌<◌, ℕ, ◌+◌, Some, List, [], ◌++◌, length, arith, refl, sym, ap, ◌∙◌, subst}
 use Rattle.std.proofs.lemmas.List.{append-nil}
 use Rattle.ktime.specs.Readings.{ClockReading}
@@ -71,7 +71,7 @@ use Rattle.timer_objects.specs.Arming.{ArmsFor}
 -- what a part of a call did to timers alone: its notes, and that they are a part
 abbrev pub TimersPart : Script → LaneOf → ClockReading → KnownOfTimers → KnownOfTimers → List Action → List Receipt → Type 0
 TimersPart s l reading v w actions log =
-    (notes : List PlacedEntry) × IsPart s (HasRead reading) l.label v l.pass.objects w l.pass.objects actions notes (notes_of l.label log [])
+    (notes : List PlacedEntry) × IsPart s (ClockHas reading) l.label v l.pass.objects w l.pass.objects actions notes (notes_of l.label log [])
 
 -- what became of a start, by the timer where it ended
 abbrev pub IsArmedSo : Arm → Timer → Type 0
@@ -98,7 +98,7 @@ pub record TimerPart (s : Script) (x : WorldOf) (l : LaneOf) (t : ℕ) (begin w 
 module _ {s : Script} {x : WorldOf} {l : LaneOf} {call : Call} (next : IsNextCall s x l call) (t : ℕ) (reading : ClockReading) {v w : KnownOfTimers} where
   -- the entries that the call made of its timer at a moment, with a receipt of each
   part_of : {at : List SystemEntry} {es : List histories.Entry} {actions : List Action} → MadeAt v w t at es
-      → ((clock : List ClockLine) → HasRead reading clock → HaveReadings clock es) → actions ≡ entered_on t (timer_then x.timers.about at t).stamp es
+      → ((clock : List ClockLine) → ClockHas reading clock → HaveReadings clock es) → actions ≡ entered_on t (timer_then x.timers.about at t).stamp es
       → TimersPart s l reading v w actions (receipts_of t (timer_then x.timers.about at t).stamp es)
   part_of {at = at} {es = es} made reads are =
       subst (λ ds. TimersPart s l reading v w ds (receipts_of t (timer_then x.timers.about at t).stamp es)) (sym are)

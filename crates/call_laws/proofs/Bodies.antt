@@ -56,7 +56,7 @@ use Rattle.lane_world.proofs.SeenMore.{begins_same, count_begins}
 use Rattle.lane_world.specs.Worlds.{callback_of, opening_for}
 use Rattle.call_laws.proofs.Entering.{enters_none, stamp_counts}
 use Rattle.run_history.proofs.Stamped.{HasReading, entry_stamped}
-use Rattle.call_laws.proofs.Parts.{BodyKept, HasRead, IsClaimed, fired_of, part_at, part_claimed, part_looked}
+use Rattle.call_laws.proofs.Parts.{BodyKept, ClockHas, IsClaimed, fired_of, part_at, part_claimed, part_looked}
 use Rattle.timer_objects.specs.Firings.{Firing}
 use Rattle.call_laws.proofs.Entering.{looks_made}
 use Rattle.call_laws.proofs.SeenOff.{sent_seen, was_seen}
@@ -101,11 +101,11 @@ module _ (s : Script) (o : Opening) (is : o ≡ opening_for s) (some : 1 ≤ s.l
 
   -- a callback that made an entry of its timer
   entered_kept : {at : List SystemEntry} {e : seq.Entry} → MadeAt v w c.timer at (e ∷ [])
-      → ((clock : List ClockLine) → HasRead reading clock → HasReading clock e.event)
+      → ((clock : List ClockLine) → ClockHas reading clock → HasReading clock e.event)
       → h'.log.receipts ≡ h.log.receipts ++ receipts_of c.timer (timer_then o at c.timer).stamp (e ∷ [])
       → Does (Entered c.timer ((timer_then o at c.timer).stamp + 1) (entry_stamped e) ∷ []) → BodyKept s label claim restart w h h'
   entered_kept {at = at} {e = e} made reads logs does =
-      let its = part_at {IsSo = HasRead reading} {label = label} o {p = h.objects_pass.now} on made (λ clock has. (reads clock has, tt)) in
+      let its = part_at {IsSo = ClockHas reading} {label = label} o {p = h.objects_pass.now} on made (λ clock has. (reads clock has, tt)) in
       record {
         body = Entered c.timer ((timer_then o at c.timer).stamp + 1) (entry_stamped e) ∷ [];
         notes = its.0;

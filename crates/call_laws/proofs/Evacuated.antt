@@ -57,7 +57,7 @@ use Rattle.call_laws.proofs.CallKept.{opened_timers}
 use Rattle.call_laws.proofs.Entering.{stamp_counts}
 use Rattle.lane_world.proofs.Kept.{IsNextCall}
 use Rattle.lane_world.proofs.SeenMore.{begins_same, goes_before}
-use Rattle.call_laws.proofs.Parts.{HasRead, IsPart, part_at, part_none}
+use Rattle.call_laws.proofs.Parts.{ClockHas, IsPart, part_at, part_none}
 use Rattle.timer_objects.specs.Known.{ObjectsPass}
 
 -- ---- timers that are there
@@ -159,7 +159,7 @@ module _ {s : Script} {x : WorldOf} {l : LaneOf} {call : Call} (next : IsNextCal
     pub log : List Receipt
     pub adds : new.receipts ≡ old.receipts ++ log
     pub notes : List PlacedEntry
-    pub part : IsPart s (HasRead reading) l.label v p w p (flat_map (evacuates heir reading.stamp) moved) notes (notes_of l.label log [])
+    pub part : IsPart s (ClockHas reading) l.label v p w p (flat_map (evacuates heir reading.stamp) moved) notes (notes_of l.label log [])
     pub keeps : (e : Ending) → IsJoined s e → GoesOn w.seen e
         → AllByRecursion (λ y. KeepsExpiries base (timer_after s e.run y.timer y.before) y) moved
     pub turns : (e : Ending) → IsJoined s e → GoesOn w.seen e → AllByRecursion (WasFront (witness_of s e) (length v.seen) (length w.seen) base) moved
@@ -170,7 +170,7 @@ module _ {s : Script} {x : WorldOf} {l : LaneOf} {call : Call} (next : IsNextCal
   one_moved t old new moves =
       let u = timer_then x.timers.about moves.at t in
       let es = move_entries u heir reading in
-      let part = part_at {IsSo = HasRead reading} x.timers.about {p = p} (opened_timers next) moves.made
+      let part = part_at {IsSo = ClockHas reading} x.timers.about {p = p} (opened_timers next) moves.made
       (λ clock has. (refl, (ap (λ r. events.Start (asked_for modes.Keep u.soft (u.expires - u.soft) heir r)) has, tt))) in
       record {
         moved = evacuation heir reading t u ∷ [];

@@ -58,7 +58,7 @@ use Rattle.std.specs.Prelude.{flat_map}
 use Rattle.std.proofs.lemmas.List.Concat.{flat_map-append}
 use Rattle.call_laws.proofs.Claimed.{claimed_in-append}
 use Rattle.call_laws.proofs.Bodies.{callback_kept}
-use Rattle.call_laws.proofs.Parts.{BodyKept, fired_of, HasRead, IsClaimed, IsPart, part_none}
+use Rattle.call_laws.proofs.Parts.{BodyKept, fired_of, ClockHas, IsClaimed, IsPart, part_none}
 use Rattle.lane_world.proofs.PartLists.{notes-append}
 use Rattle.call_laws.proofs.Entering.{enters_once}
 use Rattle.seq_timer.specs.declared.event.Restarted.{Restarted}
@@ -94,7 +94,7 @@ pub record RunKept (s : Script) (label : Label) (context : Context) (base : ℕ)
   pub many : length fired ≡ n
   pub notes : List PlacedEntry
   pub claimed : claimed_in log ≡ map (λ f. f.timer) fired
-  pub part : IsPart s (HasRead reading) label k p k' p' (flat_map (fires base reading.stamp) fired) notes (notes_of label (log ++ callback_log) object_log)
+  pub part : IsPart s (ClockHas reading) label k p k' p' (flat_map (fires base reading.stamp) fired) notes (notes_of label (log ++ callback_log) object_log)
   pub have : (e : Ending) → IsJoined s e → promises.GoesOn k'.seen e
       → HaveRun (witness_of s e) e.order context base reading.stamp (length k.seen) fired notes (length k'.seen)
 
@@ -122,7 +122,7 @@ module _ (s : Script) (x : WorldOf) (is : IsWorldOf s x) (some : 1 ≤ s.limit) 
   claim_made : {k v : KnownOfTimers} {c : ClaimNumbers} → ClaimsNextDue o k v context base reading c → IsClaimed s base c reading k v
   claim_made {c = c} claims =
       let event = events.Claim base reading in
-      let one = enters_once s (HasRead reading) o on claims.made (λ clock has. ap (events.Claim base) has) claims.number in
+      let one = enters_once s (ClockHas reading) o on claims.made (λ clock has. ap (events.Claim base) has) claims.number in
       let own = length-append (entries_of c.timer claims.at) (record { event = event; reply = reply_to (timer_then o claims.at c.timer) event } ∷ []) in
       record {
         entered = (
@@ -168,7 +168,7 @@ module _ (s : Script) (x : WorldOf) (is : IsWorldOf s x) (some : 1 ≤ s.limit) 
   turn_ran : {k v w k' : KnownOfTimers} {c : ClaimNumbers} {restart : Restart} {h h' : Firing} (claim : IsClaimed s base c reading k v)
       (b : BodyKept s label claim restart w h h') (number : ℕ) (restarted : Restarted)
       (own : (declared_of s c.timer).context ≡ context)
-      (finish : EntersOne s (HasRead reading) w k'
+      (finish : EntersOne s (ClockHas reading) w k'
       (number, OfTimer c.timer (record { event = events.Finish (asks restart); reply = replies.Finish c.generation restarted }))) (e : Ending)
       → IsJoined s e → promises.GoesOn k'.seen e
       → (ran : expires.Ran (witness_of s e) e.order context base reading.stamp (fired_of c b.body number (asks restart) restarted) (length k.seen)
@@ -218,8 +218,8 @@ module _ (s : Script) (x : WorldOf) (is : IsWorldOf s x) (some : 1 ≤ s.limit) 
       let f = fired_of c b.body (u.stamp + 1) restart restarted in
       let own : (declared_of s c.timer).context ≡ context =
       sym (ap (λ (d : Declared). d.context) (declared_seen turn.claims.at c.timer)) ∙ turn.claims.context in
-      let one = enters_once s (HasRead reading) o {number = u.stamp + 1} on ran.finishes.made (λ clock has. refl) refl in
-      let finish : EntersOne s (HasRead reading) ran.done k' (u.stamp + 1, OfTimer c.timer (finish_of f)) = (
+      let one = enters_once s (ClockHas reading) o {number = u.stamp + 1} on ran.finishes.made (λ clock has. refl) refl in
+      let finish : EntersOne s (ClockHas reading) ran.done k' (u.stamp + 1, OfTimer c.timer (finish_of f)) = (
         one.0,
         one.1,
         one.2 ∙ ap (λ g. (u.stamp + 1, OfTimer c.timer (record { event = events.Finish restart; reply = replies.Finish (unwrap_or g 0) restarted }))) ran.finishes.runs,
@@ -233,7 +233,7 @@ module _ (s : Script) (x : WorldOf) (is : IsWorldOf s x) (some : 1 ≤ s.limit) 
       let claiming = Entered f.timer f.claim (claim_of base at f) ∷ [] in
       let finishing = Entered f.timer f.finish (finish_of f) ∷ [] in
       let notes = claim.entered.0 ∷ b.notes ++ finish.0 ∷ [] in
-      let part : IsPart s (HasRead reading) label k1 p1 k' p' one notes
+      let part : IsPart s (ClockHas reading) label k1 p1 k' p' one notes
       (both_noted (notes_of label (first ∷ b.more) b.object_more) (one_noted label (Entered c.timer f.finish (finish_of f)))) =
       part_then b.part (part_entry _ _ _ finish) in
       let all : flat_map (fires base at) (run.fired ++ f ∷ []) ≡ done ++ one = rw (flat_map-append (fires base at) run.fired (f ∷ []), append-nil one) refl in

@@ -1,5 +1,5 @@
 -- A call on an object that made an entry, as its lane keeps it: it found the object's timer, perhaps cancelled and perhaps started it, and then made the entry.
-use Rattle.call_laws.proofs.Parts.{HasRead}
+use Rattle.call_laws.proofs.Parts.{ClockHas}
 use Rattle.call_laws.proofs.Noted.{notes_of, notes_of-append, with_done-joins}
 use Rattle.call_laws.proofs.Parts.{part_made, part_none, part_then}
 use Rattle.call_laws.proofs.Stays.{timer_stays}
@@ -86,12 +86,12 @@ module _ {s : Script} {x : WorldOf} {l : LaneOf} (m : LaneOf) {call : Call} (nex
 
   -- the receipts of the call: those of its part of the timer, and that of the object's entry
   abbrev pub receipts : List PlacedEntry
-  receipts = k.part.0 ++ (enters_entry turn s (HasRead reading)).0 ∷ []
+  receipts = k.part.0 ++ (enters_entry turn s (ClockHas reading)).0 ∷ []
 
   -- law: they stand behind where the call found its timer, those of its timer before the object's
   pub stop_first : AllByRecursion (λ y. length begin.seen ≤ y.place) receipts
   stop_first =
-      let one = enters_entry turn s (HasRead reading) in
+      let one = enters_entry turn s (ClockHas reading) in
       let made = made-append m.pass.timers.known.seen (length begin.seen) (length w.seen) (length m.pass.timers.known.seen) k.part.0 (one.0 ∷ [])
       (made_goes_on m.pass.timers.known.seen w.seen turn.ends.seen.rest (length begin.seen) (length w.seen) k.part.0 turn.ends.seen.whole k.part.1.enters.made)
       one.1.made (begins_length k.part.1.enters.seen) (begins_length turn.ends.seen) in
@@ -99,7 +99,7 @@ module _ {s : Script} {x : WorldOf} {l : LaneOf} (m : LaneOf) {call : Call} (nex
 
   pub stop_last : Stops l.label receipts (cancels timer cancel ++ k.start) (length w.seen)
   stop_last =
-      let one = enters_entry turn s (HasRead reading) in record {
+      let one = enters_entry turn s (ClockHas reading) in record {
         early = k.part.0;
         late = one.0 ∷ [];
         split = refl;
@@ -158,7 +158,7 @@ module _ {s : Script} {x : WorldOf} {l : LaneOf} (m : LaneOf) {call : Call} (nex
   -- ---- the call
 
   module _ (reads : ReadsClock l.pass m.pass reading) (notes : m.notes ≡ with_done l.notes l.label log object_log) {entry : ObjectEntry}
-      (noted : IsNotedAs (HasRead reading) made reply entry) where
+      (noted : IsNotedAs (ClockHas reading) made reply entry) where
     -- law: a lane keeps the call, where it fits
     pub keeps_made : (a : Answer) → ((e : Ending) → Follows m.pass e → IsJoined s e → IsKept (witness_of s e) (moves_spans e) l.label
         (plain reading.stamp (length begin.seen) (length m.pass.timers.known.seen) (settime_actions timer cancel k.start number entry)) receipts call a
@@ -172,7 +172,7 @@ module _ {s : Script} {x : WorldOf} {l : LaneOf} (m : LaneOf) {call : Call} (nex
         let this = receipt_of step.reply ∷ [] in
         let log_is : object_log ≡ this = enters.object_log ∙ ap (λ r. receipt_of r ∷ []) enters.reply in
         let entered = part_made {label = l.label} {q = q.objects} {step = step} enters.commits.adds enters.commits.opening
-        (subst (λ r. IsNotedAs (HasRead reading) made r entry) enters.reply noted) (enters_entry turn s (HasRead reading)) in
+        (subst (λ r. IsNotedAs (ClockHas reading) made r entry) enters.reply noted) (enters_entry turn s (ClockHas reading)) in
         let whole = part_then (part_none {v = p.timers.known} {p = p.objects} {w = begin} k.seen k.mine) (part_then k.part.1 entered) in
         keeps_part next m a (plain reading.stamp (length begin.seen) (length q.timers.known.seen) (settime_actions timer cancel k.start number entry)) whole
         (reading_goes_on p q reading reads) (clock_left reads.same)

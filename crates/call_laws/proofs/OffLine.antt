@@ -60,7 +60,7 @@ use Rattle.call_laws.proofs.CallKept.{LooksAtClock, clock_left, opened_timers, r
 use Rattle.call_laws.proofs.Evacuated.{all_moved, armed_there, front_seen, front_wider}
 use Rattle.lane_world.proofs.Kept.{Follows, IsNextCall, KeepsCall}
 use Rattle.call_laws.proofs.PartKept.{keeps_part}
-use Rattle.call_laws.proofs.Parts.{HasRead, IsPart, part_none, part_then}
+use Rattle.call_laws.proofs.Parts.{ClockHas, IsPart, part_none, part_then}
 use Rattle.call_laws.proofs.Sights.{looks_alone, notes_alone}
 use Rattle.std.proofs.lemmas.List.{get_or-map}
 use Rattle.seq_timer.specs.Steps.{opening}
@@ -150,7 +150,7 @@ module _ {s : Script} {x : WorldOf} {l : LaneOf} (m : LaneOf) {base heir budget 
 
   -- law: the call ended with this part behind the moves
   ended : (a : Answer) {ends : List Action} {notes : List PlacedEntry} {added : NotesOf}
-      → IsPart s (HasRead reading) l.label g.evacuates.mid l.pass.objects m.pass.timers.known l.pass.objects ends notes added → shift_by base heir a ≡ ends
+      → IsPart s (ClockHas reading) l.label g.evacuates.mid l.pass.objects m.pass.timers.known l.pass.objects ends notes added → shift_by base heir a ≡ ends
       → m.notes ≡ both_noted l.notes (both_noted (notes_of l.label off.log []) added) → DoesSo a → HoldsSo a
       → KeepsCall s l (calls.Offline base heir budget) a m
   ended a last are joins does holds =

@@ -297,8 +297,8 @@ module _ {s : Script} {IsSo : List ClockLine → Type 0} {label : Label} where
 -- ---- the function of a claim
 
 -- a record's clock has this reading
-abbrev pub HasRead : ClockReading → List ClockLine → Type 0
-HasRead reading clock = reading_at clock reading.stamp ≡ reading
+abbrev pub ClockHas : ClockReading → List ClockLine → Type 0
+ClockHas reading clock = reading_at clock reading.stamp ≡ reading
 
 -- the record's callback of a claim, by its function's actions and what came of the finish
 abbrev pub fired_of : ClaimNumbers → List Action → ℕ → Bool → Restarted → Fired
@@ -311,7 +311,7 @@ claim_in base stamp c = record { event = events.Claim base stamp; reply = replie
 
 -- a pass has made a claim, and seen it
 pub record IsClaimed (s : Script) (base : ℕ) (c : ClaimNumbers) (reading : ClockReading) (k v : KnownOfTimers) : Type 0 where
-  pub entered : EntersOne s (HasRead reading) k v (c.number, OfTimer c.timer (claim_in base reading.stamp c))
+  pub entered : EntersOne s (ClockHas reading) k v (c.number, OfTimer c.timer (claim_in base reading.stamp c))
   pub there : c.base ≡ base
   pub some : 0 < c.number
   pub more : count (TimersList c.timer) k.seen < count (TimersList c.timer) v.seen
@@ -325,8 +325,8 @@ pub record BodyKept (s : Script) (label : Label) {base : ℕ} {c : ClaimNumbers}
   pub more : List Receipt
   pub object_more : List ObjectReceipt
   pub adds : (h'.log.receipts ≡ h.log.receipts ++ more) × (h'.object_log.receipts ≡ h.object_log.receipts ++ object_more)
-  pub enters : EntersNotes s (HasRead reading) v w notes
-  pub part : IsPart s (HasRead reading) label k h.objects_pass.now w h'.objects_pass.now
+  pub enters : EntersNotes s (ClockHas reading) v w notes
+  pub part : IsPart s (ClockHas reading) label k h.objects_pass.now w h'.objects_pass.now
       (Entered c.timer c.number (claim_in base reading.stamp c) ∷ body) (claim.entered.0 ∷ notes) (notes_of label (claim_receipt reading c ∷ more) object_more)
   pub ran : (e : Ending) → IsJoined s e → promises.GoesOn w.seen e → (finish : ℕ) (restarted : Restarted)
       → IsBody (WasOffLine (witness_of s e) (length v.seen) (length w.seen)) s.limit (kind_of s c.timer) reading.stamp
@@ -336,17 +336,17 @@ module _ {s : Script} {label : Label} {base : ℕ} {c : ClaimNumbers} {reading :
     (claim : IsClaimed s base c reading k v) where
   -- law: a claim, and behind it a part that its function made
   pub part_claimed : {q : ObjectsPass} {body : List Action} {notes : List PlacedEntry} (more : List Receipt) (object_more : List ObjectReceipt)
-      → IsPart s (HasRead reading) label v p w q body notes (notes_of label more object_more)
-      → IsPart s (HasRead reading) label k p w q (Entered c.timer c.number (claim_in base reading.stamp c) ∷ body) (claim.entered.0 ∷ notes)
+      → IsPart s (ClockHas reading) label v p w q body notes (notes_of label more object_more)
+      → IsPart s (ClockHas reading) label k p w q (Entered c.timer c.number (claim_in base reading.stamp c) ∷ body) (claim.entered.0 ∷ notes)
       (notes_of label (claim_receipt reading c ∷ more) object_more)
   part_claimed more object_more part =
-      part_logged (claim_receipt reading c ∷ []) more [] object_more (subst (IsPart s (HasRead reading) label k p v p _ _)
+      part_logged (claim_receipt reading c ∷ []) more [] object_more (subst (IsPart s (ClockHas reading) label k p v p _ _)
       (ap (λ b. one_noted label (Entered c.timer c.number (claim_in b reading.stamp c))) (sym claim.there)) (part_entry _ _ _ claim.entered)) part
 
   -- law: a claim, and behind it a look at its timer
   pub part_looked : (number : ℕ) (event : Event) (observation : Observation) (reply : CallbackReply) → Begins v.seen w.seen → w.mine ≡ v.mine
       → look_noted observation ≡ Some reply → count (TimersList c.timer) v.seen ≤ number → number ≤ count (TimersList c.timer) w.seen
-      → IsPart s (HasRead reading) label k p w p (Entered c.timer c.number (claim_in base reading.stamp c) ∷ Looked c.timer number reply ∷ [])
+      → IsPart s (ClockHas reading) label k p w p (Entered c.timer c.number (claim_in base reading.stamp c) ∷ Looked c.timer number reply ∷ [])
       (claim.entered.0 ∷ []) (notes_of label (claim_receipt reading c ∷ look_receipt c number event observation ∷ []) [])
   part_looked number event observation reply seen mine noted low high =
       let claimed = part_claimed [] [] (part_none seen mine) in

@@ -1,5 +1,5 @@
 -- The object's entry of a settime, as it is noted and answered.
-use Rattle.call_laws.proofs.Parts.{HasRead}
+use Rattle.call_laws.proofs.Parts.{ClockHas}
 use Rattle.std.proofs.Common.{◌≡◌, ℕ, Bool, true, false, if◌then◌else◌, Some, refl, ap, None, List}
 use Rattle.ktime.specs.Readings.{ClockReading}
 use Rattle.timer_setting.specs.declared.arming.Arm.TheVariants as arms
@@ -48,7 +48,7 @@ module _ (flags value interval : ℕ) (reading : ClockReading) (answer : Settime
   -- a settime that made an entry: what the record's entry tells, its answer, and what it tells of a start that was refused
   pub record SettimeNoted (k : Kind) (arm : Arm) (reply : ObjectReply) : Type 0 where
     pub told : SettimeReply
-    pub noted : IsNotedAs (HasRead reading) (call_by k arm reading) reply (entry_by arm told)
+    pub noted : IsNotedAs (ClockHas reading) (call_by k arm reading) reply (entry_by arm told)
     pub answers : settime_told answer ≡ answer_of_settime told
     pub refused : (w : Witness) (timer last : ℕ) → IsArmedSo arm (timer_along w last timer) → RefusedBy w timer told last
 

@@ -1,6 +1,6 @@
 -- Cancels and starts of timers by themselves, as their lanes keep them.
 use Rattle.call_laws.proofs.Starts.{entries_so, told_so}
-use Rattle.call_laws.proofs.Parts.{HasRead}
+use Rattle.call_laws.proofs.Parts.{ClockHas}
 use Rattle.std.proofs.Common.{◌≡◌, ◌<◌, ℕ, ◌+◌, [], ◌∷◌, length, arith, refl, sym, subst}
 use Rattle.ktime.specs.Readings.{ClockReading}
 use Rattle.clock_cell.specs.Views.{writes}
@@ -90,7 +90,7 @@ keeps_start {s = s} {x = x} {l = l} {m = m} {timer = timer} {request = request} 
         let few : u.stamp < s.limit = omega (arith, c.fits.1, (limit_within s x.timers.about next.world.timers next.range.limit.0 c.at timer)) in
         subst (λ a. KeepsCall s l (calls.Start timer request) a m)
         (sym (told_so timer request reading u c.sent c.last (starts.Started was generation last outs placed) c.fits.2))
-        (keeps_entered (HasRead reading) next m
+        (keeps_entered (ClockHas reading) next m
         (answers.Started arming.number arming.placement.base (was_armed_before arming.outs arming.was_armed))
         (plain reading.stamp (length v) (length w) (arming_actions timer request reading.stamp arming)) c.made
         (λ clock has. start_reads timer request reading u c.sent c.last clock has) (reading_goes_on l.pass m.pass reading called.reads)

@@ -42,7 +42,7 @@ use Rattle.call_laws.proofs.ObjectTurns.{enters_entry, entries_had}
 use Rattle.timer_objects.specs.Firings.{Firing}
 use Rattle.call_laws.proofs.Entering.{enters_none}
 use Rattle.lane_world.proofs.PartLists.{rises_none}
-use Rattle.call_laws.proofs.Parts.{BodyKept, fired_of, HasRead, IsClaimed, IsNotedAs, noted_at, objects_grow, part_claimed, part_made, part_none, part_then}
+use Rattle.call_laws.proofs.Parts.{BodyKept, fired_of, ClockHas, IsClaimed, IsNotedAs, noted_at, objects_grow, part_claimed, part_made, part_none, part_then}
 
 -- ---- the note of a trigger
 
@@ -102,8 +102,8 @@ module _ (s : Script) (x : ObjectsOf) (limit : x.limit ≡ s.limit) (some : 1 �
       let step : ObjectMove = record { call = call; reply = object_answer state call } in
       let body = Made c.timer (many + 1) (object_entries.Trigger c.generation reading.stamp n.0) ∷ [] in
       let r : ObjectReceipt = record { object = c.timer; number = many + 1; call = step.call; reply = step.reply } in
-      let one = enters_entry t.turn s (HasRead reading) in
-      let part : IsPart s (HasRead reading) label v p w q body (one.0 ∷ []) (notes_of label [] (r ∷ [])) =
+      let one = enters_entry t.turn s (ClockHas reading) in
+      let part : IsPart s (ClockHas reading) label v p w q body (one.0 ∷ []) (notes_of label [] (r ∷ [])) =
       part_then (part_none {w = t.begun} t.turn.looks.seen t.turn.looks.mine) (part_made {step = step} adds t.commits.opening n.1 one) in
       record {
         body = body;
@@ -125,7 +125,7 @@ module _ (s : Script) (x : ObjectsOf) (limit : x.limit ≡ s.limit) (some : 1 �
       let r : ObjectReceipt = record { object = c.timer; number = many; call = call; reply = trigger_refused call many } in
       let body = Skipped c.timer many c.generation ∷ [] in
       let grows = objects_grow p q t.reads.pass.seen in
-      let part : IsPart s (HasRead reading) label v p w q body [] (notes_of label [] (r ∷ [])) = record {
+      let part : IsPart s (ClockHas reading) label v p w q body [] (notes_of label [] (r ∷ [])) = record {
         enters = enters_none t.looks.seen t.looks.mine;
         are = refl;
         told = same_notes (rw (no_entry many, skip many) refl);

@@ -104,7 +104,7 @@ turn_read {s = s} {l = l} {b = b} {m = m} {call = call} {a = a} reads takes same
           subst (λ q. MatchBool q (HasRead w l.label (length l.pass.timers.known.seen)) Unit) (sym takes) (record {
             moment = length moment.at;
             behind = begins_length moment.from;
-            before = omega (arith, begins_length moment.seen, fits.move_steps.0);
+            no_later = omega (arith, begins_length moment.seen, fits.move_steps.0);
             writes = writes_seen moment.at joined (goes_before moment.seen (goes_before kept.sees.timers follows.timers))
                 ∙ omega (
                   arith,

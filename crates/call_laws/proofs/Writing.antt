@@ -232,7 +232,7 @@ module _ (s : Script) (x : WorldOf) (l m : LaneOf) (write : Write) (next : IsNex
       let trace : (e.logs l.label).trace ≡ did = ap (λ (g : CallLog). g.trace) has.kept in record {
         moment = place;
         behind = low;
-        before = omega (arith, ap (λ (t : Trace). t.first) trace);
+        no_later = omega (arith, ap (λ (t : Trace). t.first) trace);
         writes = writes_seen at.before joined (goes_before (record { rest = entries.Rise 0 ∷ at.seen.rest; whole = whole }) follows.timers) ∙ omega (arith, at.count, number, ap (λ (t : Trace). t.at) trace);
       })
 

@@ -33,7 +33,7 @@ use Rattle.run_history.specs.Told.{observed}
 use Rattle.run_history.specs.Histories.{answers_of, reading_at, timer_after, timer_labels}
 use Rattle.script_text.specs.Declarations.{declared_of, terms_of}
 use Rattle.run_history.specs.Order.{CallInRound, calls_of, is_before, is_label, IsInOrder, IsLabel, IsPoint, IsWithin, made_by, round_of}
-use Rattle.run_history.specs.Witnesses.{Witness, Move, OfTimer, Shown, labels, owner_of, timer_along}
+use Rattle.run_history.specs.Witnesses.{Witness, Move, OfTimer, Shown, labels, owner_of, timer_along, witness_with}
 use Rattle.fit_laws.specs.EachTimer.{HasTimers, FitsTimers, IsOwnPoint, TookNextDue, WasRefused, WasSo, WasTold}
 use Rattle.run_history.specs.Fits.{Fits, FitsCall, FitsIn, FitsLane, Seen, unseen}
 use Rattle.run_history.specs.Traces.{all_entered, own_moves}
@@ -315,7 +315,7 @@ module _ (w : Witness) (f : FitsIn w) where
             true_there.1.0 true_there.1.1;
         claims = λ early rest u number base reading reply is.
             claim_then c early rest u number base reading reply (fits.traced.moves ∙ ap all_entered is);
-        told = told_then c t.at t.first t.last t.actions fits.traced.moves fits.ends call answer fits.seen;
+        told = told_then c t.at t.first t.last t.actions fits.traced.moves fits.ends call answer fits.holds;
       }
 
   each_answered : (lane index : ℕ) (before : Seen) (ps : List CallInRound) (given : List Answer) → FitsLane w lane index before ps given
@@ -361,4 +361,4 @@ module _ (w : Witness) (f : FitsIn w) where
 
 -- law: a record that fits is right of each timer by itself
 pub fits_for_each_timer : (s : Script) (r : RunRecord) → Fits s r → HasTimers s r
-fits_for_each_timer s r fits = subst (λ y. HasTimers s y) fits.2 (subst (λ x. HasTimers x fits.0.run) fits.1 (has_timers fits.0 fits.3))
+fits_for_each_timer s r (moves, traces, fits) = has_timers (witness_with s r moves traces) fits

@@ -6,7 +6,7 @@ use Rattle.script_text.specs.declared.script.Script.{Script}
 use Rattle.run_history.specs.Fits.{Fits}
 use Rattle.run_history.specs.Objects.{lines_of_object, object_labels}
 use Rattle.run_history.specs.Order.{IsInOrder, IsLabel}
-use Rattle.run_history.specs.Witnesses.{CountersList, IsOneHistory, Witness, line_of_object, moves_on}
+use Rattle.run_history.specs.Witnesses.{CountersList, IsOneHistory, Witness, line_of_object, moves_on, witness_with}
 use Rattle.fit_laws.proofs.OwnParts.{all_on, labels_of_lines, order_on}
 
 -- an object's moves bear the labels of its lines
@@ -15,13 +15,11 @@ labels_on w i one = ap (map (λ m. m.label)) (one.all (CountersList (suc i))) �
 
 -- law: each entry of an object bears the label of a call
 pub objects_called : (s : Script) (r : RunRecord) → Fits s r → (i : ℕ) → AllByRecursion (IsLabel s) (object_labels r i)
-objects_called s r (w, of_script, of_run, fits) i =
-    subst (λ x. AllByRecursion (IsLabel x) (object_labels r i)) of_script (subst (λ x. AllByRecursion (IsLabel w.script) (object_labels x i)) of_run
-    (subst (AllByRecursion (IsLabel w.script)) (labels_on w i fits.history)
-    (all_on (IsLabel w.script) (CountersList (suc i)) w.moves fits.move_calls)))
+objects_called s r (moves, traces, fits) i =
+    subst (AllByRecursion (IsLabel s)) (labels_on (witness_with s r moves traces) i fits.history)
+    (all_on (IsLabel s) (CountersList (suc i)) moves fits.move_calls)
 
 -- law: and they keep the order of calls
 pub objects_in_order : (s : Script) (r : RunRecord) → Fits s r → (i : ℕ) → IsInOrder s (object_labels r i)
-objects_in_order s r (w, of_script, of_run, fits) i =
-    subst (λ x. IsInOrder x (object_labels r i)) of_script (subst (λ x. IsInOrder w.script (object_labels x i)) of_run
-    (subst (IsInOrder w.script) (labels_on w i fits.history) (order_on w.script (CountersList (suc i)) w.moves fits.order)))
+objects_in_order s r (moves, traces, fits) i =
+    subst (IsInOrder s) (labels_on (witness_with s r moves traces) i fits.history) (order_on s (CountersList (suc i)) moves fits.order)

@@ -22,14 +22,8 @@ record IsOfSize (s : Script) (r : RunRecord) : Type 0 where
   lanes : length r.answers ≡ s.lanes
 
 sized : (s : Script) (r : RunRecord) → Fits s r → IsOfSize s r
-sized s r (w, of_script, of_run, fits) =
-    record {
-      version = sym (ap (λ (x : RunRecord). x.version) of_run) ∙ (fits.version ∙ ap (λ (x : Script). x.version) of_script);
-      bases = sym (ap (λ (x : RunRecord). length x.bases) of_run) ∙ (fits.bases ∙ ap (λ (x : Script). x.bases) of_script);
-      timers = sym (ap (λ (x : RunRecord). length x.timers) of_run) ∙ (fits.timers ∙ ap (λ (x : Script). length x.timers) of_script);
-      objects = sym (ap (λ (x : RunRecord). length x.objects) of_run) ∙ (fits.objects ∙ ap (λ (x : Script). length x.timers) of_script);
-      lanes = sym (ap (λ (x : RunRecord). length x.answers) of_run) ∙ (fits.lanes ∙ ap (λ (x : Script). x.lanes) of_script);
-    }
+sized s r (moves, traces, fits) =
+    record { version = fits.version; bases = fits.bases; timers = fits.timers; objects = fits.objects; lanes = fits.lanes }
 
 pub one_text : (s : Script) (a b : RunRecord) → IsInRange s → Fits s a → Fits s b → HasMachineNumbers a → HasMachineNumbers b → text_of a ≡ text_of b → a ≡ b
 one_text s a b range fits other numbers others same =

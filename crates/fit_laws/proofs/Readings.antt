@@ -142,7 +142,7 @@ reads_before_entries w f c takes entry write number made written order =
     (f.calls c.lane) (omega arith) (omega arith) takes.there in
     let read = has_read w c takes.made.call turn.before.moves takes.reads turn.fits.1 in
     let behind = entry_behind w c entry (w.traces c).first made turn.fits.0.begins in
-    let rise = writes_rise w read.moment write (omega (arith, read.before, behind, order)) in
+    let rise = writes_rise w read.moment write (omega (arith, read.no_later, behind, order)) in
     omega (arith, rise, read.writes, before_write w f.history write number written)
 
 -- ---- the readings of two calls
@@ -167,12 +167,12 @@ module _ (w : Witness) (history : IsOneHistory w) where
   pub reads_no_later : (c d : Label) (from k : ℕ) → HasRead w c from → IsLineOf w.run (CountersList 0) k d → IsMoment w d [] (w.traces d).first
       → (w.traces c).first ≤ (w.traces d).first → (w.traces c).at ≤ k
   reads_no_later c d from k read line begins order =
-      let rise = writes_rise w read.moment (w.traces d).first (omega (arith, read.before, order)) in
+      let rise = writes_rise w read.moment (w.traces d).first (omega (arith, read.no_later, order)) in
       omega (arith, read.writes, rise, rises_counted w 0 (w.traces d).first, none_yet w history (CountersList 0) d k (w.traces d).first line begins)
 
 -- law: no call reads less than a call whose first moment its lane had seen
 pub reads_no_less : (w : Witness) (c d : Label) (from seen : ℕ) → HasRead w c from → HasRead w d seen → (w.traces c).first ≤ seen
     → (w.traces c).at ≤ (w.traces d).at
 reads_no_less w c d from seen early late order =
-    let rise = writes_rise w early.moment late.moment (omega (arith, early.before, late.behind, order)) in
+    let rise = writes_rise w early.moment late.moment (omega (arith, early.no_later, late.behind, order)) in
     omega (arith, early.writes, late.writes, rise)

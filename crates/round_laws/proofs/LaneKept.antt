@@ -37,7 +37,7 @@ fits_behind w c call a less before after no_less fits = record {
   begins = fits.begins;
   ends = fits.ends;
   truth = fits.truth;
-  seen = fits.seen;
+  holds = fits.holds;
   clock_steps = falls_lower less.clock before.clock ((w.traces c).at ∷ map (λ x. x.0) (wrote (w.traces c).actions)) after.clock no_less.clock
       fits.clock_steps;
   move_steps = (omega (arith, no_less.moves, fits.move_steps.0), fits.move_steps.1);
@@ -48,7 +48,7 @@ pub reads_behind : (w : Witness) (c : Label) (call : Call) {less from : ℕ} →
 reads_behind w c call {less} {from} le = by_call (reads_clock call)
   where
     by_call : (b : Bool) → MatchBool b (HasRead w c from) Unit → MatchBool b (HasRead w c less) Unit
-    by_call true read = record { moment = read.moment; behind = omega (arith, le, read.behind); before = read.before; writes = read.writes }
+    by_call true read = record { moment = read.moment; behind = omega (arith, le, read.behind); no_later = read.no_later; writes = read.writes }
     by_call false read = tt
 
 -- ---- a call with its reading

@@ -51,7 +51,7 @@ pub record IsRight (w : Witness) (c : Label) (call : Call) (answer : Answer) : T
   pub keeps : AllKeepExpiries w.script w.run call (w.traces c).moved
   pub turns : AllMoved (WasFront w (w.traces c).first (w.traces c).last) call (w.traces c).moved
   pub truth : AreTrue w c (w.traces c).first (w.traces c).first [] (w.traces c).actions (w.traces c).last
-  pub seen : AnswerHolds w (w.traces c).first (w.traces c).last c (w.traces c).at (w.traces c).actions call answer
+  pub holds : AnswerHolds w (w.traces c).first (w.traces c).last c (w.traces c).at (w.traces c).actions call answer
 
 -- the same of a lane's calls from one of them on
 abbrev pub AreRight : Witness → ℕ → ℕ → List CallInRound → List Answer → Type 0
@@ -110,14 +110,14 @@ lane_fits w lane index clock moves (p ∷ ps) (a ∷ more) placed right =
           begins = point_passes w.script c 0 t.first (labels w) ends.0;
           ends = point_passes w.script c (length (all_entered t.actions)) t.last (labels w) ends.1;
           truth = right.0.truth;
-          seen = right.0.seen;
+          holds = right.0.holds;
           clock_steps = steps_pass clock (t.at ∷ these) (clock_then w c) readings.0;
           move_steps = (upto moves t.first rest.1, omega arith);
         },
         in_turn w c p.call moves (record {
           moment = t.first;
           behind = upto moves t.first rest.1;
-          before = omega arith;
+          no_later = omega arith;
           writes = eqb-true (writes_along w t.first) t.at readings.1;
         }),
       ),
@@ -141,7 +141,7 @@ pub right_moving : {w : Witness} {c : Label} {call : Call} {answer : Answer} →
     ⊎ AreTrue w c (w.traces c).first (w.traces c).first [] (w.traces c).actions (w.traces c).last
     → AnswerHolds w (w.traces c).first (w.traces c).last c (w.traces c).at (w.traces c).actions call answer
     → IsRight w c call answer
-right_moving {w} {c} {call} {answer} said clock moves looks objects skips does moved truth seen =
+right_moving {w} {c} {call} {answer} said clock moves looks objects skips does moved truth holds =
     let r = w.run in
     let ds = (w.traces c).actions in
     let past : (i : ℕ) → IsPast (length r.timers) (length r.objects) i ds = λ i. made_past (length r.timers) (length r.objects) i ds said in
@@ -162,7 +162,7 @@ right_moving {w} {c} {call} {answer} said clock moves looks objects skips does m
       keeps = moved.0;
       turns = moved.1;
       truth = ⊎_elim (plain_pass w c (w.traces c).first (w.traces c).first [] ds (w.traces c).last) (λ is. is) truth;
-      seen = seen;
+      holds = holds;
     }
 
 -- law: the same of a call that moved no timer off a base

@@ -7,10 +7,10 @@ use Rattle.run_history.specs.Calls.{evacuates}
 use Rattle.run_history.specs.Fits.{Fits}
 use Rattle.run_history.specs.Traces.{all_entered}
 use Rattle.run_history.specs.Truths.{IsFront, WasFront}
-use Rattle.run_history.specs.Witnesses.{Evacuation, Move, OfBase, OfRise, OfTimer, Shown, TimersList, Trace, Witness, timer_along}
+use Rattle.run_history.specs.Witnesses.{Evacuation, Move, OfBase, OfRise, OfTimer, Shown, TimersList, Trace, Witness, timer_along, witness_with}
 use Rattle.fit_laws.proofs.EachTimer.{heads}
 use Rattle.run_cases.specs.Wrong.{turns_record, turns_script}
-use Rattle.run_cases.proofs.Orders.{in_one_order_of, witness_with}
+use Rattle.run_cases.proofs.Orders.{in_one_order_of}
 use Rattle.run_cases.proofs.Witnesses.{moves_by}
 
 -- the one order of the record's entries

@@ -11,7 +11,7 @@ use Rattle.run_history.specs.Actions.{Action, Made, made}
 use Rattle.run_history.specs.Fits.{Fits, FitsIn}
 use Rattle.run_history.specs.Histories.{timer_after}
 use Rattle.record_text.specs.declared.record.Label.{Label}
-use Rattle.run_history.specs.Witnesses.{Move, OfRise, TimersList, Trace, Witness, timer_along}
+use Rattle.run_history.specs.Witnesses.{Move, OfRise, TimersList, Trace, Witness, timer_along, witness_with}
 use Rattle.run_history.proofs.Actions.{made-append}
 use Rattle.fit_laws.proofs.OwnPoints.{entered_then, same_then, seen, stamp_then}
 use Rattle.run_cases.specs.Fitting.{accepts_script, armed_script, canceled_entry, canceled_script, seen_script, skipped_script, unreadable_script}
@@ -19,7 +19,6 @@ use Rattle.run_cases.specs.Lines.{at, claim_entry, finish_entry, set_entry_of, s
 use Rattle.run_cases.specs.Wrong.{crossed_accepts_record, crossed_record, crossed_script, foreseen_set_record, hasty_skip_record, missed_expiry_record, settimes_record, settimes_script, uncancelled_record, uncancelled_script, unseen_record, unstarted_record}
 use Rattle.run_cases.proofs.ExpiryRuns.{all_by_finish, fired_one, skipped_before_finish}
 use Rattle.fit_laws.proofs.Moments.{all_by_last, all_entered_by, all_later, all_made, all_since, ends_later, none_made, none_yet, object_rises, rises_counted, seen_more}
-use Rattle.run_cases.proofs.Orders.{opened, witness_with}
 use Rattle.fit_laws.proofs.Readings.{reads_no_later}
 use Rattle.run_cases.proofs.Settimes.{last_is, settime_ends, settime_idle}
 
@@ -42,8 +41,7 @@ some_none is = cc
 
 -- law: it does not fit
 pub uncancelled_doesnt_fit : Fits uncancelled_script uncancelled_record → ⊥
-uncancelled_doesnt_fit fits =
-    let o = opened uncancelled_script uncancelled_record fits in
+uncancelled_doesnt_fit o =
     let w = witness_with uncancelled_script uncancelled_record o.0 o.1 in
     let f = o.2 in
     let early = (f.calls 0).1.0 in
@@ -72,8 +70,7 @@ idle_there moves traces f n (suc (suc (suc (suc k)))) idle is low high = absurd 
 
 -- law: it does not fit
 pub crossed_doesnt_fit : Fits crossed_script crossed_record → ⊥
-crossed_doesnt_fit fits =
-    let o = opened crossed_script crossed_record fits in
+crossed_doesnt_fit o =
     let w = witness_with crossed_script crossed_record o.0 o.1 in
     let f = o.2 in
     let early = (f.calls 0).1.0 in
@@ -96,8 +93,7 @@ crossed_doesnt_fit fits =
 
 -- law: it does not fit
 pub settimes_dont_fit : Fits settimes_script settimes_record → ⊥
-settimes_dont_fit fits =
-    let o = opened settimes_script settimes_record fits in
+settimes_dont_fit o =
     let w = witness_with settimes_script settimes_record o.0 o.1 in
     let f = o.2 in
     let late = (f.calls 0).1.0 in
@@ -118,8 +114,7 @@ settimes_dont_fit fits =
 
 -- law: it does not fit
 pub missed_expiry_doesnt_fit : Fits unreadable_script missed_expiry_record → ⊥
-missed_expiry_doesnt_fit fits =
-    let o = opened unreadable_script missed_expiry_record fits in
+missed_expiry_doesnt_fit o =
     let w = witness_with unreadable_script missed_expiry_record o.0 o.1 in
     let f = o.2 in
     let run = (f.calls 0).2.2.1.0 in
@@ -129,11 +124,11 @@ missed_expiry_doesnt_fit fits =
     let n = (o.1 (at 1 1)).last in
     let one = fired_one (o.1 (at 0 2)).fired run.does.0 (λ f trigger. trigger) in
     let all = all_by_finish one w f.history (at 0 2) run.traced.moves f.timers (2, claim_entry 0 1 1) (3, finish_entry false 1) seen_at
-    (entered_then w f.history f.timers (at 0 2) (o.1 (at 0 2)).actions 0 run.traced.moves) (omega (arith, peek.seen.stamp)) in
+    (entered_then w f.history f.timers (at 0 2) (o.1 (at 0 2)).actions 0 run.traced.moves) (omega (arith, peek.holds.stamp)) in
     let later = ends_later w (at 1 1) (o.1 (at 1 1)).first (o.1 (at 1 1)).first [] (o.1 (at 1 1)).actions n look.truth in
     omega (
       arith,
-      look.seen.0,
+      look.holds.0,
       all_made w f.history 0 (at 0 2) 1 n refl (all_later w f.history (at 0 2) seen_at n (omega (arith, peek.move_steps.1, look.move_steps.0, later)) all),
     )
 
@@ -141,8 +136,7 @@ missed_expiry_doesnt_fit fits =
 
 -- law: it does not fit
 pub unseen_doesnt_fit : Fits seen_script unseen_record → ⊥
-unseen_doesnt_fit fits =
-    let o = opened seen_script unseen_record fits in
+unseen_doesnt_fit o =
     let w = witness_with seen_script unseen_record o.0 o.1 in
     let f = o.2 in
     let first_set = (f.calls 0).1.0 in
@@ -156,12 +150,12 @@ unseen_doesnt_fit fits =
     ⊎_elim
     (λ (less : a < b). omega (
       arith,
-      other_look.seen.0,
+      other_look.holds.0,
       all_made w f.history 0 (at 0 0) 0 b refl (all_since b first_set (omega (arith, first_look.move_steps.0, to_a, less))),
     ))
     (λ (more : b ≤ a). omega (
       arith,
-      first_look.seen.0,
+      first_look.holds.0,
       all_made w f.history 1 (at 1 0) 0 a refl (all_since a other_set (omega (arith, other_look.move_steps.0, to_b, more))),
     ))
     (cases_lt a b)
@@ -170,8 +164,7 @@ unseen_doesnt_fit fits =
 
 -- law: it does not fit
 pub crossed_accepts_dont_fit : Fits accepts_script crossed_accepts_record → ⊥
-crossed_accepts_dont_fit fits =
-    let o = opened accepts_script crossed_accepts_record fits in
+crossed_accepts_dont_fit o =
     let w = witness_with accepts_script crossed_accepts_record o.0 o.1 in
     let f = o.2 in
     let a = (o.1 (at 0 1)).first in
@@ -190,8 +183,7 @@ crossed_accepts_dont_fit fits =
 
 -- law: it does not fit
 pub hasty_skip_doesnt_fit : Fits skipped_script hasty_skip_record → ⊥
-hasty_skip_doesnt_fit fits =
-    let o = opened skipped_script hasty_skip_record fits in
+hasty_skip_doesnt_fit o =
     let w = witness_with skipped_script hasty_skip_record o.0 o.1 in
     let f = o.2 in
     let run = (f.calls 0).2.2.1.0 in
@@ -202,7 +194,7 @@ hasty_skip_doesnt_fit fits =
     let begins_at = (o.1 (at 1 1)).first in
     let one = fired_one t.fired run.does.0 (λ f trigger. trigger) in
     let all = all_by_finish one w f.history (at 0 2) run.traced.moves f.timers (2, claim_entry 0 1 1) (3, finish_entry false 1) seen_at
-    (entered_then w f.history f.timers (at 0 2) t.actions 0 run.traced.moves) (omega (arith, peek.seen.stamp)) in
+    (entered_then w f.history f.timers (at 0 2) t.actions 0 run.traced.moves) (omega (arith, peek.holds.stamp)) in
     let skip = skipped_before_finish one w f.history (at 0 2) run.traced.moves t.first t.last (sym (run.traced.objects 0)) run.truth in
     let few = none_made w f.history 0 (at 1 1) 1 begins_at refl accept.begins in
     ⊎_elim
@@ -231,8 +223,7 @@ canceled_reading start at number k arm entry is =
 
 -- law: it does not fit
 pub foreseen_set_doesnt_fit : Fits canceled_script foreseen_set_record → ⊥
-foreseen_set_doesnt_fit fits =
-    let o = opened canceled_script foreseen_set_record fits in
+foreseen_set_doesnt_fit o =
     let w = witness_with canceled_script foreseen_set_record o.0 o.1 in
     let f = o.2 in
     let read = (f.calls 0).2.1 in
@@ -244,7 +235,7 @@ foreseen_set_doesnt_fit fits =
     -- the read began before the look that found its entry, and so before the set
     let order : first ≤ seen_at = ⊎_elim
     (λ (less : first < seen_at). omega (arith, less))
-    (λ (more : seen_at ≤ first). absurd (omega (arith, few, look.seen.0, object_rises w 0 seen_at first more)))
+    (λ (more : seen_at ≤ first). absurd (omega (arith, few, look.holds.0, object_rises w 0 seen_at first more)))
     (cases_lt first seen_at) in
     let none = reads_no_later w f.history (at 0 1) (at 1 1) _ 0 read.1 refl set.begins (omega (arith, order, look.move_steps.1, set.move_steps.0)) in
     let m = read.0.does.1 in
@@ -256,8 +247,7 @@ foreseen_set_doesnt_fit fits =
 
 -- law: it does not fit
 pub unstarted_doesnt_fit : Fits armed_script unstarted_record → ⊥
-unstarted_doesnt_fit fits =
-    let o = opened armed_script unstarted_record fits in
+unstarted_doesnt_fit o =
     let w = witness_with armed_script unstarted_record o.0 o.1 in
     let f = o.2 in
     let settime = (f.calls 0).1.0 in
@@ -266,11 +256,11 @@ unstarted_doesnt_fit fits =
     let seen_at = (o.1 (at 1 0)).last in
     let n = (o.1 (at 1 1)).last in
     let ends = settime_ends 0 1 (set_entry_of 50 0 1 0) settime refl in
-    let all = all_by_last w f.history (at 0 0) ends.early 1 seen_at (OfRise 1) ends.own (omega (arith, look.seen.0, rises_counted w 1 seen_at)) in
+    let all = all_by_last w f.history (at 0 0) ends.early 1 seen_at (OfRise 1) ends.own (omega (arith, look.holds.0, rises_counted w 1 seen_at)) in
     let later = ends_later w (at 1 1) (o.1 (at 1 1)).first (o.1 (at 1 1)).first [] (o.1 (at 1 1)).actions n peek.truth in
     omega (
       arith,
-      peek.seen.stamp,
+      peek.holds.stamp,
       all_entered_by w f.history f.timers 0 (at 0 0) 0 n refl
           (all_later w f.history (at 0 0) seen_at n (omega (arith, look.move_steps.1, peek.move_steps.0, later)) all),
     )

@@ -9,25 +9,12 @@ use Rattle.record_text.specs.declared.record.RunRecord.{RunRecord}
 use Rattle.script_text.specs.declared.script.Script.{Script}
 use Rattle.run_history.specs.Actions.{also}
 use Rattle.run_history.specs.Order.{is_before, IsInOrder}
-use Rattle.run_history.specs.Witnesses.{BasesList, CountersList, Witness, is_owner, lines_at, Move, moves_from, moves_on, Owner, owner_of, TimersList, Trace}
+use Rattle.run_history.specs.Witnesses.{BasesList, CountersList, Witness, is_owner, lines_at, Move, moves_from, moves_on, Owner, owner_of, TimersList, Trace, witness_with}
 use Rattle.run_history.specs.Fits.{Fits, FitsIn}
 use Rattle.run_history.proofs.Owners.{other_owner, owner_is, owner_itself, same_owner}
 use Rattle.run_cases.proofs.Witnesses.{Along, timers_moves}
 use Rattle.run_cases.proofs.Small.{each_owner, is_list}
 use Rattle.run_cases.proofs.Tests.{all_true}
-
--- a witness of this script and this record
-abbrev pub witness_with : Script → RunRecord → List Move → (Label → Trace) → Witness
-witness_with s r moves traces = record { script = s; run = r; moves = moves; traces = traces }
-
--- law: a record that fits has one
-pub opened : (s : Script) (r : RunRecord) → Fits s r → (moves : List Move) × (traces : Label → Trace) × FitsIn (witness_with s r moves traces)
-opened s r fits =
-    let w = fits.0 in (
-      w.moves,
-      w.traces,
-      subst (λ y. FitsIn (witness_with s y w.moves w.traces)) fits.2 (subst (λ x. FitsIn (witness_with x w.run w.moves w.traces)) fits.1 fits.3),
-    )
 
 -- ---- places
 
@@ -146,7 +133,7 @@ pub in_one_order_of : (s : Script) (r : RunRecord) (ns : List Move) → list_all
     → Along (λ i. moves_on (CountersList (suc i)) ns ≡ moves_from 0 (lines_at r (CountersList (suc i)))) 0 r.objects → are_apart s ns ≡ true
     → Fits s r → (traces : Label → Trace) × FitsIn (witness_with s r ns traces)
 in_one_order_of s r ns there all bases clock objects apart fits =
-    let o = opened s r fits in
+    let o = fits in
     let each = each_owner r ns there all bases clock objects in
     (o.1, subst (λ ms. FitsIn (witness_with s r ms o.1)) (one_order s o.0 ns (λ x. o.2.history.all x ∙ sym (each x)) o.2.order apart) o.2)
 

@@ -8,12 +8,12 @@ use Rattle.record_text.specs.declared.record.Label.{Label}
 use Rattle.run_history.specs.Actions.{Shifted}
 use Rattle.run_history.specs.Fits.{Fits}
 use Rattle.run_history.specs.Truths.{IsMoment}
-use Rattle.run_history.specs.Witnesses.{BasesList, Move, Trace, Witness, standing_along}
+use Rattle.run_history.specs.Witnesses.{BasesList, Move, Trace, Witness, standing_along, witness_with}
 use Rattle.run_cases.specs.Fitting.{refused_record, refused_script}
 use Rattle.run_cases.specs.Lines.{at}
 use Rattle.run_cases.specs.Wrong.{taken_record}
 use Rattle.run_cases.proofs.Calls.{right}
-use Rattle.run_cases.proofs.Orders.{in_one_order_of, witness_with}
+use Rattle.run_cases.proofs.Orders.{in_one_order_of}
 use Rattle.run_cases.proofs.Small.{fits_by}
 use Rattle.run_cases.proofs.Tests.{le, lt}
 use Rattle.run_cases.proofs.Witnesses.{did, moves_by, none_along, two, witness_along}
@@ -71,4 +71,4 @@ pub taken_doesnt_fit : Fits refused_script taken_record → ⊥
 taken_doesnt_fit fits =
     let o = in_one_order_of refused_script taken_record in_order refl tt (refl, (refl, (refl, tt))) refl tt refl fits in
     let call = (o.1.calls 0).2.1.0 in
-    never_on o.0 (o.0 (at 0 1)).first call.begins call.seen.0.heir_online
+    never_on o.0 (o.0 (at 0 1)).first call.begins call.holds.0.heir_online

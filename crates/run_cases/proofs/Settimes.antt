@@ -74,7 +74,7 @@ module _ {w : Witness} {c : Label} {flags left old : ℕ} {value interval : Time
       let m = fits.does in
       let first = (w.traces c).first in
       idle_uncancelled _ _ _ _ _ _ w t first m.number _ m.arm m.start m.cancel one more other m.arms (entries ∙ ap (entered t) m.done)
-      (subst (λ ds. DisarmedFirst w t ds first) m.done fits.seen)
+      (subst (λ ds. DisarmedFirst w t ds first) m.done fits.holds)
 
   -- law: a settime's last entry is that of its object, which had just the entries before it at the call's first moment
   pub settime_ends : (t number : ℕ) (entry : ObjectEntry) → FitsCall w c (calls.Settime t flags value interval) (answers.Old left old) before after

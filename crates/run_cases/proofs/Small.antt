@@ -203,4 +203,4 @@ small_fits w small =
 
 -- law: the record of a small witness fits its script
 pub fits_by : (w : Witness) → IsSmall w → Fits w.script w.run
-fits_by w small = (w, refl, refl, small_fits w small)
+fits_by w small = (w.moves, w.traces, small_fits w small)

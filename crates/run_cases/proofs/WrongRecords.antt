@@ -18,7 +18,7 @@ use Rattle.run_history.specs.Actions.{made}
 use Rattle.run_history.specs.Histories.{reading_at, timer_after}
 use Rattle.script_text.specs.Declarations.{declared_of, declareds_of, terms_of}
 use Rattle.run_history.specs.Order.{is_before, IsPoint}
-use Rattle.run_history.specs.Witnesses.{CountersList, labels, Move, OfTimer, TimersList, timer_along, entries_in, Witness, Trace, Fired}
+use Rattle.run_history.specs.Witnesses.{CountersList, labels, Move, OfTimer, TimersList, timer_along, entries_in, Witness, Trace, Fired, witness_with}
 use Rattle.run_history.specs.Fits.{Fits}
 use Rattle.run_history.specs.Truths.{IsDone}
 use Rattle.fit_laws.proofs.EachTimer.{heads}
@@ -29,7 +29,7 @@ use Rattle.run_cases.specs.Fitting.{waiting_script}
 use Rattle.run_cases.specs.Wrong.{both_record, both_script, tie_record, tie_script, due_record, due_script, soon_record, soon_script, past_record, missed_record, missed_script, astray_record, astray_script, versions_record, versions_script}
 use Rattle.run_cases.proofs.Witnesses.{moves_by, timers_moves}
 use Rattle.run_cases.proofs.Tests.{upto}
-use Rattle.run_cases.proofs.Orders.{at_early, at_late, witness_with, found, opened, in_one_order, in_one_order_of}
+use Rattle.run_cases.proofs.Orders.{at_early, at_late, found, in_one_order, in_one_order_of}
 
 -- ---- two functions run at once on one base, by what a lane is told before and behind its claim
 
@@ -39,8 +39,7 @@ claim = record { before = 1; label = at 1 1; shown = OfTimer 1 (claim_entry 0 0 
 
 -- law: it does not fit
 pub both_dont_fit : Fits both_script both_record → ⊥
-both_dont_fit fits =
-    let o = opened both_script both_record fits in
+both_dont_fit o =
     let w = witness_with both_script both_record o.0 o.1 in
     let f = o.2 in
     let one = (f.calls 1).1.0 in
@@ -63,8 +62,8 @@ both_dont_fit fits =
     -- so timer 0 has two entries there, as at the looks, and runs
     let low = seen_rises w f.history f.timers a p 0 behind in
     let high = seen_rises w f.history f.timers p b 0 before in
-    let first : seen w a 0 ≡ 2 = sym (stamp_then w f.history f.timers a 0) ∙ one.seen.stamp in
-    let last : seen w b 0 ≡ 2 = sym (stamp_then w f.history f.timers b 0) ∙ three.seen.stamp in
+    let first : seen w a 0 ≡ 2 = sym (stamp_then w f.history f.timers a 0) ∙ one.holds.stamp in
+    let last : seen w b 0 ≡ 2 = sym (stamp_then w f.history f.timers b 0) ∙ three.holds.stamp in
     let two : seen w p 0 ≡ 2 = omega (arith, low, high, first, last) in
     let runs : runs_on 0 (timer_along w p 0) ≡ true =
     same_then w f.history f.timers (runs_on 0) refl p 0 ∙ ap (λ k. runs_on 0 (timer_after both_script both_record 0 k)) two in
@@ -129,7 +128,7 @@ due_doesnt_fit fits =
     let o = in_one_order due_script due_record (0 ∷ 1 ∷ 0 ∷ []) refl (refl, (refl, tt)) refl (refl, tt) refl (refl, (refl, tt)) fits in
     let call = (o.1.calls 1).1.0 in
     let done : IsDone (due_witness o.0) contexts.Hard 0 0 (o.0 (at 1 0)).last =
-    subst (λ k. IsDone (due_witness o.0) contexts.Hard k 0 (o.0 (at 1 0)).last) (sym call.does.0.one_reading) call.seen in
+    subst (λ k. IsDone (due_witness o.0) contexts.Hard k 0 (o.0 (at 1 0)).last) (sym call.does.0.one_reading) call.holds in
     one_is_due o.0 (o.0 (at 1 0)).last _ call.ends (done.stopped clocks.Monotonic)
 
 -- ---- a timer is claimed before its soft expiry
@@ -178,7 +177,7 @@ missed_doesnt_fit fits =
     let o = in_one_order_of missed_script missed_record missed_moves refl (refl, tt) (refl, tt) refl (refl, tt) refl fits in
     let call = (o.1.calls 0).2.2.1.0 in
     let done : IsDone (missed_witness o.0) contexts.Hard 1 0 (o.0 (at 0 2)).last =
-    subst (λ k. IsDone (missed_witness o.0) contexts.Hard k 0 (o.0 (at 0 2)).last) (sym call.does.0.one_reading) call.seen in
+    subst (λ k. IsDone (missed_witness o.0) contexts.Hard k 0 (o.0 (at 0 2)).last) (sym call.does.0.one_reading) call.holds in
     one_is_missed o.0 (o.0 (at 0 2)).last _ call.ends (done.stopped clocks.Monotonic)
 
 -- ---- a hard expiry run claims a timer of the soft context
@@ -192,8 +191,7 @@ first_context s x t ts (f ∷ fs) claimed all =
 
 -- law: it does not fit
 pub astray_doesnt_fit : Fits astray_script astray_record → ⊥
-astray_doesnt_fit fits =
-    let o = opened astray_script astray_record fits in
+astray_doesnt_fit o =
     let run = (o.2.calls 0).2.1.0.does.0 in
     let same : contexts.Soft ≡ contexts.Hard = first_context astray_script contexts.Hard 0 [] (o.1 (at 0 1)).fired run.claimed run.contexts in
     cc
@@ -202,4 +200,4 @@ astray_doesnt_fit fits =
 
 -- law: it does not fit
 pub versions_dont_fit : Fits versions_script versions_record → ⊥
-versions_dont_fit fits = let same : versions.One ≡ versions.Two = (opened versions_script versions_record fits).2.version in cc
+versions_dont_fit fits = let same : versions.One ≡ versions.Two = fits.2.version in cc

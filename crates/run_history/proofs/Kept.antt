@@ -12,7 +12,7 @@ use Rattle.run_history.specs.Order.{is_label, IsLabel, IsPoint, NeverFall}
 use Rattle.script_text.specs.declared.script.Call.{Call}
 use Rattle.run_history.specs.Calls.{AllKeepExpiries, AllMoved, Does}
 use Rattle.run_history.specs.Witnesses.{Witness, labels, Move, Trace}
-use Rattle.run_history.specs.Fits.{FitsCall, Seen}
+use Rattle.run_history.specs.Fits.{FitsCall, FitsTrace, Seen}
 use Rattle.run_history.specs.Receipts.{AreAll, at_place, PlacedEntry, receipt, shape}
 use Rattle.run_history.specs.Rounds.{IsLaid, Spans}
 use Rattle.run_history.specs.Traces.{all_entered, HasTraced, own_moves}
@@ -112,27 +112,26 @@ module _ {w : Witness} {moves : Spans} {c : Label} {t : Trace} {notes : List Pla
       → AllKeepExpiries w.script w.run call t.moved × AllMoved (WasFront w t.first t.last) call t.moved
       → AreTrue w c t.first t.first [] t.actions t.last → AnswerHolds w t.first t.last c t.at t.actions call answer
       → FitsCall w c call answer before after
-  call_made low high behind does moved truth seen =
-      let to : (P : Trace → Type 0) → P t → P (w.traces c) = λ P. subst P (sym kept.trace) in record {
-        traced = to (λ x. HasTraced w c x.actions) (record {
+  call_made low high behind does moved truth holds =
+      subst (λ x. FitsTrace w c x call answer before after) (sym kept.trace) (record {
+        traced = record {
           clock = kept.clock;
           moves = own_moves_are c 0 w.moves ∙ ap (map (λ e. e.1)) kept.all ∙ receipts_are notes ∙ kept.entered;
           looks = kept.looks;
           objects = kept.objects;
           skips = kept.skips;
-        });
-        does = to (λ x. Does (WasOffLine w x.first x.last) w.script x.at call answer x.fired x.moved x.actions) does;
-        keeps = to (λ x. AllKeepExpiries w.script w.run call x.moved) moved.0;
-        turns = to (λ x. AllMoved (WasFront w x.first x.last) call x.moved) moved.1;
-        reading = to (λ x. IsPoint w.script c 0 x.at (clock_labels w.run)) kept.reading;
-        begins = to (λ x. IsMoment w c [] x.first) (moment_of [] t.first low high (none_yet t.first behind));
-        ends = to (λ x. IsMoment w c x.actions x.last) (moment_of t.actions t.last kept.forward (omega arith) made_at_end);
-        truth = to (λ x. AreTrue w c x.first x.first [] x.actions x.last) truth;
-        seen = to (λ x. AnswerHolds w x.first x.last c x.at x.actions call answer) seen;
-        clock_steps = to (λ x. NeverFall before.clock (x.at ∷ map (λ y. y.0) (wrote x.actions)) after.clock) kept.clock_steps;
-        move_steps = to (λ x. (before.moves ≤ x.first) × (x.last ≤ after.moves))
-            (omega (arith, kept.move_steps.0, low), omega (arith, kept.last, kept.move_steps.1));
-      }
+        };
+        does = does;
+        keeps = moved.0;
+        turns = moved.1;
+        reading = kept.reading;
+        begins = moment_of [] t.first low high (none_yet t.first behind);
+        ends = moment_of t.actions t.last kept.forward (omega arith) made_at_end;
+        truth = truth;
+        holds = holds;
+        clock_steps = kept.clock_steps;
+        move_steps = (omega (arith, kept.move_steps.0, low), omega (arith, kept.last, kept.move_steps.1));
+      })
 
   -- the same, where it begins with what its pass had seen
   pub call_made_whole : t.first ≡ moves.first c → Does (WasOffLine w t.first t.last) w.script t.at call answer t.fired t.moved t.actions

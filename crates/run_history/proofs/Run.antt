@@ -8,7 +8,7 @@ use Rattle.record_text.specs.declared.record.RunRecord.{RunRecord}
 use Rattle.run_history.specs.Histories.{clock_labels, history_of}
 use Rattle.run_history.specs.Order.{is_label, IsLabel}
 use Rattle.script_text.specs.declared.script.Script.{Script}
-use Rattle.run_history.specs.Witnesses.{labels, Move, Shown}
+use Rattle.run_history.specs.Witnesses.{labels, Move, Shown, witness_with}
 use Rattle.run_history.specs.Fits.{Fits, FitsIn}
 use Rattle.run_history.specs.Receipts.{AreAll, shape, weave}
 use Rattle.run_history.specs.Runs.{clock_spans, witness_of, Ending, IsEnding, IsJoined, IsRun, moves_spans, notes_in}
@@ -80,4 +80,6 @@ module _ (s : Script) (e : Ending) (ends : IsEnding s e) where
 
 -- law: then the record fits the script
 pub run_fits : (s : Script) (r : RunRecord) → IsRun s r → Fits s r
-run_fits s r run = (witness_of s run.0, refl, run.1, fits_in s run.0 run.2)
+run_fits s r run =
+    let w = witness_of s run.0 in
+    (w.moves, w.traces, subst (λ x. FitsIn (witness_with s x w.moves w.traces)) run.1 (fits_in s run.0 run.2))

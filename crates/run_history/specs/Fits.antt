@@ -14,7 +14,7 @@ use Rattle.run_history.specs.Histories.{answers_of, AreWrites, clock_labels, lin
 use Rattle.run_history.specs.Objects.{IsLegalObject, lines_of_object}
 use Rattle.script_text.specs.Declarations.{kind_of}
 use Rattle.run_history.specs.Actions.{wrote}
-use Rattle.run_history.specs.Witnesses.{Witness, IsOneHistory, labels, writes_along}
+use Rattle.run_history.specs.Witnesses.{Move, Trace, Witness, IsOneHistory, labels, witness_with, writes_along}
 use Rattle.run_history.specs.Traces.{HasTraced}
 use Rattle.run_history.specs.Calls.{AllKeepExpiries, AllMoved, Does}
 use Rattle.run_history.specs.Truths.{AreTrue, IsMoment, AnswerHolds, WasFront, WasOffLine}
@@ -28,24 +28,27 @@ pub record Seen : Type 0 where
 abbrev pub unseen : Seen
 unseen = record { clock = 0; moves = 0 }
 
--- One call with its answer: what it did is what the record shows, and makes the answer right; it saw no less than its lane had seen before, and
--- no more than its lane has seen after it.
-pub record FitsCall (w : Witness) (c : Label) (call : Call) (answer : Answer) (before after : Seen) : Type 0 where
-  pub traced : HasTraced w c (w.traces c).actions
-  pub does : Does (WasOffLine w (w.traces c).first (w.traces c).last) w.script (w.traces c).at call answer (w.traces c).fired (w.traces c).moved
-      (w.traces c).actions
+-- One call with its answer, by this trace of it: what it did is what the record shows, and makes the answer right; it saw no less than its lane had seen
+-- before, and no more than its lane has seen after it.
+pub record FitsTrace (w : Witness) (c : Label) (t : Trace) (call : Call) (answer : Answer) (before after : Seen) : Type 0 where
+  pub traced : HasTraced w c t.actions
+  pub does : Does (WasOffLine w t.first t.last) w.script t.at call answer t.fired t.moved t.actions
   -- the timers that it moved off a base keep their expiries
-  pub keeps : AllKeepExpiries w.script w.run call (w.traces c).moved
+  pub keeps : AllKeepExpiries w.script w.run call t.moved
   -- and each was the next one, while no function ran there, at a moment at which it had just the entries before its move
-  pub turns : AllMoved (WasFront w (w.traces c).first (w.traces c).last) call (w.traces c).moved
-  pub reading : IsPoint w.script c 0 (w.traces c).at (clock_labels w.run)
+  pub turns : AllMoved (WasFront w t.first t.last) call t.moved
+  pub reading : IsPoint w.script c 0 t.at (clock_labels w.run)
   -- its first moment, at which it had made no entry, and its last, at which it had made them all
-  pub begins : IsMoment w c [] (w.traces c).first
-  pub ends : IsMoment w c (w.traces c).actions (w.traces c).last
-  pub truth : AreTrue w c (w.traces c).first (w.traces c).first [] (w.traces c).actions (w.traces c).last
-  pub seen : AnswerHolds w (w.traces c).first (w.traces c).last c (w.traces c).at (w.traces c).actions call answer
-  pub clock_steps : NeverFall before.clock ((w.traces c).at ∷ map (λ x. x.0) (wrote (w.traces c).actions)) after.clock
-  pub move_steps : (before.moves ≤ (w.traces c).first) × ((w.traces c).last ≤ after.moves)
+  pub begins : IsMoment w c [] t.first
+  pub ends : IsMoment w c t.actions t.last
+  pub truth : AreTrue w c t.first t.first [] t.actions t.last
+  pub holds : AnswerHolds w t.first t.last c t.at t.actions call answer
+  pub clock_steps : NeverFall before.clock (t.at ∷ map (λ x. x.0) (wrote t.actions)) after.clock
+  pub move_steps : (before.moves ≤ t.first) × (t.last ≤ after.moves)
+
+-- the same, by what the witness says that the call did
+abbrev pub FitsCall : Witness → Label → Call → Answer → Seen → Seen → Type 0
+FitsCall w c call answer before after = FitsTrace w c (w.traces c) call answer before after
 
 -- whether a call reads the clock
 abbrev pub reads_clock : Call → Bool
@@ -60,7 +63,7 @@ reads_clock call = true
 pub record HasRead (w : Witness) (c : Label) (from : ℕ) : Type 0 where
   pub moment : ℕ
   pub behind : from ≤ moment
-  pub before : moment ≤ (w.traces c).first
+  pub no_later : moment ≤ (w.traces c).first
   pub writes : writes_along w moment ≡ (w.traces c).at
 
 -- so each call that reads the clock
@@ -113,6 +116,6 @@ pub record FitsIn (w : Witness) : Type 0 where
   -- each call of each lane has its answer, and the answer is right
   pub calls : (lane : ℕ) → FitsLane w lane 0 unseen (calls_of w.script lane) (answers_of w.run lane)
 
--- the record fits the script: there is an order of all entries and writes, with what each call did, in which it does
+-- the record fits the script: there are an order of all entries and writes, and for each call what it did, with which it does
 abbrev pub Fits : Script → RunRecord → Type 0
-Fits s r = (w : Witness) × (w.script ≡ s) × (w.run ≡ r) × FitsIn w
+Fits s r = (moves : List Move) × (traces : Label → Trace) × FitsIn (witness_with s r moves traces)

@@ -21,7 +21,7 @@ use Rattle.script_text.specs.Declarations.{base_of, kind_of, terms_of}
 use Rattle.run_history.specs.Order.{IsPoint}
 use Rattle.run_history.specs.Histories.{reading_at}
 use Rattle.run_history.specs.Objects.{object_armed_after, fd_after, posix_after}
-use Rattle.run_history.specs.Actions.{Action, Entered, Looked, Made, Skipped}
+use Rattle.run_history.specs.Actions.{Action, Entered, Looked, Made, Shifted, Skipped, Wrote}
 use Rattle.run_history.specs.Told.{IsBelowLimit, IsOutOfRange, IsArmedLike, observed}
 use Rattle.ktime.specs.declared.clock_id.ClockId.{ClockId}
 use Rattle.seq_timer.specs.Contents.{front_of}
@@ -101,6 +101,10 @@ SawFull w i stamp n = HadEntries w i stamp n × (w.script.limit ≤ stamp)
 abbrev pub StoodBefore : Witness → ℕ → ℕ → ℕ → Type 0
 StoodBefore w i number n = object_along w n i + 1 ≡ number
 
+-- Nothing is asked here: nothing is told but what a call did, or what it was asked. Of that `Does` and the moves' history speak.
+abbrev pub NothingTold : Type 0
+NothingTold = Unit
+
 -- what is asked where an event is a claim
 abbrev pub OfClaim : EventBy ℕ → Type 0 → Type 0
 OfClaim (events.Claim base reading) P = P
@@ -118,7 +122,7 @@ DisarmedFirst w timer actions first = Holds (timer_along w first timer) observat
 
 -- what an entry of an object tells of its timer's start is true
 abbrev pub IsTrueStart : Witness → ℕ → ℕ → Bool → Armed → ℕ → Type 0
-IsTrueStart w i number on_clock armings.None n = Unit
+IsTrueStart w i number on_clock armings.None n = NothingTold
 IsTrueStart w i number on_clock (armings.Generation generation) n =
     ((timer_along w n i).stamp ≡ generation)
     × IsArmedLike on_clock (object_armed_after w.script w.run i number (kind_of w.script i)) generation (timer_along w n i)
@@ -127,7 +131,7 @@ IsTrueStart w i number on_clock armings.Unarmed n = SawRefusal w i (timer_along 
 -- the same, of each entry of an object
 abbrev pub IsTrueEntry : Witness → ℕ → ℕ → ObjectEntry → ℕ → Type 0
 IsTrueEntry w i number (object_entries.Settime flags value interval reading arm reply) n = IsTrueStart w i number true arm n
-IsTrueEntry w i number (object_entries.Trigger generation reading counted) n = Unit
+IsTrueEntry w i number (object_entries.Trigger generation reading counted) n = NothingTold
 IsTrueEntry w i number (object_entries.Accept reading arm reply) n = IsTrueStart w i number false arm n
 IsTrueEntry w i number (object_entries.Read reading arm reply) n = IsTrueStart w i number false arm n
 IsTrueEntry w i number (object_entries.Gettime reading arm left interval) n = IsTrueStart w i number false arm n
@@ -153,7 +157,8 @@ IsTrue w c first before (Entered timer number entry) n = OfClaim entry.event (Is
 IsTrue w c first before (Looked timer number look) n = IsMoment w c before n × Saw w timer number (observed look) n × IsBelowLimit w.script.limit number look
 IsTrue w c first before (Made i number entry) n = IsMoment w c before n × MadeInTurn w first i number entry n
 IsTrue w c first before (Skipped i number generation) n = IsMoment w c before n × SawFull w i number n
-IsTrue w c first before did n = Unit
+IsTrue w c first before (Shifted base number event) n = NothingTold
+IsTrue w c first before (Wrote number write) n = NothingTold
 
 -- each thing that a call did tells the truth, at moments that never go back, from one moment to another
 abbrev pub AreTrue : Witness → Label → ℕ → ℕ → List Action → List Action → ℕ → Type 0
@@ -230,4 +235,4 @@ AnswerHolds w first last c reading actions (calls.Offline base heir budget) (ans
     StandsAt w base stamp last × ((standing_along w last base).heir ≡ None) × (last_standing ≤ stamp) × ((standing_along w last heir).heir ≡ None)
 AnswerHolds w first last c reading actions (calls.Online base) (answers.Already stamp) =
     StandsAt w base stamp last × ((standing_along w last base).heir ≡ None)
-AnswerHolds w first last c reading actions call answer = Unit
+AnswerHolds w first last c reading actions call answer = NothingTold

@@ -121,6 +121,10 @@ pub record Witness : Type 0 where
   pub moves : List Move
   pub traces : Label → Trace
 
+-- the same of this script and this record
+abbrev pub witness_with : Script → RunRecord → List Move → (Label → Trace) → Witness
+witness_with s r moves traces = record { script = s; run = r; moves = moves; traces = traces }
+
 -- the moves of one list
 abbrev pub moves_on : Owner → List Move → List Move
 moves_on o [] = []
