@@ -9,7 +9,7 @@ use Rattle.record_text.specs.declared.record.RunRecord.{RunRecord}
 use Rattle.script_text.specs.declared.script.Script.{Script}
 use Rattle.run_history.specs.Actions.{also}
 use Rattle.run_history.specs.Order.{is_before, IsInOrder}
-use Rattle.run_history.specs.Witnesses.{BasesList, CountersList, Witness, is_owner, lines_at, Move, moves_from, moves_on, Owner, owner_of, TimersList, Trace, witness_with}
+use Rattle.run_history.specs.Witnesses.{BasesList, CountersList, is_owner, lines_at, Move, moves_from, moves_on, Owner, owner_of, TimersList, Trace, witness_with}
 use Rattle.run_history.specs.Fits.{Fits, FitsIn}
 use Rattle.run_history.proofs.Owners.{other_owner, owner_is, owner_itself, same_owner}
 use Rattle.run_cases.proofs.Witnesses.{Along, timers_moves}

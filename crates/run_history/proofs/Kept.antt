@@ -15,7 +15,7 @@ use Rattle.run_history.specs.Witnesses.{Witness, labels, Move, Trace}
 use Rattle.run_history.specs.Fits.{FitsCall, FitsTrace, Seen}
 use Rattle.run_history.specs.Receipts.{AreAll, at_place, PlacedEntry, receipt, shape}
 use Rattle.run_history.specs.Rounds.{IsLaid, Spans}
-use Rattle.run_history.specs.Traces.{all_entered, HasTraced, own_moves}
+use Rattle.run_history.specs.Traces.{all_entered, own_moves}
 use Rattle.run_history.specs.Truths.{AreTrue, IsMoment, AnswerHolds, WasFront, WasOffLine}
 use Rattle.run_history.proofs.Points.{point_among}
 

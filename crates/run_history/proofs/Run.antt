@@ -1,5 +1,5 @@
 -- A run of many lanes: what all lanes leave together, with what each promises of its own calls, makes the record fit.
-use Rattle.std.proofs.Common.{◌+◌, ◌≡◌, ◌<◌, ◌≤◌, ℕ, List, [], ◌∷◌, ◌++◌, true, arith, refl, sym, ap, ◌∙◌, subst}
+use Rattle.std.proofs.Common.{◌+◌, ◌≡◌, ◌<◌, ◌≤◌, ℕ, List, [], ◌∷◌, ◌++◌, true, arith, sym, ap, ◌∙◌, subst}
 use Rattle.std.proofs.lemmas.List.{length-map}
 use Rattle.seq_timer.specs.Systems.{entries_of}
 use Rattle.seq_timer.specs.declared.system.SystemEntry.{SystemEntry}
