@@ -2,6 +2,7 @@
 // is here the wait for its signal, which is blocked. The kernel queues no timer that has no signal (SIGEV_NONE), so settimes alone are timed of
 // both sorts.
 #define _GNU_SOURCE
+#include <poll.h>
 #include <signal.h>
 #include <stdint.h>
 #include <stdio.h>
@@ -14,7 +15,7 @@ enum { TIMES = 10240, ROUNDS = 7, MOST = 256 };
 
 static const struct itimerspec FAR = {{0, 0}, {3600, 0}}, PAST = {{0, 0}, {0, 1}}, OFF;
 
-// Objects of one kind, and the signal of timers.
+// Objects of one kind, the signal of timers, and what a turn does: it looks at each, or arms each and ends it.
 struct worker {
     int count, fds[MOST];
     timer_t timers[MOST];
@@ -22,6 +23,7 @@ struct worker {
     int notify;
     void (*set)(struct worker *, int, int, const struct itimerspec *);
     void (*take)(struct worker *, int);
+    void (*look)(struct worker *, int);
 };
 
 static void set_timer(struct worker *own, int i, int flags, const struct itimerspec *value) {
@@ -43,6 +45,23 @@ static void read_descriptor(struct worker *own, int i) {
     uint64_t count;
     if (read(own->fds[i], &count, sizeof count) != sizeof count)
         exit(1);
+}
+
+static void look_at_timer(struct worker *own, int i) {
+    if (timer_getoverrun(own->timers[i]) != 0)
+        exit(1);
+}
+
+static void look_at_descriptor(struct worker *own, int i) {
+    struct pollfd asked = {.fd = own->fds[i], .events = POLLIN};
+    if (poll(&asked, 1, 0) != 0)
+        exit(1);
+}
+
+static void looks(struct worker *own) {
+    for (int turn = 0; turn < TIMES / own->count; turn++)
+        for (int i = 0; i < own->count; i++)
+            own->look(own, i);
 }
 
 static void turns(struct worker *own) {
@@ -86,7 +105,7 @@ static void line(const char *kind, const char *op, struct worker own) {
     make(&own, SIGRTMIN);
     for (int i = 0; i < ROUNDS; i++) {
         double start = now();
-        turns(&own);
+        (own.look ? looks : turns)(&own);
         double took = now() - start;
         if (took < least)
             least = took;
@@ -104,9 +123,13 @@ int main(void) {
         line("POSIX, SIGEV_NONE", "settime, settime 0", silent);
         timer.take = accept_signal;
         line("POSIX timer", "settime, expiry, accept", timer);
+        timer.look = look_at_timer;
+        line("POSIX timer", "getoverrun", timer);
         line("descriptor", "settime, settime 0", descriptor);
         descriptor.take = read_descriptor;
         line("descriptor", "settime, expiry, read", descriptor);
+        descriptor.look = look_at_descriptor;
+        line("descriptor", "poll", descriptor);
     }
     return 0;
 }

@@ -3,7 +3,7 @@ ghost use Rattle.std.specs.Prelude.{◌≤◌};
 ghost use Rattle.timer_objects_bench.specs.Stands.{IsBenchStand, KeepsStand};
 
 use crate::stand::Stand;
-use crate::turns::turns;
+use crate::turns::{Turn, turns};
 use bench_cases::{Figure, Least, Task};
 use std::alloc::Global;
 use std::io;
@@ -18,7 +18,7 @@ const TIMES: u64 = 51_200;
 fn round<R: Wait + Clock>(
     rt: &R,
     stand: &mut Stand,
-    expires: bool,
+    turn: Turn,
     times: u64,
     least: &mut Least,
 ) -> bool
@@ -26,7 +26,7 @@ fn round<R: Wait + Clock>(
     ensures keeps { KeepsStand stand.old stand.new }
 {
     let start = Instant::now(rt);
-    let done = turns(rt, stand, expires, times);
+    let done = turns(rt, stand, turn, times);
     if let (Ok(start), Ok(end)) = (start, Instant::now(rt)) {
         least.take(end.saturating_duration_since(start));
     }
@@ -38,7 +38,7 @@ fn run<R: Wait + Clock>(
     rt: &R,
     alloc: Global,
     kind: Kind,
-    expires: bool,
+    turn: Turn,
     count: u32,
     load: (u64, u64),
 ) -> io::Result<(bool, Least)>
@@ -47,7 +47,7 @@ fn run<R: Wait + Clock>(
     let mut stand = Stand::open(alloc, kind, count)?;
     let (mut good, mut least) = (true, Least::new());
     for _ in 0..load.0 {
-        good &= round(rt, &mut stand, expires, load.1, &mut least);
+        good &= round(rt, &mut stand, turn, load.1, &mut least);
     }
     stand.close();
     Ok((good, least))
@@ -57,20 +57,20 @@ fn line<R: Wait + Clock + Print>(
     rt: &R,
     alloc: Global,
     task: Task,
-    case: (&str, Kind, bool),
+    case: (&str, Kind, Turn),
     count: u32,
 ) -> io::Result<()>
     requires few { count ≤ 256 }
 {
-    let (name, kind, expires) = case;
+    let (name, kind, turn) = case;
     match task {
         Task::Check => {
-            let (good, _) = run(rt, alloc, kind, expires, count, (2, 3))?;
+            let (good, _) = run(rt, alloc, kind, turn, count, (2, 3))?;
             println!(rt; "{name}\t{count}\t{good}")
         }
         Task::Measure => {
             let load = (7, TIMES / u64::from(count.max(1)));
-            let (_, least) = run(rt, alloc, kind, expires, count, load)?;
+            let (_, least) = run(rt, alloc, kind, turn, count, load)?;
             let Figure { whole, tenths } = least.of(TIMES);
             println!(rt; "timer_objects\t{name}\t{count}\t{whole}.{tenths}")
         }
@@ -80,10 +80,16 @@ fn line<R: Wait + Clock + Print>(
 /// Prints a line for each case.
 pub fn print_lines<R: Wait + Clock + Print>(rt: &R, alloc: Global, task: Task) -> io::Result<()> {
     for case in [
-        ("POSIX timer\tsettime, settime 0", Kind::Posix, false),
-        ("POSIX timer\tsettime, expiry, accept", Kind::Posix, true),
-        ("descriptor\tsettime, settime 0", Kind::Fd, false),
-        ("descriptor\tsettime, expiry, read", Kind::Fd, true),
+        ("POSIX timer\tsettime, settime 0", Kind::Posix, Turn::Clear),
+        (
+            "POSIX timer\tsettime, expiry, accept",
+            Kind::Posix,
+            Turn::Expire,
+        ),
+        ("POSIX timer\tgetoverrun", Kind::Posix, Turn::Look),
+        ("descriptor\tsettime, settime 0", Kind::Fd, Turn::Clear),
+        ("descriptor\tsettime, expiry, read", Kind::Fd, Turn::Expire),
+        ("descriptor\tpoll", Kind::Fd, Turn::Look),
     ] {
         for count in [1, 256] {
             line(rt, alloc, task, case, count)?;

@@ -181,6 +181,43 @@ impl Stand {
         }
     }
 
+    /// Looks at an object: how often a POSIX timer has overrun, or whether a descriptor is ready to be read.
+    pub fn look<R: Wait>(&mut self, rt: &R, id: u32) -> bool
+        requires stand { IsBenchStand self.old }
+        requires within { id < self.old.count }
+        ensures keeps { KeepsStand self.old self.new }
+    {
+        let (timers, objects) = (&self.timers, &self.objects);
+        match objects.kind(id) {
+            Kind::Posix => {
+                let answer = objects.getoverrun(
+                    rt,
+                    timers,
+                    &mut self.pass,
+                    &mut self.objects_pass,
+                    &mut self.log,
+                    &mut self.object_log,
+                    id,
+                );
+                answer.overrun == 0
+            }
+            Kind::Fd => {
+                let answer = objects.readable(
+                    rt,
+                    timers,
+                    &mut self.pass,
+                    &mut self.objects_pass,
+                    &mut self.log,
+                    &mut self.object_log,
+                    id,
+                    Reading::at(NOW),
+                );
+                !answer.ready
+            }
+            Kind::Raw => false,
+        }
+    }
+
     /// Ends the timers and the objects.
     pub fn close(self)
         requires stand { IsBenchStand self }

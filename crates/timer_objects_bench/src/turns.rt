@@ -1,4 +1,4 @@
-//! What a thread does in a turn: one operation on each object.
+//! What a thread does in a turn with each of its objects.
 ghost use Rattle.std.specs.Prelude.{◌≡◌, ◌<◌, ◌^◌};
 ghost use Rattle.timer_objects_bench.specs.Stands.{IsBenchStand, KeepsStand};
 
@@ -18,6 +18,18 @@ enum Call {
     Clear,
     /// The accept of a signal, or a read.
     Take,
+    /// A look.
+    Look,
+}
+
+/// A turn: all objects are armed and then ended in one of two ways, or they are looked at.
+#[derive(Clone, Copy, Debug, PartialEq, Eq)]
+pub enum Turn {
+    /// They are cleared.
+    Clear,
+    /// Their timers expire, and they are accepted or read.
+    Expire,
+    Look,
 }
 
 /// Makes a call on an object.
@@ -38,6 +50,7 @@ fn one<R: Wait>(
         Call::Due => stand.set(rt, id, expiry + 1),
         Call::Clear => stand.set(rt, id, 0),
         Call::Take => stand.take(rt, id),
+        Call::Look => Ok(stand.look(rt, id)),
     }
 }
 
@@ -54,35 +67,34 @@ fn each<R: Wait>(rt: &R, stand: &mut Stand, call: Call) -> Result<bool, AllocErr
     Ok(good)
 }
 
-/// A turn: all objects are armed, and then cleared, or their timers expire and they are accepted or read.
-fn turn<R: Wait>(rt: &R, stand: &mut Stand, expires: bool) -> Result<bool, AllocError>
+fn one_turn<R: Wait>(rt: &R, stand: &mut Stand, turn: Turn) -> Result<bool, AllocError>
     requires stand { IsBenchStand stand.old }
     ensures keeps { KeepsStand stand.old stand.new }
 {
-    if !expires {
-        let armed = each(rt, stand, Call::Ahead)?;
-        let cleared = each(rt, stand, Call::Clear)?;
-        return Ok(armed & cleared);
+    match turn {
+        Turn::Clear => {
+            let armed = each(rt, stand, Call::Ahead)?;
+            let cleared = each(rt, stand, Call::Clear)?;
+            Ok(armed & cleared)
+        }
+        Turn::Expire => {
+            let armed = each(rt, stand, Call::Due)?;
+            let ran = stand.expire(rt)?;
+            let taken = each(rt, stand, Call::Take)?;
+            Ok(armed & ran & taken)
+        }
+        Turn::Look => each(rt, stand, Call::Look),
     }
-    let armed = each(rt, stand, Call::Due)?;
-    let ran = stand.expire(rt)?;
-    let taken = each(rt, stand, Call::Take)?;
-    Ok(armed & ran & taken)
 }
 
 /// So many turns.
-pub fn turns<R: Wait>(
-    rt: &R,
-    stand: &mut Stand,
-    expires: bool,
-    times: u64,
-) -> Result<bool, AllocError>
+pub fn turns<R: Wait>(rt: &R, stand: &mut Stand, turn: Turn, times: u64) -> Result<bool, AllocError>
     requires stand { IsBenchStand stand.old }
     ensures keeps { KeepsStand stand.old stand.new }
 {
     let mut good = true;
     for _ in 0..times {
-        good &= turn(rt, stand, expires)?;
+        good &= one_turn(rt, stand, turn)?;
     }
     Ok(good)
 }
