@@ -1,5 +1,5 @@
 -- Records that fit, of two lanes beside each other that call and look at objects: a witness for each, and what makes it fit.
-use Rattle.std.proofs.Common.{ℕ, true, false, [], ◌∷◌, None, refl, inl, inr}
+use Rattle.std.proofs.Common.{ℕ, true, false, List, [], ◌∷◌, None, refl, inl, inr}
 use Rattle.clock_model.specs.declared.write.Write.TheVariants as writes
 use Rattle.ktime.specs.Times.{passed}
 use Rattle.ktime.specs.declared.clock_id.ClockId.TheVariants as clocks
@@ -12,14 +12,18 @@ use Rattle.record_text.specs.declared.record.ObjectEntry.TheVariants as object_e
 use Rattle.record_text.specs.declared.record.ObjectEntry.{ObjectEntry}
 use Rattle.record_text.specs.declared.record.SettimeReply.TheVariants as settings
 use Rattle.script_text.specs.declared.script.Kind.{Kind}
+use Rattle.record_text.specs.declared.record.Answer.{Answer}
+use Rattle.record_text.specs.declared.record.Answer.TheVariants as answers
+use Rattle.script_text.specs.declared.script.Call.TheVariants as calls
 use Rattle.script_text.specs.declared.script.Kind.TheVariants as kinds
+use Rattle.script_text.specs.declared.script.LaneCall.{LaneCall}
 use Rattle.run_history.specs.Actions.{Entered, Made, Skipped, Wrote}
 use Rattle.run_history.specs.Fits.{Fits}
 use Rattle.run_history.specs.ObjectCalls.{MakesRearming, MakesSettime}
-use Rattle.run_history.specs.Witnesses.{CountersList, TimersList, Witness}
+use Rattle.run_history.specs.Witnesses.{CountersList, TimersList, Trace, Witness}
 use Rattle.run_cases.specs.Fitting.{accepts_record, accepts_script, armed_record, armed_script, between_record, between_script, cancelable_entry, canceled_entry, canceled_record, canceled_script, disarmed_entry, nothing_accepted, real_start, seen_record, seen_script, skipped_record, skipped_script, unreadable_record, unreadable_script}
-use Rattle.run_cases.specs.Lines.{set_entry_of, set_start}
-use Rattle.run_cases.proofs.Calls.{right}
+use Rattle.run_cases.specs.Lines.{at, by, case_object_line, case_script, line, object_record, set_entry_of, set_start, settime_to}
+use Rattle.run_cases.proofs.Calls.{IsRight, right}
 use Rattle.run_cases.proofs.Small.{fits_by}
 use Rattle.run_cases.proofs.Tests.{le, lt, point_passes}
 use Rattle.run_cases.proofs.Witnesses.{armed_by, did, done_by, fired, in_its_turn, ran, stays, step, three, two, witness_along}
@@ -260,12 +264,36 @@ canceled_fits = fits_by canceled_witness (record {
       ) tt);
 })
 
+-- ---- a lane sets a POSIX timer, and another one looks
+
+-- the witness, by the looks, what they were told, and when they were
+abbrev set_beside : List LaneCall → List Answer → List Trace → Witness
+set_beside looks told times = witness_along (case_script 1 2 (kinds.Posix 0 ∷ []) ((by 0 (settime_to 50) ∷ looks) ∷ []))
+    (object_record [] ((line 0 0 (set_start 50 0 false) ∷ []) ∷ []) ((case_object_line 0 0 (set_entry_of 50 0 1 0) ∷ []) ∷ [])
+    ((answers.Old 0 0 ∷ []) ∷ told ∷ [])) (TimersList 0 ∷ CountersList 1 ∷ [])
+    ((did 0 (Entered 0 1 (set_start 50 0 false) ∷ Made 0 1 (set_entry_of 50 0 1 0) ∷ []) 0 2 ∷ []) ∷ times ∷ [])
+
+-- the settime is right, whatever the looks
+set_right : (looks : List LaneCall) (told : List Answer) (times : List Trace) → IsRight (set_beside looks told times) (at 0 0) (settime_to 50) (answers.Old 0 0)
+unfolding after_entry changed passed
+set_right looks told times =
+    right refl refl refl (refl, tt) (refl, tt) (refl, tt) (record {
+      taken = record { known = refl; good_value = lt refl; good_interval = lt refl };
+      cancel = None;
+      arm = armings.Generation 1;
+      start = Entered 0 1 (set_start 50 0 false) ∷ [];
+      number = 1;
+      arms = (armed_by 1 50, refl, refl, stays refl refl refl);
+      done = refl;
+    }) (inr (0, le refl, tt, (1, le refl, (point_passes _ _ _ _ _ refl, in_its_turn (refl, (refl, refl, λ e. refl)) refl refl), le refl)))
+    (record { armed = refl; running = refl; moving = refl })
+
 -- ---- a lane looks how an object is set, and then at its timer, beside another lane's settime
 
 -- its witness
 abbrev armed_witness : Witness
-armed_witness = witness_along armed_script armed_record (TimersList 0 ∷ CountersList 1 ∷ [])
-    ((did 0 (Entered 0 1 (set_start 50 0 false) ∷ Made 0 1 (set_entry_of 50 0 1 0) ∷ []) 0 2 ∷ []) ∷ (did 0 [] 2 2 ∷ did 0 [] 2 2 ∷ []) ∷ [])
+armed_witness = set_beside (by 1 (calls.Gettime 0) ∷ by 1 (calls.Peek 0) ∷ []) (answers.LeftAt 50 0 0 1 ∷ answers.Peek 1 0 true false false ∷ [])
+    (did 0 [] 2 2 ∷ did 0 [] 2 2 ∷ [])
 
 -- law: it fits
 pub armed_fits : Fits armed_script armed_record
@@ -282,16 +310,7 @@ armed_fits = fits_by armed_witness (record {
   object_histories = two (two (refl, tt) (three (lt refl, refl, le refl, le refl, (λ e. absurd (cc), λ e. absurd (cc))) refl tt)) tt;
   placed = (refl, (refl, tt));
   calls = two (
-      two (right refl refl refl (refl, tt) (refl, tt) (refl, tt) (record {
-        taken = record { known = refl; good_value = lt refl; good_interval = lt refl };
-        cancel = None;
-        arm = armings.Generation 1;
-        start = Entered 0 1 (set_start 50 0 false) ∷ [];
-        number = 1;
-        arms = (armed_by 1 50, refl, refl, stays refl refl refl);
-        done = refl;
-      }) (inr (0, le refl, tt, (1, le refl, (point_passes _ _ _ _ _ refl, in_its_turn (refl, (refl, refl, λ e. refl)) refl refl), le refl)))
-      (record { armed = refl; running = refl; moving = refl })) tt
+      two (set_right _ _ _) tt
       ) (two (
       two (right refl refl refl (refl, tt) (refl, tt) (refl, tt) (refl, refl) (inl refl) (refl, refl))
       (two (right refl refl refl (refl, tt) (refl, tt) (refl, tt) refl (inl refl) (record { stamp = refl; holds = refl })) tt)
@@ -302,8 +321,8 @@ armed_fits = fits_by armed_witness (record {
 
 -- its witness
 abbrev between_witness : Witness
-between_witness = witness_along between_script between_record (TimersList 0 ∷ CountersList 1 ∷ [])
-    ((did 0 (Entered 0 1 (set_start 50 0 false) ∷ Made 0 1 (set_entry_of 50 0 1 0) ∷ []) 0 2 ∷ []) ∷ (did 0 [] 1 1 ∷ did 0 [] 1 1 ∷ []) ∷ [])
+between_witness = set_beside (by 1 (calls.Peek 0) ∷ by 1 (calls.Gettime 0) ∷ []) (answers.Peek 1 0 true false false ∷ answers.LeftAt 0 0 0 0 ∷ [])
+    (did 0 [] 1 1 ∷ did 0 [] 1 1 ∷ [])
 
 -- law: it fits
 pub between_fits : Fits between_script between_record
@@ -320,16 +339,7 @@ between_fits = fits_by between_witness (record {
   object_histories = two (two (refl, tt) (three (lt refl, refl, le refl, le refl, (λ e. absurd (cc), λ e. absurd (cc))) refl tt)) tt;
   placed = (refl, (refl, tt));
   calls = two (
-      two (right refl refl refl (refl, tt) (refl, tt) (refl, tt) (record {
-        taken = record { known = refl; good_value = lt refl; good_interval = lt refl };
-        cancel = None;
-        arm = armings.Generation 1;
-        start = Entered 0 1 (set_start 50 0 false) ∷ [];
-        number = 1;
-        arms = (armed_by 1 50, refl, refl, stays refl refl refl);
-        done = refl;
-      }) (inr (0, le refl, tt, (1, le refl, (point_passes _ _ _ _ _ refl, in_its_turn (refl, (refl, refl, λ e. refl)) refl refl), le refl)))
-      (record { armed = refl; running = refl; moving = refl })) tt
+      two (set_right _ _ _) tt
       ) (two (
       two (right refl refl refl (refl, tt) (refl, tt) (refl, tt) refl (inl refl) (record { stamp = refl; holds = refl }))
       (two (right refl refl refl (refl, tt) (refl, tt) (refl, tt) (refl, refl) (inl refl) (refl, refl)) tt)

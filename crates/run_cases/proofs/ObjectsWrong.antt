@@ -16,11 +16,12 @@ use Rattle.run_history.proofs.Actions.{made-append}
 use Rattle.fit_laws.proofs.OwnPoints.{entered_then, same_then, seen, stamp_then}
 use Rattle.run_cases.specs.Fitting.{accepts_script, armed_script, canceled_entry, canceled_script, seen_script, skipped_script, unreadable_script}
 use Rattle.run_cases.specs.Lines.{at, claim_entry, finish_entry, set_entry_of, set_start}
-use Rattle.run_cases.specs.Wrong.{crossed_accepts_record, crossed_record, crossed_script, foreseen_set_record, hasty_skip_record, missed_expiry_record, settimes_record, settimes_script, uncancelled_record, uncancelled_script, unseen_record, unstarted_record}
+use Rattle.run_cases.specs.Wrong.{crossed_accepts_record, crossed_record, crossed_script, early_read_record, foreseen_set_record, hasty_skip_record, missed_expiry_record, settimes_record, settimes_script, twice_script, uncancelled_record, uncancelled_script, unseen_record, unstarted_record}
 use Rattle.run_cases.proofs.ExpiryRuns.{all_by_finish, fired_one, skipped_before_finish}
 use Rattle.fit_laws.proofs.Moments.{all_by_last, all_entered_by, all_later, all_made, all_since, ends_later, none_made, none_yet, object_rises, rises_counted, seen_more}
-use Rattle.fit_laws.proofs.Readings.{reads_no_later}
+use Rattle.fit_laws.proofs.Readings.{began_before, reads_no_later}
 use Rattle.run_cases.proofs.Settimes.{last_is, settime_ends, settime_idle}
+use Rattle.run_cases.proofs.Tests.{lt}
 
 -- ---- an idle timer has an entry by which it is idle
 
@@ -130,6 +131,28 @@ missed_expiry_doesnt_fit o =
       arith,
       look.holds.0,
       all_made w f.history 0 (at 0 2) 1 n refl (all_later w f.history (at 0 2) seen_at n (omega (arith, peek.move_steps.1, look.move_steps.0, later)) all),
+    )
+
+-- ---- a read stands before the first of two expiries, and its lane saw the function of the second
+
+-- law: it does not fit
+pub early_read_doesnt_fit : Fits twice_script early_read_record → ⊥
+early_read_doesnt_fit o =
+    let w = witness_with twice_script early_read_record o.0 o.1 in
+    let f = o.2 in
+    let settime = (f.calls 0).2.2.2.1.0 in
+    let peek = (f.calls 1).1.0 in
+    let read = (f.calls 1).2.1.0 in
+    let set_at = (o.1 (at 0 3)).first in
+    let read_at = (o.1 (at 1 1)).first in
+    -- the second settime, behind the first expiry's entry, had begun before the look that found the function of the timer that it started
+    let began = began_before w f.history f.timers (at 0 3) 0 3 (o.1 (at 1 0)).last _ refl settime.begins peek.holds.stamp (lt refl) in
+    let ends = settime_ends 0 4 (set_entry_of 6 1 4 0) settime refl in
+    omega (
+      arith,
+      ends.had,
+      none_made w f.history 0 (at 1 1) 1 read_at refl read.begins,
+      object_rises w 0 set_at read_at (omega (arith, began, peek.move_steps.1, read.move_steps.0)),
     )
 
 -- ---- of two lanes each sets its descriptor, and sees the other's as it was before

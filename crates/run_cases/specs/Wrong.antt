@@ -5,8 +5,10 @@ use Rattle.clock_model.specs.declared.write.Write.TheVariants as writes
 use Rattle.seq_timer.specs.declared.context.Context.TheVariants as contexts
 use Rattle.seq_timer.specs.declared.standing.BaseEvent.TheVariants as shifts
 use Rattle.record_text.specs.declared.record.Answer.TheVariants as answers
+use Rattle.record_text.specs.declared.record.Armed.TheVariants as armings
 use Rattle.record_text.specs.declared.record.Entry.{Entry}
 use Rattle.record_text.specs.declared.record.ObjectEntry.TheVariants as object_entries
+use Rattle.record_text.specs.declared.record.ReadReply.TheVariants as reads
 use Rattle.record_text.specs.declared.record.RunRecord.{RunRecord}
 use Rattle.record_text.specs.declared.record.TimerLine.{TimerLine}
 use Rattle.record_text.specs.declared.version.Version.TheVariants as versions
@@ -130,6 +132,24 @@ settimes_record = object_record [] ((line 0 0 (set_start 100 0 false) ∷ line 1
 -- a record that breaks it
 abbrev pub missed_expiry_record : RunRecord
 missed_expiry_record = unreadable_by (answers.Peek 3 0 false false false)
+
+-- ---- a read stands before the first of two expiries, and its lane saw the function of the second
+
+-- the script
+abbrev pub twice_script : Script
+twice_script = case_script 1 2 (kinds.Fd 0 ∷ []) ((by 0 (calls.Clock (writes.Advance 10)) ∷ [])
+    ∷ (by 0 (settime_to 5) ∷ by 0 (hard_expire 0 4) ∷ by 0 (settime_to 6) ∷ by 0 (hard_expire 0 4) ∷ by 1 (calls.Peek 0) ∷ by 1 (calls.Read 0 8) ∷ []) ∷ [])
+
+-- a record that breaks it
+abbrev pub early_read_record : RunRecord
+early_read_record = object_record (advance_line 0 0 10 ∷ [])
+    ((line 0 1 (set_start 5 1 false) ∷ line 0 2 (claim_entry 0 1 1) ∷ line 0 2 (finish_entry false 1) ∷ line 0 3 (set_start 6 1 false)
+    ∷ line 0 4 (claim_entry 0 1 4) ∷ line 0 4 (finish_entry false 4) ∷ []) ∷ [])
+    ((case_object_line 0 1 (set_entry_of 5 1 1 0) ∷ case_object_line 1 1 (object_entries.Read 1 armings.None reads.Again)
+    ∷ case_object_line 0 2 (object_entries.Trigger 1 1 true) ∷ case_object_line 0 3 (set_entry_of 6 1 4 0)
+    ∷ case_object_line 0 4 (object_entries.Trigger 4 1 true) ∷ []) ∷ [])
+    ((answers.Clock 1 ∷ answers.Old 0 0 ∷ answers.Done 1 (0 ∷ []) ∷ answers.Old 0 0 ∷ answers.Done 1 (0 ∷ []) ∷ [])
+    ∷ (answers.Peek 5 0 false true false ∷ answers.Again ∷ []) ∷ [])
 
 -- ---- of two lanes each sets its descriptor, and sees the other's as it was before: the script of these settimes and looks
 

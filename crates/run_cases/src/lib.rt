@@ -25,8 +25,9 @@ pub use wrong::{
     no_expiry_is_skipped_before_its_object_is_full,
     no_function_runs_before_the_write_that_makes_it_due, no_hard_expiry_is_missed,
     no_look_misses_an_expiry_that_was_over, no_object_is_armed_before_its_timers_start,
-    no_read_is_canceled_by_a_later_set, no_run_is_done_by_an_old_reading,
-    no_start_ends_on_a_base_off_line, no_start_goes_by_a_later_write,
-    no_timer_expires_before_its_soft_expiry, timers_are_moved_in_turn,
-    two_functions_never_run_at_once_on_a_base, two_lanes_dont_both_come_first,
+    no_read_is_canceled_by_a_later_set, no_read_misses_the_first_of_two_expiries,
+    no_run_is_done_by_an_old_reading, no_start_ends_on_a_base_off_line,
+    no_start_goes_by_a_later_write, no_timer_expires_before_its_soft_expiry,
+    timers_are_moved_in_turn, two_functions_never_run_at_once_on_a_base,
+    two_lanes_dont_both_come_first,
 };
