@@ -1,6 +1,6 @@
 -- What a call on an object does to the object's timer, as parts of the call: its disarming, a start, the receipts of both, and the timer after them.
 use Rattle.call_laws.proofs.Starts.{entries_so, told_so}
-use Rattle.call_laws.proofs.Noted.{entered_on, notes_of}
+use Rattle.call_laws.proofs.Noted.{HasNoTurns, entered_on, entered_turns, notes_of}
 use Rattle.call_laws.proofs.Parts.{ClockHas, part_logged}
 use Rattle.std.proofs.Common.{Bool, false, ◌≡◌, ◌<◌, ℕ, ◌+◌, Some, List, [], ◌++◌, length, arith, refl, sym, ap, ◌∙◌, subst}
 use Rattle.std.proofs.lemmas.List.{append-nil}
@@ -91,6 +91,7 @@ pub record TimerPart (s : Script) (x : WorldOf) (l : LaneOf) (t : ℕ) (begin w 
   pub seen : Begins l.pass.timers.known.seen begin.seen
   pub mine : begin.mine ≡ l.pass.timers.known.mine
   pub start : List Action
+  pub no_turns : HasNoTurns start
   pub arms : ArmsIn s begin w t mode ns base reading arm start
   pub part : TimersPart s l reading begin w (cancels t cancel ++ start) log
   pub armed : IsArmedSo arm (timer_then x.timers.about w.seen t)
@@ -123,25 +124,25 @@ module _ {s : Script} {x : WorldOf} {l : LaneOf} {call : Call} (next : IsNextCal
 module _ {s : Script} {x : WorldOf} {l : LaneOf} {call : Call} (next : IsNextCall s x l call) (t : ℕ) (reading : ClockReading) {begin v w : KnownOfTimers}
     {cancel : Option (ℕ × ℕ)} (done : List Receipt) {log : List Receipt} (seen : Begins l.pass.timers.known.seen begin.seen)
     (mine : begin.mine ≡ l.pass.timers.known.mine) (before : TimersPart s l reading begin v (cancels t cancel) done) {base : ℕ} where
-  started : {mode : Mode} {ns : ℕ} {arm : Arm} (start : List Action) (more : List Receipt) → log ≡ done ++ more
+  started : {mode : Mode} {ns : ℕ} {arm : Arm} (start : List Action) (more : List Receipt) → HasNoTurns start → log ≡ done ++ more
       → ArmsIn s begin w t mode ns base reading arm start → TimersPart s l reading v w start more
       → IsArmedSo arm (timer_then x.timers.about w.seen t) → TimerPart s x l t begin w mode ns base reading arm cancel log
-  started start more adds arms part armed =
+  started start more none adds arms part armed =
       let both = subst (TimersPart s l reading begin w (cancels t cancel ++ start)) (sym adds)
       (before.0 ++ part.0, part_logged done more [] [] before.1 part.1) in
-      record { seen = seen; mine = mine; start = start; arms = arms; part = both; armed = armed }
+      record { seen = seen; mine = mine; start = start; no_turns = none; arms = arms; part = both; armed = armed }
 
   -- law: no start
   pub start_none : (mode : Mode) (ns : ℕ) → w ≡ v → log ≡ done → TimerPart s x l t begin w mode ns base reading arms.NotAsked cancel log
   start_none mode ns alone same =
-      started [] [] (same ∙ sym (append-nil done)) (λ e joined goes. refl) ([], part_none (begins_same (ap (λ k. k.seen) alone)) (ap (λ k. k.mine) alone)) tt
+      started [] [] (refl, refl) (same ∙ sym (append-nil done)) (λ e joined goes. refl) ([], part_none (begins_same (ap (λ k. k.seen) alone)) (ap (λ k. k.mine) alone)) tt
 
   start_by : (mode : Mode) (ns : ℕ) (a : StartAnswer) (c : StartsTimer x.timers.about v w t (asked_for mode ns 0 base reading) a)
       → log ≡ done ++ receipts_of t (timer_then x.timers.about c.at t).stamp (start_entries (timer_then x.timers.about c.at t) (asked_for mode ns 0 base reading) c.sent c.last a)
       → TimerPart s x l t begin w mode ns base reading (arm_of a) cancel log
   start_by mode ns (starts.Spent n) c adds =
       let looks = looks_made c.made in
-      started [] [] adds (λ e joined goes. refl) ([], part_none looks.0 looks.1)
+      started [] [] (refl, refl) adds (λ e joined goes. refl) ([], part_none looks.0 looks.1)
       (subst (IsArmedSo (arms.Unarmed n)) (sym (timer_after x.timers.about v w t c.at [] c.made)) (sym c.fits.2, c.fits.1, c.fits.0))
   start_by mode ns (starts.Started was generation last outs placed) c adds =
       let o = x.timers.about in
@@ -155,7 +156,9 @@ module _ {s : Script} {x : WorldOf} {l : LaneOf} {call : Call} (next : IsNextCal
       let fits = c.fits.2 in
       let stamp : (step_all u events).stamp ≡ generation = cc in
       let few : u.stamp < s.limit = omega (arith, c.fits.1, (limit_within s o next.world.timers next.range.limit.0 c.at t)) in
-      started (arming_actions t request reading.stamp arming) _ adds (λ e joined goes.
+      let entered = entries_so t request reading u c.sent c.last in
+      started (arming_actions t request reading.stamp arming) _ (subst HasNoTurns (sym entered)
+      (entered_turns t (timer_then o c.at t).stamp (entries_along u events))) adds (λ e joined goes.
       let Reached = WasOffLine (witness_of s e) (length begin.seen) (length w.seen) in
       let off : (b heir : ℕ) → WasOff o v.seen w.seen b heir → Reached b heir =
       λ b heir was. was_wider (witness_of s e) (begins_length before.1.enters.seen) (omega arith) b heir
@@ -165,7 +168,7 @@ module _ {s : Script} {x : WorldOf} {l : LaneOf} {call : Call} (next : IsNextCal
         number,
         is_arming Reached s.limit base u asked c.sent c.last few (sent_seen o v.seen w.seen Reached off base c.sent c.last c.on_way),
       ))
-      (part_of next t reading c.made (λ clock has. start_reads t request reading u c.sent c.last clock has) (entries_so t request reading u c.sent c.last))
+      (part_of next t reading c.made (λ clock has. start_reads t request reading u c.sent c.last clock has) entered)
       (ap (λ (y : Timer). y.stamp) (timer_after o v w t c.at (entries_along u events) c.made ∙ along u events) ∙ stamp)
 
   -- law: a start that was wanted

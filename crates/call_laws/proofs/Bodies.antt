@@ -93,6 +93,7 @@ module _ (s : Script) (o : Opening) (is : o ≡ opening_for s) (some : 1 ≤ s.l
         object_more = [];
         adds = (logs, same_log ∙ sym (append-nil h.object_log.receipts));
         enters = enters_none looks.0 looks.1;
+        whole = refl;
         part = part_alone same (part_looked claim number event observation reply looks.0 looks.1 noted
             (omega (arith, counted, (count_begins (TimersList c.timer) made.from))) (omega (arith, counted, (count_begins (TimersList c.timer) made.seen))));
         ran = λ e joined goes finish restarted.
@@ -113,6 +114,7 @@ module _ (s : Script) (o : Opening) (is : o ≡ opening_for s) (some : 1 ≤ s.l
         object_more = [];
         adds = (logs, same_log ∙ sym (append-nil h.object_log.receipts));
         enters = its.1.enters;
+        whole = refl;
         part = part_alone same (part_claimed claim (receipts_of c.timer (timer_then o at c.timer).stamp (e ∷ [])) [] its.1);
         ran = λ e joined goes finish restarted. (does e joined goes finish restarted, tt);
       }
@@ -129,6 +131,7 @@ module _ (s : Script) (o : Opening) (is : o ≡ opening_for s) (some : 1 ≤ s.l
         object_more = [];
         adds = (run.1 ∙ sym (append-nil h.log.receipts), same_log ∙ sym (append-nil h.object_log.receipts));
         enters = enters_none looks.0 looks.1;
+        whole = refl;
         part = part_alone same (part_claimed claim [] [] (part_none looks.0 looks.1));
         ran = λ e joined goes finish restarted. (rw kind (refl, ap asks run.2), tt);
       }

@@ -32,7 +32,7 @@ use Rattle.run_history.proofs.Kept.{IsKept}
 use Rattle.run_history.proofs.Known.{AreMade}
 use Rattle.run_history.proofs.Promise.{kept_from, reading_seen}
 use Rattle.lane_world.specs.Called.{LaneOf, LeavesClock, ReadsClock}
-use Rattle.lane_world.proofs.Kept.{base_note_place, entries_told, note_place, places_noted, told_in, of_base, of_entry, of_object, of_write, ToldNote, Follows, IsNextCall, log_of, seen_by, SeesOn, StandAt}
+use Rattle.lane_world.proofs.Kept.{base_note_place, entries_told, note_place, places_noted, told_in, of_base, of_entry, of_write, ToldNote, Follows, IsNextCall, log_of, seen_by, SeesOn, StandAt, turn_notes}
 use Rattle.lane_world.proofs.SeenMore.{begins_same}
 use Rattle.lane_world.specs.Worlds.{WorldOf}
 use Rattle.lane_world.specs.declared.WorldPass.{WorldPass}
@@ -82,6 +82,10 @@ none_there : {X Y : Type 0} (g : X → Option Y) → ((x : X) → g x ≡ None) 
 none_there g is [] = refl
 none_there g is (x ∷ xs) = ap (λ o. present (o ∷ map g xs)) (is x) ∙ none_there g is xs
 
+no_turns_there : (s : Script) (ns : List ObjectNote) → present (map (λ n. place_told s (told_in n)) (turn_notes ns)) ≡ []
+no_turns_there s [] = refl
+no_turns_there s (n ∷ ns) = no_turns_there s ns
+
 -- the places that notes tell, of those of each kind
 places_in : (s : Script) (notes : NotesOf)
     → present (map (place_told s) (entries_told notes)) ≡ map note_place notes.entries ++ map (base_note_place (length s.timers)) notes.bases
@@ -91,10 +95,10 @@ places_in s notes =
     λ xs ys. ap present (map-append place xs ys) ∙ present-append (map place xs) (map place ys) in
     let of : (X : Type 0) (make : X → ToldNote) (xs : List X) → present (map place (map make xs)) ≡ present (map (λ x. place (make x)) xs) =
     λ X make xs. ap present (map-map place make xs) in
-    let rises = map of_write notes.writes ++ map of_object notes.objects in
-    let none : present (map place rises) ≡ [] = parts (map of_write notes.writes) (map of_object notes.objects)
-    ∙ ap (λ ps. ps ++ present (map place (map of_object notes.objects))) (of WriteNote of_write notes.writes ∙ none_there (λ n. place (of_write n)) (λ n. refl) notes.writes)
-    ∙ of ObjectNote of_object notes.objects ∙ none_there (λ n. place (of_object n)) (λ n. refl) notes.objects in
+    let rises = map of_write notes.writes ++ turn_notes notes.objects in
+    let none : present (map place rises) ≡ [] = parts (map of_write notes.writes) (turn_notes notes.objects)
+    ∙ ap (λ ps. ps ++ present (map place (turn_notes notes.objects))) (of WriteNote of_write notes.writes ∙ none_there (λ n. place (of_write n)) (λ n. refl) notes.writes)
+    ∙ no_turns_there s notes.objects in
     ap present (map-map (place_told s) told_in (told_notes notes))
     ∙ parts (map of_entry notes.entries) (map of_base notes.bases ++ rises)
     ∙ ap (λ ps. ps ++ present (map place (map of_base notes.bases ++ rises)))

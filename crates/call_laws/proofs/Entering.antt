@@ -1,23 +1,20 @@
 -- Entries that a call makes of a timer, as receipts: where they stand in what its pass has seen, and the record's entries that show them.
 use Rattle.hr_timers.proofs.Moments.{stamp_then}
-use Rattle.run_history.proofs.Lists.{all_at, at_left, at_seam, each}
+use Rattle.run_history.proofs.Lists.{all_at, each}
 use Rattle.run_history.specs.Objects.{present}
 use Rattle.lane_notes.proofs.Receipts.{present-append}
 use Rattle.base_row.specs.Plays.{RisesFrom}
 use Rattle.pass_names.specs.SharedHistory.{LooksOn}
-use Rattle.seq_timer.specs.declared.system.SystemEntry.TheVariants as entries
-use Rattle.std.proofs.lemmas.Option.{slice_get_within}
-use Rattle.std.proofs.Math.Seq.{take-append_seam}
 use Rattle.run_history.proofs.Known.{behind_all}
 use Rattle.std.proofs.Common.{◌<◌, ◌≤◌}
-use Rattle.std.proofs.Common.{◌≡◌, ℕ, ◌+◌, Option, None, Some, List, [], ◌∷◌, ◌++◌, length, map, take, arith, refl, sym, ap, ◌∙◌, subst}
-use Rattle.std.specs.List.{AllByRecursion, slice_get}
+use Rattle.std.proofs.Common.{◌≡◌, ℕ, ◌+◌, Option, None, Some, List, [], ◌∷◌, ◌++◌, length, map, arith, refl, sym, ap, ◌∙◌, subst}
+use Rattle.std.specs.List.{AllByRecursion}
 use Rattle.std.proofs.lemmas.List.{append_assoc, append-nil, length-map, map-append}
 use Rattle.hr_timers.specs.Moves.{ShiftsBase}
 use Rattle.run_history.proofs.Known.{shift_made, shows_made_on}
 use Rattle.script_text.specs.Declarations.{declareds_of, terms_of}
 use Rattle.script_text.specs.declared.script.Script.{Script}
-use Rattle.seq_timer.specs.Systems.{rises_of, shifts_of}
+use Rattle.seq_timer.specs.Systems.{shifts_of}
 use Rattle.seq_timer.specs.declared.standing.BaseEvent.{BaseEvent}
 use Rattle.std.proofs.lemmas.Simd.{map-map}
 use Rattle.seq_timer.specs.declared.context.Terms.{Terms}
@@ -35,6 +32,7 @@ use Rattle.record_text.specs.declared.record.RunRecord.{RunRecord}
 use Rattle.run_history.proofs.Stamped.{all_stamped_shown, entry_stamped, HasReading, HaveReadings}
 use Rattle.run_history.specs.Receipts.{count, PlacedEntry, receipt, ShowsEntry}
 use Rattle.run_history.proofs.Known.{adds_made, AreEntries, AreMade, made-append, made_goes_on, made_wider, none_made, numbered, shows_made}
+use Rattle.run_history.proofs.Known.{one_note, rise_made}
 use Rattle.script_text.proofs.Lists.{All-append}
 use Rattle.run_history.proofs.Owners.{timers_entry}
 use Rattle.run_history.specs.Witnesses.{OfBase, OfRise, OfTimer, Shown, TimersList}
@@ -118,12 +116,6 @@ pub made_inside : {order : List SystemEntry} {low high : ℕ} {notes : List Plac
 made_inside {low = low} {notes = notes} made =
     each _ notes (λ j x at. (all_at _ notes j x (behind_all low low notes (omega arith) made.rise) at, all_at _ notes j x made.below at))
 
--- a receipt by itself
-single : (notes : List PlacedEntry) (y : ℕ × Shown) → map receipt notes ≡ y ∷ [] → (n : PlacedEntry) × (notes ≡ n ∷ []) × (receipt n ≡ y)
-single [] y is = absurd (cc)
-single (n ∷ []) y is = (n, refl, cc)
-single (n ∷ m ∷ notes) y is = absurd (cc)
-
 -- a pass made one entry, with this receipt
 abbrev pub EntersOne : Script → (List ClockLine → Type 0) → KnownOfTimers → KnownOfTimers → ℕ × Shown → Type 0
 EntersOne s IsSo v w r = (n : PlacedEntry) × EntersNotes s IsSo v w (n ∷ []) × (receipt n ≡ r)
@@ -134,7 +126,7 @@ pub enters_once : (s : Script) (IsSo : List ClockLine → Type 0) (o : Opening) 
     → number ≡ (timer_then o x t).stamp + 1 → EntersOne s IsSo v w (number, OfTimer t (entry_stamped e))
 enters_once s IsSo o {t = t} {e = e} {number = number} is made reads counted =
     let at = enters_at s IsSo o is made (λ clock so. (reads clock so, tt)) in
-    let one = single at.0 (number, OfTimer t (entry_stamped e)) (rw counted at.2) in (one.0, rw one.1 at at.1, one.2)
+    let one = one_note at.0 (number, OfTimer t (entry_stamped e)) (rw counted at.2) in (one.0, rw one.1 at at.1, one.2)
 
 -- law: so is an entry of a base
 pub enters_shift : {s : Script} {IsSo : List ClockLine → Type 0} {o : Opening} {v w : KnownOfTimers} {base number : ℕ} {event : BaseEvent}
@@ -142,7 +134,7 @@ pub enters_shift : {s : Script} {IsSo : List ClockLine → Type 0} {o : Opening}
     → EntersOne s IsSo v w (number, OfBase base event)
 enters_shift {s = s} {v = v} {w = w} {base = base} {number = number} {event = event} many shift counted =
     let its = shift_made v.seen shift.seen.rest base event (ap (shifts_of base) (sym shift.seen.whole) ∙ shift.own) in
-    let one = single its.0 (number, OfBase base event) (its.2 ∙ ap (λ n. (n, OfBase base event) ∷ []) (sym counted)) in (
+    let one = one_note its.0 (number, OfBase base event) (its.2 ∙ ap (λ n. (n, OfBase base event) ∷ []) (sym counted)) in (
       one.0,
       record {
         seen = shift.seen;
@@ -160,40 +152,16 @@ enters_shift {s = s} {v = v} {w = w} {base = base} {number = number} {event = ev
 -- law: so is a rise of a counter, by the exchange that raised it
 pub enters_rise : {s : Script} {IsSo : List ClockLine → Type 0} {v w : KnownOfTimers} (k n : ℕ) → LooksOn v w → RisesFrom k n v.seen w.seen
     → EntersOne s IsSo v w (n + 1, OfRise k)
-enters_rise {v = v} {w = w} k n looks rises =
-    let place = length rises.before in
-    let note : PlacedEntry = record { place = place; number = n + 1; shown = OfRise k } in
-    let low = begins_length rises.seen in
-    let at : slice_get w.seen place ≡ Some (entries.Rise k) = ap (λ xs. slice_get xs place) rises.last ∙ at_seam rises.before [] (entries.Rise k) in
-    let high = slice_get_within w.seen place (entries.Rise k) at in (
-      note,
+enters_rise {s = s} {v = v} {w = w} k n looks rises =
+    let one = rise_made k n (length v.seen) rises.before w.seen rises.last rises.count (begins_length rises.seen) in (
+      one.0,
       record {
         seen = looks.seen;
-        made = record {
-          rise = (low, tt);
-          below = (high, tt);
-          made = (
-            record {
-              step = entries.Rise k;
-              there = at;
-              owner = refl;
-              number = ap (λ xs. rises_of k (take place xs) + 1) rises.last
-                  ∙ ap (λ xs. rises_of k xs + 1) (take-append_seam rises.before (entries.Rise k ∷ [])) ∙ ap (λ m. m + 1) rises.count;
-            },
-            tt,
-          );
-        };
-        mine = looks.mine ∙ sym (append-nil v.mine);
-        shows = λ r order later whole so. (
-          record {
-            step = entries.Rise k;
-            there = ap (λ xs. slice_get xs place) whole ∙ at_left w.seen later place (entries.Rise k) at;
-            entry = refl;
-          },
-          tt,
-        );
+        made = one.1;
+        mine = looks.mine ∙ sym (append-nil v.mine) ∙ ap (λ r. v.mine ++ present (place_told s r ∷ [])) (sym one.2);
+        shows = λ r order later whole so. shows_made_on r order w.seen later n (one.0 ∷ []) _ (OfRise k ∷ []) whole one.3 (ap (λ y. y ∷ []) one.2) refl;
       },
-      refl,
+      one.2,
     )
 
 -- law: a call that made no entry of its timer saw more, and made none

@@ -63,6 +63,7 @@ run_later {s = s} {label = label} {context = context} {base = base} {reading = r
       notes = run.notes;
       claimed = run.claimed;
       part = part_looks run.part looks.seen looks.mine;
+      whole = run.whole;
       have = λ e joined goes.
           have_later (witness_of s e) e.order context base reading.stamp (length v.seen) run.fired run.notes (length w.seen) (length w'.seen)
           (begins_length looks.seen) (run.have e joined (goes_before looks.seen goes));
@@ -90,7 +91,7 @@ module _ {s : Script} {x : WorldOf} {l m : LaneOf} {a : Answer} {context : Conte
   keeps_run told run fits =
       rw run.claimed (keeps_part next m (told (map (λ f. f.timer) run.fired))
       (expiring base c.reading.stamp (length l.pass.timers.known.seen) (length m.pass.timers.known.seen) run.fired) run.part (reading_goes_on l.pass m.pass c.reading c.reads)
-      (clock_left c.reads.same) (c.notes ∙ with_done-joins l.notes l.label (c.log ++ c.callback_log) c.object_log) refl c.reads.count
+      (clock_left c.reads.same) (c.notes ∙ with_done-joins l.notes l.label (c.log ++ c.callback_log) c.object_log) refl c.reads.count run.whole
       (λ e follows joined has kept low. fits e follows joined kept low (run.have e joined follows.timers)))
 
   -- the callbacks
@@ -115,12 +116,12 @@ module _ {s : Script} {x : WorldOf} {l m : LaneOf} {a : Answer} {context : Conte
       → KeepsCall s l (calls.Expire context base budget) (expire_told c.reading.stamp (claimed_in c.log) answer) m
   answer_kept (expiries.More n) run =
       let ran = callbacks_kept n m.pass.timers.known run.1 in
-      keeps_run (λ ts. answers.More c.reading.stamp ts) ran (λ e follows joined kept low have. expire_more e.order joined.entries kept low have (ran.many ∙ run.0))
+      keeps_run (λ ts. answers.More c.reading.stamp ts) ran (λ e follows joined kept low have. expire_more e.order kept low have (ran.many ∙ run.0))
   answer_kept (expiries.Done n) run =
       let ran = run_later (callbacks_kept n run.1.0 run.1.1) run.1.2.0 in
       let none = run.1.2.1 in
       keeps_run (λ ts. answers.Done c.reading.stamp ts) ran
-      (λ e follows joined kept low have. expire_done e.order joined.entries kept low have (omega (arith, ran.many, run.0)) (record {
+      (λ e follows joined kept low have. expire_done e.order kept low have (omega (arith, ran.many, run.0)) (record {
         free = λ t. held e follows joined (λ u r. runs_on base (seen_in context (u.timers t)) ≡ false) (none.idle t);
         first = held e follows joined (λ u r. next_on context (u.bases base) r ≡ None) none.first;
         stopped = λ clock. held e follows joined (λ u r. IsStopped (in_context context u.timers) base r clock) (none.none clock);
@@ -128,7 +129,7 @@ module _ {s : Script} {x : WorldOf} {l m : LaneOf} {a : Answer} {context : Conte
   answer_kept (expiries.BaseBusy n t g) run =
       let ran = run_later (callbacks_kept n run.1.0 run.1.1) run.1.2.0 in
       keeps_run (λ ts. answers.Busy c.reading.stamp ts t g) ran
-      (λ e follows joined kept low have. expire_busy e.order joined.entries kept low have (omega (arith, ran.many, run.0))
+      (λ e follows joined kept low have. expire_busy e.order kept low have (omega (arith, ran.many, run.0))
       (held e follows joined (λ u r. running_on base (seen_in context (u.timers t)) ≡ Some g) run.1.2.1))
 
   -- law: a lane keeps an expiry run

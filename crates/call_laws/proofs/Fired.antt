@@ -2,7 +2,7 @@
 use Rattle.std.proofs.lemmas.List.Sorted.{IsPermutation-middle}
 use Rattle.hr_timers.proofs.Moments.{declared_kept}
 use Rattle.call_laws.proofs.Entering.{EntersOne}
-use Rattle.call_laws.proofs.Noted.{notes_of, one_noted, same-trans, same_notes, SameNotes}
+use Rattle.call_laws.proofs.Noted.{HasWholeTurns, notes_of, one_noted, whole_turns-append, same-trans, same_notes, SameNotes}
 use Rattle.call_laws.proofs.Parts.{part_entry, part_noted, part_then}
 use Rattle.lane_notes.specs.Notes.{both_noted}
 use Rattle.lane_notes.specs.Objects.{object_note, skip_note}
@@ -95,6 +95,7 @@ pub record RunKept (s : Script) (label : Label) (context : Context) (base : ℕ)
   pub notes : List PlacedEntry
   pub claimed : claimed_in log ≡ map (λ f. f.timer) fired
   pub part : IsPart s (ClockHas reading) label k p k' p' (flat_map (fires base reading.stamp) fired) notes (notes_of label (log ++ callback_log) object_log)
+  pub whole : HasWholeTurns (flat_map (fires base reading.stamp) fired)
   pub have : (e : Ending) → IsJoined s e → promises.GoesOn k'.seen e
       → HaveRun (witness_of s e) e.order context base reading.stamp (length k.seen) fired notes (length k'.seen)
 
@@ -260,6 +261,7 @@ module _ (s : Script) (x : WorldOf) (is : IsWorldOf s x) (some : 1 ≤ s.limit) 
         notes = run.notes ++ notes;
         claimed = rw (turn.receipts, claimed_in-append log more, run.claimed) (sym (map-append (λ (g : Fired). g.timer) run.fired (f ∷ [])));
         part = rw all (part_noted (same-trans (same_notes logs) order) (part_then run.part part));
+        whole = rw all (whole_turns-append done one run.whole (whole_turns-append b.body finishing b.whole refl));
         have = λ e joined goes.
             let one_run = turn_ran claim b (u.stamp + 1) restarted own finish e joined goes in
             rw one_run.1 (run_push (witness_of s e) e.order context base at (length k.seen) run.fired run.notes (length k1.seen) f (length k'.seen)
@@ -282,6 +284,7 @@ module _ (s : Script) (x : WorldOf) (is : IsWorldOf s x) (some : 1 ≤ s.limit) 
         notes = [];
         claimed = refl;
         part = part_none (begins_same refl) refl;
+        whole = refl;
         have = λ e joined goes. (refl, omega arith);
       } in (
         rw (turns.0, turns.1, turns.2, fresh, fresh_objects) none,

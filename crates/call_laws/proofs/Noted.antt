@@ -1,5 +1,5 @@
 -- What a call noted, as its actions say it.
-use Rattle.std.proofs.Common.{◌≡◌, ℕ, suc, ◌+◌, nat_eq, List, [], ◌∷◌, ◌++◌, map, refl, sym, ap, ◌∙◌, subst}
+use Rattle.std.proofs.Common.{◌≡◌, ℕ, suc, ◌+◌, ◌-◌, nat_eq, List, [], ◌∷◌, ◌++◌, map, arith, refl, sym, ap, ◌∙◌, subst}
 use Rattle.std.specs.List.{AllByRecursion}
 use Rattle.std.specs.List.Sorted.{IsPermutation}
 use Rattle.std.proofs.lemmas.List.{append_assoc, append-nil, map-append}
@@ -9,7 +9,9 @@ use Rattle.base_row.specs.Logs.{receipts_of}
 use Rattle.base_row.specs.declared.log.Receipt.{Receipt}
 use Rattle.timer_objects.specs.declared.log.ObjectReceipt.{ObjectReceipt}
 use Rattle.record_text.specs.declared.record.Label.{Label}
-use Rattle.run_history.specs.Actions.{Action, Entered, Looked, Made, Shifted, Skipped, Wrote, also, looked, made, skipped, wrote}
+use Rattle.record_text.specs.declared.record.ObjectEntry.{ObjectEntry}
+use Rattle.lane_notes.specs.declared.notes.ObjectNote.{ObjectNote}
+use Rattle.run_history.specs.Actions.{Action, Began, Entered, Looked, Made, Shifted, Skipped, Wrote, also, looked, made, skipped, wrote}
 use Rattle.run_history.specs.Traces.{all_entered}
 use Rattle.run_history.proofs.Known.{numbered}
 use Rattle.run_history.proofs.Stamped.{entry_stamped}
@@ -19,9 +21,10 @@ use Rattle.lane_notes.specs.Objects.{object_note, object_notes, skip_note, skip_
 use Rattle.lane_notes.proofs.Standing.{All-permuted}
 use Rattle.lane_world.specs.Called.{with_done, with_shift}
 use Rattle.seq_timer.specs.declared.standing.BaseEvent.{BaseEvent}
-use Rattle.run_history.specs.Witnesses.{OfBase, OfRise, OfTimer}
-use Rattle.lane_world.proofs.Kept.{BaseNotes, EntryNotes, LookNotes, NoteKind, NoteOf, ObjectNotes, SkipNotes, WriteNotes, each_both, each_none, entries_told, label_of, list_of, looks_on, made_on, of_base, of_entry, of_object, of_write, skips_on, told_in, ToldNote}
-use Rattle.lane_world.proofs.PartLists.{both_noted-assoc, notes-append, notes_same, same_order}
+use Rattle.run_history.specs.Witnesses.{OfBase, OfRise, OfTimer, Shown}
+use Rattle.lane_world.proofs.Kept.{BaseNotes, EntryNotes, LookNotes, NoteKind, NoteOf, ObjectNotes, SkipNotes, WriteNotes, each_both, each_none, entries_told, label_of, list_of, looks_on, made_on, of_base, of_entry, of_object, of_turn, of_write, skips_on, told_in, turn_notes}
+use Rattle.lane_world.proofs.PartLists.{both_noted-assoc, notes-append, notes_same, same_order, turns_by_kind}
+use Rattle.std.proofs.lemmas.Simd.{map-map}
 
 -- ---- of actions
 
@@ -34,6 +37,7 @@ one_noted label (Made i number entry) = record no_notes { objects = record { lab
 one_noted label (Skipped i number generation) =
     record no_notes { skips = record { label = label; object = i; number = number; generation = generation } ∷ [] }
 one_noted label (Shifted base number event) = record no_notes { bases = record { label = label; base = base; number = number; event = event } ∷ [] }
+one_noted label (Began i stamp) = no_notes
 one_noted label (Wrote number write) = no_notes
 
 -- the notes of what a call did, in its order
@@ -77,43 +81,124 @@ noted_skips i label [] = refl
 noted_skips i label (Skipped j number generation ∷ ds) = ap (also (nat_eq j i) (number, generation)) (noted_skips i label ds)
 noted_skips i label (d ∷ ds) = noted_skips i label ds
 
+-- law: no write's
+pub noted_writes : (label : Label) (ds : List Action) → (noted_by label ds).writes ≡ []
+noted_writes label [] = refl
+noted_writes label (Wrote number write ∷ ds) = noted_writes label ds
+noted_writes label (d ∷ ds) = noted_writes label ds
+
+-- ---- turns of objects
+
+-- the turns that a call began, and those in which it made its entry: the object, and the entry's number
+abbrev pub turns_begun : List Action → List (ℕ × ℕ)
+turns_begun [] = []
+turns_begun (Began i stamp ∷ ds) = (i, stamp + 1) ∷ turns_begun ds
+turns_begun (d ∷ ds) = turns_begun ds
+
+abbrev pub turns_made : List Action → List (ℕ × ℕ)
+turns_made [] = []
+turns_made (Made i number entry ∷ ds) = (i, number) ∷ turns_made ds
+turns_made (d ∷ ds) = turns_made ds
+
+-- each turn that began has its entry
+abbrev pub HasWholeTurns : List Action → Type 0
+HasWholeTurns ds = turns_begun ds ≡ turns_made ds
+
+turns_begun-append : (ds es : List Action) → turns_begun (ds ++ es) ≡ turns_begun ds ++ turns_begun es
+turns_begun-append [] es = refl
+turns_begun-append (Began i stamp ∷ ds) es = ap (λ ts. (i, stamp + 1) ∷ ts) (turns_begun-append ds es)
+turns_begun-append (d ∷ ds) es = turns_begun-append ds es
+
+turns_made-append : (ds es : List Action) → turns_made (ds ++ es) ≡ turns_made ds ++ turns_made es
+turns_made-append [] es = refl
+turns_made-append (Made i number entry ∷ ds) es = ap (λ ts. (i, number) ∷ ts) (turns_made-append ds es)
+turns_made-append (d ∷ ds) es = turns_made-append ds es
+
+-- law: of two parts
+pub whole_turns-append : (ds es : List Action) → HasWholeTurns ds → HasWholeTurns es → HasWholeTurns (ds ++ es)
+whole_turns-append ds es one two = turns_begun-append ds es ∙ (λ i. one i ++ two i) ∙ sym (turns_made-append ds es)
+
+-- no turn of an object
+abbrev pub HasNoTurns : List Action → Type 0
+HasNoTurns ds = (turns_begun ds ≡ []) × (turns_made ds ≡ [])
+
+-- law: a turn in which the call did what is no turn
+pub whole_turn : (i stamp : ℕ) (entry : ObjectEntry) (ds : List Action) → HasNoTurns ds → HasWholeTurns (Began i stamp ∷ ds ++ Made i (stamp + 1) entry ∷ [])
+whole_turn i stamp entry ds none =
+    ap (λ ts. (i, stamp + 1) ∷ ts) (turns_begun-append ds _ ∙ ap (λ ts. ts ++ []) none.0)
+    ∙ sym (turns_made-append ds _ ∙ ap (λ ts. ts ++ (i, stamp + 1) ∷ []) none.1)
+
+-- the moves of turns
+abbrev begin_told : ℕ × ℕ → ℕ × Shown
+begin_told t = (t.1 + t.1 - 1, OfRise (suc t.0))
+
+abbrev end_told : ℕ × ℕ → ℕ × Shown
+end_told t = (t.1 + t.1, OfRise (suc t.0))
+
 -- what comes in front of two parts stands between them in another order
 in_middle : {X : Type 0} (this : X) (all xs ys whole : List X) → IsPermutation all (xs ++ ys) → whole ≡ xs ++ this ∷ ys → IsPermutation (this ∷ all) whole
 in_middle this all xs ys whole same is =
     IsPermutation-trans (this ∷ all) (this ∷ (xs ++ ys)) whole (IsPermutation-cons this all (xs ++ ys) same)
     (subst (IsPermutation (this ∷ (xs ++ ys))) (sym is) (IsPermutation-sym (xs ++ this ∷ ys) (this ∷ (xs ++ ys)) (IsPermutation-middle xs this ys)))
 
--- law: the entries of timers, bases and objects, in another order, where nothing was written
-pub noted_entries : (label : Label) (ds : List Action) → wrote ds ≡ [] → IsPermutation (all_entered ds) (entries_told (noted_by label ds))
-noted_entries label [] none = IsPermutation-refl []
-noted_entries label (Entered timer number entry ∷ ds) none = IsPermutation-cons _ _ _ (noted_entries label ds none)
-noted_entries label (Wrote number write ∷ ds) none = absurd (cc)
-noted_entries label (Shifted base number event ∷ ds) none =
-    let rest = noted_by label ds in
-    let this : ToldNote = record { label = label; number = number; shown = OfBase base event } in
-    let others = map of_base rest.bases ++ (map of_write rest.writes ++ map of_object rest.objects) in
-    let split = map-append told_in (map of_entry rest.entries) in
-    in_middle (told_in this) (all_entered ds) (map told_in (map of_entry rest.entries)) (map told_in others) _
-    (subst (IsPermutation (all_entered ds)) (split others) (noted_entries label ds none)) (split (this ∷ others))
-noted_entries label (Looked timer number reply ∷ ds) none = noted_entries label ds none
-noted_entries label (Made i number entry ∷ ds) none =
-    let rest = noted_by label ds in
-    let this : ToldNote = record { label = label; number = number; shown = OfRise (suc i) } in
-    let es = map of_entry rest.entries in
-    let bs = map of_base rest.bases in
-    let ws = map of_write rest.writes in
-    let front = es ++ (bs ++ ws) in
-    let split : (os : List ToldNote) → map told_in (es ++ (bs ++ (ws ++ os))) ≡ map told_in front ++ map told_in os =
-    λ os. ap (map told_in) (ap (λ zs. es ++ zs) (sym (append_assoc bs ws os)) ∙ sym (append_assoc es (bs ++ ws) os)) ∙ map-append told_in front os in
-    in_middle (told_in this) (all_entered ds) (map told_in front) (map told_in (map of_object rest.objects)) _
-    (subst (IsPermutation (all_entered ds)) (split (map of_object rest.objects)) (noted_entries label ds none)) (split (this ∷ map of_object rest.objects))
-noted_entries label (Skipped i number generation ∷ ds) none = noted_entries label ds none
+-- what was done, by kinds: entries of timers and of bases, beginnings of turns, and their ends
+kinds_noted : (label : Label) (ds : List Action) → wrote ds ≡ [] → let ns = noted_by label ds in
+    IsPermutation (all_entered ds)
+    (map told_in (map of_entry ns.entries) ++ (map told_in (map of_base ns.bases) ++ (map begin_told (turns_begun ds) ++ map end_told (turns_made ds))))
+kinds_noted label [] none = IsPermutation-refl []
+kinds_noted label (Entered timer number entry ∷ ds) none = IsPermutation-cons _ _ _ (kinds_noted label ds none)
+kinds_noted label (Wrote number write ∷ ds) none = absurd (cc)
+kinds_noted label (Looked timer number reply ∷ ds) none = kinds_noted label ds none
+kinds_noted label (Skipped i number generation ∷ ds) none = kinds_noted label ds none
+kinds_noted label (Shifted base number event ∷ ds) none =
+    in_middle (number, OfBase base event) (all_entered ds) (map told_in (map of_entry (noted_by label ds).entries)) _ _ (kinds_noted label ds none) refl
+kinds_noted label (Began i stamp ∷ ds) none =
+    let ns = noted_by label ds in
+    let es = map told_in (map of_entry ns.entries) in
+    let bs = map told_in (map of_base ns.bases) in
+    let rest = map begin_told (turns_begun ds) ++ map end_told (turns_made ds) in
+    let this : begin_told (i, stamp + 1) ≡ (stamp + stamp + 1, OfRise (suc i)) = ap (λ n. (n, OfRise (suc i))) (omega arith) in
+    in_middle (stamp + stamp + 1, OfRise (suc i)) (all_entered ds) (es ++ bs) rest _
+    (subst (IsPermutation (all_entered ds)) (sym (append_assoc es bs rest)) (kinds_noted label ds none))
+    (ap (λ r. es ++ (bs ++ r ∷ rest)) this ∙ sym (append_assoc es bs ((stamp + stamp + 1, OfRise (suc i)) ∷ rest)))
+kinds_noted label (Made i number entry ∷ ds) none =
+    let ns = noted_by label ds in
+    let es = map told_in (map of_entry ns.entries) in
+    let bs = map told_in (map of_base ns.bases) in
+    let begins = map begin_told (turns_begun ds) in
+    let ends = map end_told (turns_made ds) in
+    let split : (xs : List (ℕ × Shown)) → es ++ (bs ++ (begins ++ xs)) ≡ (es ++ (bs ++ begins)) ++ xs =
+    λ xs. ap (λ ys. es ++ ys) (sym (append_assoc bs begins xs)) ∙ sym (append_assoc es (bs ++ begins) xs) in
+    in_middle (number + number, OfRise (suc i)) (all_entered ds) (es ++ (bs ++ begins)) ends _
+    (subst (IsPermutation (all_entered ds)) (split ends) (kinds_noted label ds none)) (split ((number + number, OfRise (suc i)) ∷ ends))
 
--- law: no write's
-pub noted_writes : (label : Label) (ds : List Action) → (noted_by label ds).writes ≡ []
-noted_writes label [] = refl
-noted_writes label (Wrote number write ∷ ds) = noted_writes label ds
-noted_writes label (d ∷ ds) = noted_writes label ds
+-- the notes of objects tell their turns
+turns_noted : (label : Label) (ds : List Action) → map (λ n. (n.object, n.number)) (noted_by label ds).objects ≡ turns_made ds
+turns_noted label [] = refl
+turns_noted label (Made i number entry ∷ ds) = ap (λ ts. (i, number) ∷ ts) (turns_noted label ds)
+turns_noted label (d ∷ ds) = turns_noted label ds
+
+-- law: what a call entered, in another order, where it wrote nothing and each turn that it began has its entry
+pub noted_entries : (label : Label) (ds : List Action) → wrote ds ≡ [] → HasWholeTurns ds → IsPermutation (all_entered ds) (entries_told (noted_by label ds))
+noted_entries label ds none whole =
+    let ns = noted_by label ds in
+    let es = map told_in (map of_entry ns.entries) in
+    let bs = map told_in (map of_base ns.bases) in
+    let made = turns_noted label ds in
+    let place : ObjectNote → ℕ × ℕ = λ n. (n.object, n.number) in
+    let begins : map begin_told (turns_begun ds) ≡ map told_in (map of_turn ns.objects) =
+    ap (map begin_told) (whole ∙ sym made) ∙ map-map begin_told place ns.objects ∙ sym (map-map told_in of_turn ns.objects) in
+    let ends : map end_told (turns_made ds) ≡ map told_in (map of_object ns.objects) =
+    ap (map end_told) (sym made) ∙ map-map end_told place ns.objects ∙ sym (map-map told_in of_object ns.objects) in
+    let kinds = subst (λ xs. IsPermutation (all_entered ds) (es ++ (bs ++ xs)))
+    ((λ i. begins i ++ ends i) ∙ sym (map-append told_in (map of_turn ns.objects) (map of_object ns.objects))) (kinds_noted label ds none) in
+    let told : entries_told ns ≡ es ++ (bs ++ map told_in (turn_notes ns.objects)) =
+    map-append told_in (map of_entry ns.entries) _ ∙ ap (λ xs. es ++ xs) (map-append told_in (map of_base ns.bases) _
+    ∙ ap (λ ws. bs ++ map told_in (map of_write ws ++ turn_notes ns.objects)) (noted_writes label ds)) in
+    subst (IsPermutation (all_entered ds)) (sym told)
+    (IsPermutation-trans (all_entered ds) _ (es ++ (bs ++ map told_in (turn_notes ns.objects))) kinds
+    (IsPermutation-append es es _ _ (IsPermutation-refl es) (IsPermutation-append bs bs _ _ (IsPermutation-refl bs)
+    (IsPermutation-map told_in _ _ (turns_by_kind ns.objects)))))
 
 -- ---- in another order
 
@@ -146,7 +231,7 @@ module _ {a b : NotesOf} (same : SameNotes a b) where
   -- law: they tell the same entries
   pub told_same : IsPermutation (entries_told b) (entries_told a)
   told_same = IsPermutation-map told_in _ _ (IsPermutation-append _ _ _ _ (IsPermutation-map of_entry _ _ (IsPermutation-sym _ _ same.entries))
-      (same_order (ap (λ (n : NotesOf). map of_base n.bases ++ (map of_write n.writes ++ map of_object n.objects)) (sym same.others))))
+      (same_order (ap (λ (n : NotesOf). map of_base n.bases ++ (map of_write n.writes ++ turn_notes n.objects)) (sym same.others))))
 
 -- ---- of receipts
 
@@ -197,6 +282,11 @@ entered_noted label t k (e ∷ es) =
 pub entered_all : (t k : ℕ) (es : List seq.Entry) → numbered t k (map entry_stamped es) ≡ all_entered (entered_on t k es)
 entered_all t k [] = refl
 entered_all t k (e ∷ es) = ap (λ xs. (k + 1, OfTimer t (entry_stamped e)) ∷ xs) (entered_all t (k + 1) es)
+
+-- law: they are no turns
+pub entered_turns : (t k : ℕ) (es : List seq.Entry) → HasNoTurns (entered_on t k es)
+entered_turns t k [] = (refl, refl)
+entered_turns t k (e ∷ es) = entered_turns t (k + 1) es
 
 -- law: they are no looks and of no object
 pub entered_only : (t k i : ℕ) (es : List seq.Entry) → let ds = entered_on t k es in (looked i ds ≡ []) × (made i ds ≡ [])

@@ -1,10 +1,12 @@
--- A call on an object that made an entry, as its lane keeps it: it found the object's timer, perhaps cancelled and perhaps started it, and then made the entry.
+-- A call on an object that made an entry, as its lane keeps it: its turn began; it found the object's timer, perhaps cancelled and perhaps started it; and then
+-- it made the entry.
 use Rattle.call_laws.proofs.Parts.{ClockHas}
-use Rattle.call_laws.proofs.Noted.{notes_of, notes_of-append, with_done-joins}
-use Rattle.call_laws.proofs.Parts.{part_made, part_none, part_then}
+use Rattle.call_laws.proofs.Entering.{EntersOne}
+use Rattle.call_laws.proofs.Noted.{HasNoTurns, notes_of, notes_of-append, whole_turn, with_done-joins}
+use Rattle.call_laws.proofs.Parts.{part_began, part_made, part_none, part_then}
 use Rattle.call_laws.proofs.Stays.{timer_stays}
 use Rattle.lane_notes.specs.Notes.{both_noted}
-use Rattle.std.proofs.Common.{◌≤◌, ◌≡◌, ℕ, ◌+◌, Option, List, [], length, arith, refl, sym, ap, ◌∙◌, subst, Bool, ◌∷◌, ◌++◌}
+use Rattle.std.proofs.Common.{◌≤◌, ◌≡◌, ℕ, suc, ◌+◌, Option, None, Some, List, [], length, arith, refl, sym, ap, ◌∙◌, subst, Bool, ◌∷◌, ◌++◌}
 use Rattle.ktime.specs.Readings.{ClockReading}
 use Rattle.base_row.specs.declared.log.Receipt.{Receipt}
 use Rattle.hr_timers.specs.Known.{KnownOfTimers, timer_then}
@@ -18,21 +20,23 @@ use Rattle.run_history.specs.Objects.{armed_in_phase}
 use Rattle.script_text.specs.declared.script.Script.{Script}
 use Rattle.lane_notes.specs.Arms.{arm_noted}
 use Rattle.run_history.specs.Runs.{witness_of, Ending, IsJoined, moves_spans}
-use Rattle.run_history.specs.Truths.{IsTrueStart, StoodBefore}
+use Rattle.run_history.specs.Truths.{IsTrueStart}
+use Rattle.run_history.specs.Actions.{Began}
+use Rattle.run_history.specs.Witnesses.{OfRise}
 use Rattle.run_history.specs.Promises.{GoesOn}
 use Rattle.run_history.specs.Receipts.{PlacedEntry}
 use Rattle.run_history.specs.ObjectCalls.{cancels}
-use Rattle.run_history.proofs.Known.{behind_all, made-append, made_goes_on}
+use Rattle.run_history.proofs.Known.{AreMade, behind_all, made-append, made_goes_on}
 use Rattle.timer_objects.specs.Turns.{HasTurn}
 use Rattle.pass_names.specs.Passes.{Begins}
-use Rattle.call_laws.proofs.ObjectTurns.{enters_entry, stood_before}
+use Rattle.call_laws.proofs.ObjectTurns.{enters_entry, enters_turn}
 use Rattle.run_history.proofs.ObjectsMade.{settime_actions}
 use Rattle.run_history.proofs.OthersMade.{plain}
 use Rattle.lane_world.specs.Called.{lane_caller, LaneOf, ReadsClock, with_done}
 use Rattle.lane_world.proofs.Kept.{Follows, IsNextCall, KeepsCall, seen_by}
 use Rattle.lane_world.proofs.SeenMore.{goes_before}
 use Rattle.lane_world.specs.Worlds.{WorldOf}
-use Rattle.pass_names.proofs.Passes.{begins_length, begins_refl, begins_trans}
+use Rattle.pass_names.proofs.Passes.{begins_length}
 use Rattle.timer_setting.specs.declared.arming.Arm.{Arm}
 use Rattle.timer_objects.specs.declared.object.ObjectReply.{ObjectReply}
 use Rattle.timer_objects.specs.declared.object.ObjectCall.{ObjectCall}
@@ -73,9 +77,12 @@ module _ {s : Script} {x : WorldOf} {l : LaneOf} (m : LaneOf) {call : Call} (nex
     {begun w : KnownOfTimers} (turn : HasTurn timer (length enters.commits.adds.before) l.pass.timers.known begun w m.pass.timers.known) {mode : Mode} {ns base : ℕ}
     {reading : ClockReading} {arm : Arm} {cancel : Option (ℕ × ℕ)} {begin : KnownOfTimers}
     (k : TimerPart s x l timer begin w mode ns base reading arm cancel log) (behind : Begins begun.seen begin.seen) where
-  -- the number of the object's entry
+  -- how many entries the object had, and the number of the call's
+  abbrev stamp : ℕ
+  stamp = length enters.commits.adds.before
+
   abbrev number : ℕ
-  number = length enters.commits.adds.before + 1
+  number = stamp + 1
 
   -- the entry, and the object's phase behind it
   abbrev step : ObjectMove
@@ -84,35 +91,61 @@ module _ {s : Script} {x : WorldOf} {l : LaneOf} (m : LaneOf) {call : Call} (nex
   abbrev phase : Phase
   phase = phase_of (object_step enters.commits.state made)
 
-  -- the receipts of the call: those of its part of the timer, and that of the object's entry
+  -- the receipts of the call: that of its turn's beginning, those of its part of the timer, and that of the object's entry
+  abbrev opens : EntersOne s (ClockHas reading) l.pass.timers.known begun (stamp + stamp + 1, OfRise (suc timer))
+  opens = enters_turn turn s (ClockHas reading)
+
+  abbrev closes : EntersOne s (ClockHas reading) w m.pass.timers.known (number + number, OfRise (suc timer))
+  closes = enters_entry turn s (ClockHas reading)
+
   abbrev pub receipts : List PlacedEntry
-  receipts = k.part.0 ++ (enters_entry turn s (ClockHas reading)).0 ∷ []
+  receipts = opens.0 ∷ k.part.0 ++ closes.0 ∷ []
 
-  -- law: they stand behind where the call found its timer, those of its timer before the object's
-  pub stop_first : AllByRecursion (λ y. length begin.seen ≤ y.place) receipts
-  stop_first =
-      let one = enters_entry turn s (ClockHas reading) in
-      let made = made-append m.pass.timers.known.seen (length begin.seen) (length w.seen) (length m.pass.timers.known.seen) k.part.0 (one.0 ∷ [])
-      (made_goes_on m.pass.timers.known.seen w.seen turn.ends.seen.rest (length begin.seen) (length w.seen) k.part.0 turn.ends.seen.whole k.part.1.enters.made)
-      one.1.made (begins_length k.part.1.enters.seen) (begins_length turn.ends.seen) in
-      behind_all (length begin.seen) (length begin.seen) receipts (omega arith) made.rise
+  -- where the turn begins
+  abbrev pub turn_place : ℕ
+  turn_place = opens.0.place
 
-  pub stop_last : Stops l.label receipts (cancels timer cancel ++ k.start) (length w.seen)
-  stop_last =
-      let one = enters_entry turn s (ClockHas reading) in record {
-        early = k.part.0;
-        late = one.0 ∷ [];
-        split = refl;
-        are = k.part.1.are;
-        below = k.part.1.enters.made.below;
-        behind = (one.1.made.rise.0, tt);
-      }
+  pub turn_found : turn_place ≤ length begin.seen
+  turn_found = omega (arith, opens.1.made.below.0, begins_length behind)
+
+  turn_from : length l.pass.timers.known.seen ≤ turn_place
+  turn_from = opens.1.made.rise.0
+
+  -- the receipts behind it
+  made_then : AreMade m.pass.timers.known.seen (length begin.seen) (length m.pass.timers.known.seen) (k.part.0 ++ closes.0 ∷ [])
+  made_then = made-append m.pass.timers.known.seen (length begin.seen) (length w.seen) (length m.pass.timers.known.seen) k.part.0 (closes.0 ∷ [])
+      (made_goes_on m.pass.timers.known.seen w.seen turn.ends.looks.seen.rest (length begin.seen) (length w.seen) k.part.0 turn.ends.looks.seen.whole
+      k.part.1.enters.made) closes.1.made (begins_length k.part.1.enters.seen) (begins_length turn.ends.looks.seen)
+
+  -- law: they stand where the turn begins and behind that; those of the timer behind where the call found it, and before the object's
+  pub stop_first : AllByRecursion (λ y. turn_place ≤ y.place) receipts
+  stop_first = (omega arith, behind_all turn_place (length begin.seen) (k.part.0 ++ closes.0 ∷ []) turn_found made_then.rise)
+
+  pub stop_begun : Stops l.label receipts (Began timer stamp ∷ []) (length begin.seen)
+  stop_begun = record {
+    early = opens.0 ∷ [];
+    late = k.part.0 ++ closes.0 ∷ [];
+    split = refl;
+    are = ap (λ r. r ∷ []) opens.2;
+    below = (omega (arith, opens.1.made.below.0, begins_length behind), tt);
+    behind = behind_all (length begin.seen) (length begin.seen) (k.part.0 ++ closes.0 ∷ []) (omega arith) made_then.rise;
+  }
+
+  pub stop_last : Stops l.label receipts (Began timer stamp ∷ cancels timer cancel ++ k.start) (length w.seen)
+  stop_last = record {
+    early = opens.0 ∷ k.part.0;
+    late = closes.0 ∷ [];
+    split = refl;
+    are = (λ i. opens.2 i ∷ k.part.1.are i);
+    below = (omega (arith, opens.1.made.below.0, begins_length behind, begins_length k.part.1.enters.seen), k.part.1.enters.made.below);
+    behind = (closes.1.made.rise.0, tt);
+  }
 
   -- ---- in a run that goes on from there
 
   module _ {e : Ending} (follows : Follows m.pass e) (joined : IsJoined s e) where
     worked : GoesOn w.seen e
-    worked = goes_before turn.ends.seen follows.timers
+    worked = goes_before turn.ends.looks.seen follows.timers
 
     timer_now : witnesses.timer_along (witness_of s e) (length w.seen) timer ≡ timer_then x.timers.about w.seen timer
     timer_now = timer_stays next.world.timers joined w.seen worked timer
@@ -148,21 +181,14 @@ module _ {s : Script} {x : WorldOf} {l : LaneOf} (m : LaneOf) {call : Call} (nex
         (subst (λ o. IsLike on_clock arm o (witnesses.timer_along (witness_of s e) (length w.seen) timer)) (sym phase_is)
         (subst (IsLike on_clock arm (armed_in_phase phase)) (sym timer_now) like))
 
-    -- law: the object had just the entries before it where the call found its timer, and where it had done its part of that
-    pub stood_first : StoodBefore (witness_of s e) timer number (length begin.seen)
-    stood_first = stood_before turn begin.seen joined follows.timers behind k.part.1.enters.seen
-
-    pub stood_last : StoodBefore (witness_of s e) timer number (length w.seen)
-    stood_last = stood_before turn w.seen joined follows.timers (begins_trans behind k.part.1.enters.seen) (begins_refl w.seen)
-
   -- ---- the call
 
   module _ (reads : ReadsClock l.pass m.pass reading) (notes : m.notes ≡ with_done l.notes l.label log object_log) {entry : ObjectEntry}
       (noted : IsNotedAs (ClockHas reading) made reply entry) where
     -- law: a lane keeps the call, where it fits
     pub keeps_made : (a : Answer) → ((e : Ending) → Follows m.pass e → IsJoined s e → IsKept (witness_of s e) (moves_spans e) l.label
-        (plain reading.stamp (length begin.seen) (length m.pass.timers.known.seen) (settime_actions timer cancel k.start number entry)) receipts call a
-        (seen_by l.pass) (seen_by m.pass) → (moves_spans e).first l.label ≤ length begin.seen
+        (plain reading.stamp turn_place (length m.pass.timers.known.seen) (settime_actions timer cancel k.start stamp entry)) receipts call a
+        (seen_by l.pass) (seen_by m.pass) → (moves_spans e).first l.label ≤ turn_place
         → FitsCall (witness_of s e) l.label call a (seen_by l.pass) (seen_by m.pass))
         → KeepsCall s l call a m
     keeps_made a fits =
@@ -172,10 +198,16 @@ module _ {s : Script} {x : WorldOf} {l : LaneOf} (m : LaneOf) {call : Call} (nex
         let this = receipt_of step.reply ∷ [] in
         let log_is : object_log ≡ this = enters.object_log ∙ ap (λ r. receipt_of r ∷ []) enters.reply in
         let entered = part_made {label = l.label} {q = q.objects} {step = step} enters.commits.adds enters.commits.opening
-        (subst (λ r. IsNotedAs (ClockHas reading) made r entry) enters.reply noted) (enters_entry turn s (ClockHas reading)) in
-        let whole = part_then (part_none {v = p.timers.known} {p = p.objects} {w = begin} k.seen k.mine) (part_then k.part.1 entered) in
-        keeps_part next m a (plain reading.stamp (length begin.seen) (length q.timers.known.seen) (settime_actions timer cancel k.start number entry)) whole
-        (reading_goes_on p q reading reads) (clock_left reads.same)
+        (subst (λ r. IsNotedAs (ClockHas reading) made r entry) enters.reply noted) closes in
+        let found = part_none {v = begun} {p = p.objects} {w = begin} behind (k.mine ∙ sym turn.begins.looks.mine) in
+        let whole = part_then (part_began timer stamp opens) (part_then found (part_then k.part.1 entered)) in
+        keeps_part next m a (plain reading.stamp turn_place (length q.timers.known.seen) (settime_actions timer cancel k.start stamp entry))
+        whole (reading_goes_on p q reading reads) (clock_left reads.same)
         (notes ∙ with_done-joins l.notes l.label log object_log ∙ ap (both_noted l.notes) (ap (notes_of l.label log) log_is
         ∙ ap (λ rs. notes_of l.label rs this) (sym (append-nil log)) ∙ notes_of-append l.label log [] [] this)) refl reads.count
-        (λ e follows joined has kept low. let le = begins_length k.seen in fits e follows joined kept (omega (arith, le, low)))
+        (whole_turn timer stamp entry (cancels timer cancel ++ k.start) (no_turns cancel))
+        (λ e follows joined has kept low. fits e follows joined kept (omega (arith, turn_from, low)))
+      where
+        no_turns : (cancel : Option (ℕ × ℕ)) → HasNoTurns (cancels timer cancel ++ k.start)
+        no_turns None = k.no_turns
+        no_turns (Some one) = k.no_turns

@@ -7,7 +7,7 @@ use Rattle.lane_notes.specs.Notes.{NotesOf}
 use Rattle.call_laws.proofs.Parts.{part_alone, part_as}
 use Rattle.call_laws.proofs.CallKept.{many_there}
 use Rattle.call_laws.proofs.Entering.{enters_shift}
-use Rattle.call_laws.proofs.Noted.{notes_of, one_noted, with_done-joins, with_shift-joins}
+use Rattle.call_laws.proofs.Noted.{HasWholeTurns, notes_of, one_noted, whole_turns-append, with_done-joins, with_shift-joins}
 use Rattle.call_laws.proofs.Parts.{part_shift}
 use Rattle.call_laws.proofs.Sights.{keeps_sight}
 use Rattle.call_laws.proofs.Stays.{standing_stays, timer_stays}
@@ -51,7 +51,7 @@ use Rattle.run_history.specs.Calls.{Does, evacuates}
 use Rattle.run_history.specs.Runs.{Ending, IsJoined, witness_of}
 use Rattle.run_history.specs.Promises.{GoesOn}
 use Rattle.run_history.specs.Truths.{AnswerHolds, MayGo, RunsNone, WasOffLine}
-use Rattle.run_history.specs.Witnesses.{Trace, standing_along, timer_along}
+use Rattle.run_history.specs.Witnesses.{Evacuation, Trace, standing_along, timer_along}
 use Rattle.run_history.proofs.OffLineMade.{evacuating, offline_made, online_made, shift_by}
 use Rattle.run_history.proofs.OthersMade.{plain}
 use Rattle.lane_world.specs.Called.{CallsOffline, CallsOnline, LaneOf, ReadsClock, offline_told, online_told, with_done, with_offline_told, with_online_told}
@@ -148,6 +148,15 @@ module _ {s : Script} {x : WorldOf} {l : LaneOf} (m : LaneOf) {base heir budget 
       ap (λ (k : LogOf Receipt). with_done l.notes l.label k.receipts []) same
       ∙ ap (λ rs. with_done l.notes l.label rs []) (off.adds ∙ ap (λ rs. rs ++ off.log) empty) ∙ with_done-joins l.notes l.label off.log []
 
+  -- what the call did is no turn of an object
+  moves_turns : (moved : List Evacuation) → HasWholeTurns (flat_map (evacuates heir reading.stamp) moved)
+  moves_turns [] = refl
+  moves_turns (e ∷ moved) = moves_turns moved
+
+  shift_turns : (a : Answer) → HasWholeTurns (shift_by base heir a)
+  shift_turns (answers.Offline count stamp) = refl
+  shift_turns a = refl
+
   -- law: the call ended with this part behind the moves
   ended : (a : Answer) {ends : List Action} {notes : List PlacedEntry} {added : NotesOf}
       → IsPart s (ClockHas reading) l.label g.evacuates.mid l.pass.objects m.pass.timers.known l.pass.objects ends notes added → shift_by base heir a ≡ ends
@@ -156,7 +165,8 @@ module _ {s : Script} {x : WorldOf} {l : LaneOf} (m : LaneOf) {base heir budget 
   ended a last are joins does holds =
       keeps_part next m a (trace_of a) (part_as (ap (λ es. moves ++ es) (sym are))
       (part_alone objects (part_then (part_none {w = g.begins} g.looks.seen g.looks.mine) (part_then off.part last))))
-      (reading_goes_on l.pass m.pass reading reads) (clock_left reads.same) joins refl reads.count (λ e follows joined has kept low.
+      (reading_goes_on l.pass m.pass reading reads) (clock_left reads.same) joins refl reads.count
+      (whole_turns-append moves (shift_by base heir a) (moves_turns off.moved) (shift_turns a)) (λ e follows joined has kept low.
       let goes = goes_before last.enters.seen follows.timers in
       offline_made base heir budget off.moved a kept low (does off.many e) (
         off.keeps e joined goes,
@@ -298,5 +308,5 @@ keeps_online {s = s} {x = x} {l = l} {m = m} {base = base} next c =
         keeps_part next m (answers.Online n)
         (plain (length (writes m.pass.clock.knows)) (length l.pass.timers.known.seen) (length m.pass.timers.known.seen) (Shifted base n shifts.Online ∷ []))
         (part_alone {IsSo = λ c. Unit} c.objects (part_shift _ _ _ (enters_shift (many_there next) fits.0 fits.1))) (λ e goes. tt) (clock_left c.clock)
-        (notes ∙ with_shift-joins l.notes l.label base n shifts.Online) refl refl
+        (notes ∙ with_shift-joins l.notes l.label base n shifts.Online) refl refl refl
         (λ e follows joined has kept low. online_made base n kept low)

@@ -18,7 +18,7 @@ use Rattle.std.specs.List.{AllByRecursion}
 use Rattle.lane_world.proofs.Kept.{IsNextCall, IsNoteSeen, list_of, EntryNotes, LookNotes, ObjectNotes, SkipNotes, BaseNotes, KeepsCall, log_of, SeesOn}
 use Rattle.lane_world.specs.Worlds.{WorldOf}
 use Rattle.call_laws.proofs.CallKept.{FitsOn, logged_from, LooksAtClock, places_told, promised_from, stand_from}
-use Rattle.call_laws.proofs.Noted.{each_same, noted_by, noted_bears, noted_entries, noted_looks, noted_made, noted_skips, noted_writes, one_noted, told_same}
+use Rattle.call_laws.proofs.Noted.{HasWholeTurns, each_same, noted_by, noted_bears, noted_entries, noted_looks, noted_made, noted_skips, noted_writes, one_noted, told_same}
 use Rattle.lane_notes.specs.Notes.{both_noted, NotesOf}
 use Rattle.lane_notes.specs.declared.notes.WriteNote.{WriteNote}
 use Rattle.std.specs.List.Sorted.{IsPermutation}
@@ -79,8 +79,8 @@ pub keeps_part : {s : Script} {x : WorldOf} {l : LaneOf} {call : Call} {IsSo : L
     → IsPart s IsSo l.label l.pass.timers.known l.pass.objects m.pass.timers.known m.pass.objects t.actions notes added
     → ((e : Ending) → promises.GoesOnClock (writes m.pass.clock.knows) e → IsSo e.run.clock) → LooksAtClock l.pass m.pass
     → m.notes ≡ both_noted l.notes added → t.last ≡ length m.pass.timers.known.seen → t.at ≡ length (writes m.pass.clock.knows)
-    → FitsOn s l m call a notes t → KeepsCall s l call a m
-keeps_part {s = s} {l = l} {call = call} {IsSo = IsSo} {notes = notes} {added = added} next m a t part so clock joins last at fits =
+    → HasWholeTurns t.actions → FitsOn s l m call a notes t → KeepsCall s l call a m
+keeps_part {s = s} {l = l} {call = call} {IsSo = IsSo} {notes = notes} {added = added} next m a t part so clock joins last at whole fits =
     let p = l.pass in
     let q = m.pass in
     let label = l.label in
@@ -88,7 +88,7 @@ keeps_part {s = s} {l = l} {call = call} {IsSo = IsSo} {notes = notes} {added = 
     let none = no_write IsSo p.objects q.timers.known q.objects t.actions part.each in
     let no_writes : added.writes ≡ [] = ap (λ (n : NotesOf). n.writes) others ∙ noted_writes label t.actions in
     let told : IsPermutation (map receipt notes) (entries_told added) = IsPermutation-trans _ _ _
-    (subst (λ rs. IsPermutation rs (entries_told (noted_by label t.actions))) (sym part.are) (noted_entries label t.actions none)) (told_same part.told) in
+    (subst (λ rs. IsPermutation rs (entries_told (noted_by label t.actions))) (sym part.are) (noted_entries label t.actions none whole)) (told_same part.told) in
     let sees : SeesOn p q = record { timers = part.enters.seen; clock = clock.seen; objects = part.goes_on; opening = part.opening } in
     record {
       notes = notes;

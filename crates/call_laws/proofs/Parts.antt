@@ -16,7 +16,7 @@ use Rattle.timer_objects.specs.Known.{ObjectsPass, seen_of}
 use Rattle.timer_objects.specs.declared.log.ObjectReceipt.{ObjectReceipt}
 use Rattle.record_text.specs.declared.record.ClockLine.{ClockLine}
 use Rattle.record_text.specs.declared.record.Label.{Label}
-use Rattle.run_history.specs.Actions.{Action, Entered, looked, Looked, Made, made}
+use Rattle.run_history.specs.Actions.{Action, Began, Entered, looked, Looked, Made, made}
 use Rattle.run_history.specs.Histories.{reading_at}
 use Rattle.ktime.specs.Readings.{ClockReading}
 use Rattle.lane_notes.specs.Objects.{object_entry_noted, skip_generation}
@@ -28,7 +28,7 @@ use Rattle.run_history.proofs.Lists.{at_seam}
 use Rattle.lane_world.specs.Runs.{ObjectMove, ShowsObjectCall}
 use Rattle.lane_world.proofs.SeenMore.{begins_same, count_begins}
 use Rattle.call_laws.proofs.Entering.{enters-append, enters_at, enters_none, EntersNotes, EntersOne}
-use Rattle.call_laws.proofs.Noted.{entered_all, entered_noted, entered_on, entered_only, noted_by, noted_by-append, notes_of, notes_of-append, one_noted, same-both, same_notes, SameNotes}
+use Rattle.call_laws.proofs.Noted.{HasWholeTurns, entered_all, entered_noted, entered_on, entered_only, noted_by, noted_by-append, notes_of, notes_of-append, one_noted, same-both, same_notes, SameNotes}
 use Rattle.lane_notes.specs.Notes.{both_noted, no_notes, NotesOf}
 use Rattle.script_text.specs.Declarations.{declareds_of, terms_of}
 use Rattle.run_history.specs.Actions.{Shifted, Skipped, Wrote}
@@ -165,7 +165,7 @@ module _ {s : Script} {IsSo : List ClockLine → Type 0} {label : Label} where
       → IsPart s IsSo label v p w p [] [] no_notes
   part_none seen mine = part_seen seen mine (record { each = λ i. begins_same refl }) refl refl
 
-  -- a part that made entries of timers and bases, and nothing else
+  -- a part that made entries of timers and bases or began turns, and nothing else
   timers_only : {v : KnownOfTimers} {p : ObjectsPass} {w : KnownOfTimers} {ds : List Action} {notes : List PlacedEntry} {added : NotesOf}
       → EntersNotes s IsSo v w notes → map receipt notes ≡ all_entered ds → added ≡ noted_by label ds → (noted_by label ds).objects ≡ []
       → AllByRecursion (IsActionSeen IsSo p w p) ds → ((i : ℕ) → (looked i ds ≡ []) × (made i ds ≡ []))
@@ -212,10 +212,16 @@ module _ {s : Script} {IsSo : List ClockLine → Type 0} {label : Label} where
       → IsPart s IsSo label v p w p (Shifted b number event ∷ []) (one.0 ∷ []) (one_noted label (Shifted b number event))
   part_shift b number event one = timers_only one.1 (ap (λ (x : ℕ × Shown). x ∷ []) one.2) refl refl (tt, tt) (λ i. (refl, refl))
 
-  -- law: an entry of an object, with the rise of its counter
+  -- law: the beginning of a turn of an object
+  pub part_began : {v : KnownOfTimers} {p : ObjectsPass} {w : KnownOfTimers} (i stamp : ℕ)
+      (one : EntersOne s IsSo v w (stamp + stamp + 1, OfRise (suc i)))
+      → IsPart s IsSo label v p w p (Began i stamp ∷ []) (one.0 ∷ []) no_notes
+  part_began i stamp one = timers_only one.1 (ap (λ (x : ℕ × Shown). x ∷ []) one.2) refl refl (tt, tt) (λ i. (refl, refl))
+
+  -- law: an entry of an object, which ends its turn
   pub part_made : {v w : KnownOfTimers} {p q : ObjectsPass} {id : ℕ} {step : ObjectMove} {entry : ObjectEntry}
       (adds : Adds p.knows.pass q.knows.pass id (step ∷ [])) → q.knows.opening ≡ p.knows.opening → IsNotedAs IsSo step.call step.reply entry
-      → let number = length adds.before + 1 in (one : EntersOne s IsSo v w (number, OfRise (suc id)))
+      → let number = length adds.before + 1 in (one : EntersOne s IsSo v w (number + number, OfRise (suc id)))
       → IsPart s IsSo label v p w q (Made id number entry ∷ []) (one.0 ∷ [])
       (notes_of label [] (record { object = id; number = number; call = step.call; reply = step.reply } ∷ []))
   part_made {p = p} {q = q} {id = id} {step = step} {entry = entry} adds opening as_noted one =
@@ -326,6 +332,7 @@ pub record BodyKept (s : Script) (label : Label) {base : ℕ} {c : ClaimNumbers}
   pub object_more : List ObjectReceipt
   pub adds : (h'.log.receipts ≡ h.log.receipts ++ more) × (h'.object_log.receipts ≡ h.object_log.receipts ++ object_more)
   pub enters : EntersNotes s (ClockHas reading) v w notes
+  pub whole : HasWholeTurns body
   pub part : IsPart s (ClockHas reading) label k h.objects_pass.now w h'.objects_pass.now
       (Entered c.timer c.number (claim_in base reading.stamp c) ∷ body) (claim.entered.0 ∷ notes) (notes_of label (claim_receipt reading c ∷ more) object_more)
   pub ran : (e : Ending) → IsJoined s e → promises.GoesOn w.seen e → (finish : ℕ) (restarted : Restarted)

@@ -47,7 +47,7 @@ use Rattle.lane_world.specs.Called.{accept_told, CalledThen, lane_caller, CallsO
 use Rattle.lane_world.proofs.Kept.{IsNextCall, KeepsCall, Follows, seen_by}
 use Rattle.lane_world.specs.Worlds.{WorldOf}
 use Rattle.call_laws.proofs.Sights.{keeps_full, keeps_same}
-use Rattle.std.proofs.Common.{◌+◌, false, arith}
+use Rattle.std.proofs.Common.{false, arith}
 use Rattle.ktime.specs.declared.mode.Mode.TheVariants as modes
 use Rattle.timer_objects.specs.Calls.{wanted_by}
 use Rattle.record_text.specs.declared.record.Armed.{Armed}
@@ -64,7 +64,7 @@ use Rattle.timer_objects.specs.Calls.{Caller}
 use Rattle.call_laws.proofs.CallKept.{clock_left}
 use Rattle.call_laws.proofs.Parts.{noted_at}
 use Rattle.lane_world.proofs.Declared.{declared_base}
-use Rattle.call_laws.proofs.ObjectMade.{keeps_made, receipts, start_is, stood_first, stood_last, stop_first, stop_last}
+use Rattle.call_laws.proofs.ObjectMade.{keeps_made, receipts, start_is, stop_first, stop_last, turn_found, turn_place}
 use Rattle.call_laws.proofs.Rearmed.{like_restart, rearm_part, RearmPart, wanted_timely}
 use Rattle.script_text.specs.declared.script.Call.{Call}
 use Rattle.timer_objects.specs.declared.wanting.Rearming.{Rearming}
@@ -89,29 +89,33 @@ module _ {s : Script} {x : WorldOf} {l m : LaneOf} {call : Call} (next : IsNextC
   part : RearmPart s x l timer made.begun made.worked (decl_at x.objects timer).base c.reading made.arm c.log
   part =
       let object = made.enters.commits.state in
-      rearm_part next timer c.reading (wanted_by r object c.reading) made.arm (wanted_timely r object c.reading) made.turn.looks made.arms
+      rearm_part next timer c.reading (wanted_by r object c.reading) made.arm (wanted_timely r object c.reading) made.turn.begins.looks made.arms
 
   rearmed : {e : Ending} → Follows m.pass e → IsJoined s e
-      → IsRearmed (witness_of s e) l.label (receipts m next made.enters made.turn part.does (begins_refl made.begun.seen)) c.reading.stamp (length made.begun.seen) (length m.pass.timers.known.seen) timer
-      (arm_noted made.arm) part.does.start (length made.enters.commits.adds.before + 1)
+      → IsRearmed (witness_of s e) l.label (receipts m next made.enters made.turn part.does (begins_refl made.begun.seen)) c.reading.stamp
+      (turn_place m next made.enters made.turn part.does (begins_refl made.begun.seen)) (length m.pass.timers.known.seen) timer (arm_noted made.arm)
+      part.does.start (length made.enters.commits.adds.before)
   rearmed {e = e} follows joined = record {
     ns = part.ns;
     timely = part.timely;
     arms = arms_wider (WasOffLine (witness_of s e) (length made.begun.seen) (length made.worked.seen))
-        (WasOffLine (witness_of s e) (length made.begun.seen) (length m.pass.timers.known.seen))
-        (was_wider (witness_of s e) (omega arith) (begins_length made.turn.ends.seen)) s.limit timer modes.Keep part.ns c.reading.stamp
+        (WasOffLine (witness_of s e) (turn_place m next made.enters made.turn part.does (begins_refl made.begun.seen)) (length m.pass.timers.known.seen))
+        (was_wider (witness_of s e) (turn_found m next made.enters made.turn part.does (begins_refl made.begun.seen))
+        (begins_length made.turn.ends.looks.seen)) s.limit timer modes.Keep part.ns c.reading.stamp
         (base_of (kind_of s timer)) (arm_noted made.arm) part.does.start (subst (λ b. Arms (WasOffLine (witness_of s e) (length made.begun.seen) (length made.worked.seen)) s.limit timer
         modes.Keep part.ns c.reading.stamp b (arm_noted made.arm) part.does.start) (declared_base s x timer next.world)
-        (part.does.arms e joined (goes_before made.turn.ends.seen follows.timers)));
+        (part.does.arms e joined (goes_before made.turn.ends.looks.seen follows.timers)));
     ends = length made.worked.seen;
-    between = begins_length part.does.part.1.enters.seen;
-    high = begins_length made.turn.ends.seen;
+    between = omega (
+      arith,
+      turn_found m next made.enters made.turn part.does (begins_refl made.begun.seen),
+      begins_length part.does.part.1.enters.seen,
+    );
+    high = begins_length made.turn.ends.looks.seen;
     behind = stop_first m next made.enters made.turn part.does (begins_refl made.begun.seen);
     stops = stop_last m next made.enters made.turn part.does (begins_refl made.begun.seen);
     holds = start_is m next made.enters made.turn part.does (begins_refl made.begun.seen) follows joined false
         (like_restart x.timers.about made.worked timer made.arm _ made.bears);
-    had = stood_first m next made.enters made.turn part.does (begins_refl made.begun.seen) follows joined;
-    stood = stood_last m next made.enters made.turn part.does (begins_refl made.begun.seen) follows joined;
   }
 
   -- law: a lane keeps a call on an object that may arm the object's timer again and made an entry, where such calls fit
@@ -120,10 +124,10 @@ module _ {s : Script} {x : WorldOf} {l m : LaneOf} {call : Call} (next : IsNextC
       → ((clock : List ClockLine)
       → ShowsObjectCall clock (rearming_call r (reading_at clock c.reading.stamp) made.arm) reply (entry (arm_noted made.arm)))
       → (b : Answer) → ((e : Ending) (begin last : ℕ) (arm : Armed) (start : List Action)
-      (number : ℕ)
+      (stamp : ℕ)
       (notes : List PlacedEntry) → IsKept (witness_of s e) (moves_spans e) l.label
-      (plain c.reading.stamp begin last (rearming_actions timer start number (entry arm))) notes call b (seen_by l.pass) (seen_by m.pass)
-      → (moves_spans e).first l.label ≤ begin → IsRearmed (witness_of s e) l.label notes c.reading.stamp begin last timer arm start number
+      (plain c.reading.stamp begin last (rearming_actions timer start stamp (entry arm))) notes call b (seen_by l.pass) (seen_by m.pass)
+      → (moves_spans e).first l.label ≤ begin → IsRearmed (witness_of s e) l.label notes c.reading.stamp begin last timer arm start stamp
       → FitsCall (witness_of s e) l.label call b (seen_by l.pass) (seen_by m.pass))
       → KeepsCall s l call b m
   keeps_rearming noted no_skip shows b fits =
@@ -146,7 +150,7 @@ keeps_accept {s} {x} {l} {m} {a} {timer} next called = subst (λ b. KeepsCall s 
         (ap (option_map (λ (r : AcceptReply). object_entries.Accept c.reading.stamp (arm_noted c.does.arm) r)) back) refl (λ clock.
         ap (λ k. Some (record { call = posix_calls.Accept (reading_at clock c.reading.stamp) k; reply = posix_replies.Accept (accept_answer_of reply) }))
         (arm_back c.does.arm).0) (answer_of_accept reply)
-        (λ e begin last arm start number notes kept low rearmed. accept_made reply kept low rearmed)
+        (λ e begin last arm start stamp notes kept low rearmed. accept_made reply kept low rearmed)
 
     by_answer : (g : AcceptAnswer) → CallsObject x l m a (λ old new reading. Accepts x.objects x.timers.about old new timer reading g)
         → KeepsCall s l (calls.Accept timer) (accept_told g) m
@@ -170,7 +174,7 @@ keeps_read {s} {x} {l} {m} {a} {timer} {len} next called =
         (ap (option_map (λ (r : ReadReply). object_entries.Read c.reading.stamp (arm_noted c.does.1.arm) r)) back) refl (λ clock.
         ap (λ k. Some (record { call = fd_calls.Read (reading_at clock c.reading.stamp) k; reply = fd_replies.Read (read_answer_of reply) }))
         (arm_back c.does.1.arm).1) (answer_of_read reply)
-        (λ e begin last arm start number notes kept low rearmed. read_made len reply kept low rearmed c.does.0)
+        (λ e begin last arm start stamp notes kept low rearmed. read_made len reply kept low rearmed c.does.0)
 
     by_answer : (g : ReadAnswer) → CallsObject x l m a (λ old new reading. ReadsFd x.objects x.timers.about old new timer len reading g)
         → KeepsCall s l (calls.Read timer len) (read_told g) m
@@ -199,4 +203,4 @@ keeps_gettime-fd {s = s} {l = l} {m = m} {timer = timer} {base = base} next kind
     (keeps_rearming next c c.does.0.0 (λ arm. object_entries.Gettime c.reading.stamp arm left interval) refl refl
     (λ clock. ap (λ k. Some (record { call = fd_calls.Gettime (reading_at clock c.reading.stamp) k; reply = (fd_replies.Gettime (lefts.Left left interval)) }))
     (arm_back c.does.0.0.arm).1)
-    (answers.Left left interval) (λ e begin last arm start number notes kept low rearmed. gettime_made base left interval kept low rearmed kind))
+    (answers.Left left interval) (λ e begin last arm start stamp notes kept low rearmed. gettime_made base left interval kept low rearmed kind))

@@ -4,7 +4,7 @@ use Rattle.pass_names.proofs.Passes.{begins_trans}
 use Rattle.run_history.proofs.Reached.{arms_wider, was_wider}
 use Rattle.script_text.specs.Declarations.{base_of}
 use Rattle.lane_world.proofs.SeenMore.{goes_before}
-use Rattle.std.proofs.Common.{◌≡◌, ℕ, ◌+◌, true, Option, None, Some, List, [], length, arith, refl, sym, ap, ◌∙◌, subst}
+use Rattle.std.proofs.Common.{◌≡◌, ℕ, true, Option, None, Some, List, [], length, arith, refl, sym, ap, ◌∙◌, subst}
 use Rattle.std.specs.Prelude.{MatchOption}
 use Rattle.ktime.specs.Readings.{ClockReading}
 use Rattle.ktime.specs.declared.timespec.TimeSpec.{TimeSpec}
@@ -39,7 +39,7 @@ use Rattle.call_laws.proofs.Sights.{keeps_full, keeps_same}
 use Rattle.timer_objects.specs.Steps.{ObjectAllows}
 use Rattle.hr_timers.specs.Calls.{cancel_entries}
 use Rattle.call_laws.proofs.Armed.{disarmed_part, settime_start, TimerPart, TimersPart}
-use Rattle.call_laws.proofs.ObjectMade.{keeps_made, outcome_is, receipts, start_is, stood_first, stood_last, stop_first, stop_last, timer_found}
+use Rattle.call_laws.proofs.ObjectMade.{keeps_made, outcome_is, receipts, start_is, stop_begun, stop_first, stop_last, timer_found, turn_found, turn_place}
 use Rattle.call_laws.proofs.SettimeNoted.{settime_noted, SettimeNoted}
 use Rattle.call_laws.proofs.SettimeParts.{checked, IsRefusal, like_start, raw_object, takes_valid, valid_for}
 use Rattle.timer_objects.specs.declared.object.ObjectCall.{ObjectCall}
@@ -74,7 +74,8 @@ module _ {s : Script} {x : WorldOf} {l : LaneOf} (m : LaneOf) {timer flags : ℕ
       d.receipts
 
   part : TimerPart s x l timer begin w (mode_by flags) (time_of value) (decl_at x.objects timer).base reading set.arm disarmed.0 log
-  part = settime_start next timer reading set.cancel_log (begins_trans set.turn.looks.seen set.disarms.cancelled.made.from) set.turn.looks.mine disarmed.1 flags
+  part = settime_start next timer reading set.cancel_log (begins_trans set.turn.begins.looks.seen set.disarms.cancelled.made.from) set.turn.begins.looks.mine
+      disarmed.1 flags
       (time_of value) set.arm set.arms
 
   -- it was found while the call had the object
@@ -89,30 +90,31 @@ module _ {s : Script} {x : WorldOf} {l : LaneOf} (m : LaneOf) {timer flags : ℕ
       (subst (λ r. SettimeTells r a) set.enters.reply set.answer))
 
   module _ {e : Ending} (follows : Follows m.pass e) (joined : IsJoined s e) where
-    is_set : IsSet (witness_of s e) l.label (receipts m next set.enters set.turn part after) reading.stamp (length begin.seen)
-        (length m.pass.timers.known.seen) timer flags value interval disarmed.0 (arm_noted set.arm) part.start (length set.enters.commits.adds.before + 1)
+    is_set : IsSet (witness_of s e) l.label (receipts m next set.enters set.turn part after) reading.stamp (turn_place m next set.enters set.turn part after)
+        (length m.pass.timers.known.seen) timer flags value interval disarmed.0 (arm_noted set.arm) part.start (length set.enters.commits.adds.before)
     is_set =
         let takes = takes_valid (kind_of s timer) _ flags value interval (declared_over s x timer next.world)
         (λ raw. let none = raw_object next set.enters.commits.at raw in subst (λ y. ObjectAllows y call) none.0 set.enters.may) in
         let off = WasOffLine (witness_of s e) (length begin.seen) (length w.seen) in
         record {
           taken = takes.0 valid;
-          arms = arms_wider off (WasOffLine (witness_of s e) (length begin.seen) (length m.pass.timers.known.seen))
-              (was_wider (witness_of s e) (omega arith) (begins_length set.turn.ends.seen)) s.limit timer (start_mode (kind_of s timer) flags)
+          arms = arms_wider off (WasOffLine (witness_of s e) (turn_place m next set.enters set.turn part after) (length m.pass.timers.known.seen))
+              (was_wider (witness_of s e) (turn_found m next set.enters set.turn part after) (begins_length set.turn.ends.looks.seen)) s.limit timer (start_mode (kind_of s timer) flags)
               (nanoseconds_of value) reading.stamp (base_of (kind_of s timer)) (arm_noted set.arm) part.start
               (subst (λ b. Arms off s.limit timer (start_mode (kind_of s timer) flags) (nanoseconds_of value) reading.stamp b (arm_noted set.arm)
               part.start) (declared_base s x timer next.world)
               (subst (λ k. Arms off s.limit timer k (time_of value) reading.stamp (decl_at x.objects timer).base (arm_noted set.arm) part.start)
-              (sym takes.1) (part.arms e joined (goes_before set.turn.ends.seen follows.timers))));
+              (sym takes.1) (part.arms e joined (goes_before set.turn.ends.looks.seen follows.timers))));
+          begun = length begin.seen;
           ends = length w.seen;
+          from = turn_found m next set.enters set.turn part after;
           between = begins_length part.part.1.enters.seen;
-          high = begins_length set.turn.ends.seen;
+          high = begins_length set.turn.ends.looks.seen;
           behind = stop_first m next set.enters set.turn part after;
+          begins = stop_begun m next set.enters set.turn part after;
           stops = stop_last m next set.enters set.turn part after;
           idle = found disarmed.0 disarmed.2;
           holds = start_is m next set.enters set.turn part after follows joined true (like_start x.timers.about w timer set.arm _ set.bears);
-          had = stood_first m next set.enters set.turn part after follows joined;
-          stood = stood_last m next set.enters set.turn part after follows joined;
         }
       where
         found : (cancel : Option (ℕ × ℕ)) → (cancel ≡ None → IsIdle (timer_then x.timers.about begin.seen timer))

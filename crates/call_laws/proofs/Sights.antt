@@ -40,7 +40,7 @@ use Rattle.call_laws.proofs.Entering.{looks_made}
 use Rattle.run_history.proofs.Stamped.{HaveReadings}
 use Rattle.call_laws.proofs.CallKept.{opened_timers}
 use Rattle.call_laws.proofs.Parts.{part_at}
-use Rattle.call_laws.proofs.Noted.{entered_on, with_done-joins}
+use Rattle.call_laws.proofs.Noted.{HasWholeTurns, entered_on, entered_turns, with_done-joins}
 use Rattle.call_laws.proofs.Stays.{saw_quiet}
 use Rattle.lane_notes.specs.Notes.{no_notes}
 
@@ -84,7 +84,7 @@ looking m = plain (length (writes m.pass.clock.knows)) (length m.pass.timers.kno
 pub keeps_looking : {s : Script} {x : WorldOf} {l m : LaneOf} {call : Call} (next : IsNextCall s x l call) (a : Answer) → LooksOnly s l m
     → FitsOn s l m call a [] (looking m) → KeepsCall s l call a m
 keeps_looking {l = l} {m = m} next a only =
-    keeps_part next m a (looking m) only.part (λ e goes. tt) only.clock (only.notes ∙ no_notes-joins l.notes) refl refl
+    keeps_part next m a (looking m) only.part (λ e goes. tt) only.clock (only.notes ∙ no_notes-joins l.notes) refl refl refl
 
 -- what its answer tells of is so, when it ends
 abbrev pub IsToldSo : Script → LaneOf → LaneOf → Call → Answer → Ending → Type 0
@@ -140,8 +140,10 @@ pub keeps_entered : {s : Script} {x : WorldOf} {l : LaneOf} {call : Call} (IsSo 
     → t.at ≡ length (writes m.pass.clock.knows) → ((notes : List PlacedEntry) → FitsOn s l m call a notes t) → KeepsCall s l call a m
 keeps_entered {s = s} {x = x} {l = l} IsSo {timer = timer} {at = moment} {es = es} next m a t made reads so clock objects joins are last at fits =
     let part = part_at {s = s} {IsSo = IsSo} {label = l.label} x.timers.about {p = l.pass.objects} (opened_timers next) made reads in
+    let none = entered_turns timer (timer_then x.timers.about moment timer).stamp es in
     keeps_part next m a t (part_as (sym are) (part_alone objects part.1)) so clock
-    (joins ∙ with_done-joins l.notes l.label (receipts_of timer (timer_then x.timers.about moment timer).stamp es) []) last at (fits part.0)
+    (joins ∙ with_done-joins l.notes l.label (receipts_of timer (timer_then x.timers.about moment timer).stamp es) []) last at
+    (subst HasWholeTurns (sym are) (none.0 ∙ sym none.1)) (fits part.0)
 
 -- ---- peek
 

@@ -28,7 +28,7 @@ use Rattle.timer_objects.specs.declared.object.ObjectReply.TheVariants as replie
 use Rattle.timer_objects.specs.declared.object.ObjectReply.{ObjectReply}
 use Rattle.record_text.specs.declared.record.Label.{Label}
 use Rattle.record_text.specs.declared.record.ObjectEntry.TheVariants as object_entries
-use Rattle.run_history.specs.Actions.{Made, Skipped}
+use Rattle.run_history.specs.Actions.{Began, Made, Skipped}
 use Rattle.run_history.specs.Histories.{reading_at}
 use Rattle.script_text.specs.Declarations.{kind_of}
 use Rattle.script_text.specs.declared.script.Script.{Script}
@@ -38,11 +38,11 @@ use Rattle.run_history.specs.Witnesses.{Fired}
 use Rattle.run_history.specs.Witnesses.{TimersList}
 use Rattle.lane_world.specs.Runs.{ObjectMove}
 use Rattle.lane_world.proofs.SeenMore.{count_begins}
-use Rattle.call_laws.proofs.ObjectTurns.{enters_entry, entries_had}
+use Rattle.call_laws.proofs.ObjectTurns.{enters_entry, enters_turn, entries_had}
 use Rattle.timer_objects.specs.Firings.{Firing}
 use Rattle.call_laws.proofs.Entering.{enters_none}
 use Rattle.lane_world.proofs.PartLists.{rises_none}
-use Rattle.call_laws.proofs.Parts.{BodyKept, fired_of, ClockHas, IsClaimed, IsNotedAs, noted_at, objects_grow, part_claimed, part_made, part_none, part_then}
+use Rattle.call_laws.proofs.Parts.{BodyKept, fired_of, ClockHas, IsClaimed, IsNotedAs, noted_at, objects_grow, part_began, part_claimed, part_made, part_then}
 
 -- ---- the note of a trigger
 
@@ -100,21 +100,23 @@ module _ (s : Script) (x : ObjectsOf) (limit : x.limit ≡ s.limit) (some : 1 �
       let n = noted state t.may in
       let many = length adds.before in
       let step : ObjectMove = record { call = call; reply = object_answer state call } in
-      let body = Made c.timer (many + 1) (object_entries.Trigger c.generation reading.stamp n.0) ∷ [] in
+      let body = Began c.timer many ∷ Made c.timer (many + 1) (object_entries.Trigger c.generation reading.stamp n.0) ∷ [] in
       let r : ObjectReceipt = record { object = c.timer; number = many + 1; call = step.call; reply = step.reply } in
-      let one = enters_entry t.turn s (ClockHas reading) in
-      let part : IsPart s (ClockHas reading) label v p w q body (one.0 ∷ []) (notes_of label [] (r ∷ [])) =
-      part_then (part_none {w = t.begun} t.turn.looks.seen t.turn.looks.mine) (part_made {step = step} adds t.commits.opening n.1 one) in
+      let opens = enters_turn t.turn s (ClockHas reading) in
+      let closes = enters_entry t.turn s (ClockHas reading) in
+      let part : IsPart s (ClockHas reading) label v p w q body (opens.0 ∷ closes.0 ∷ []) (notes_of label [] (r ∷ [])) =
+      part_then (part_began c.timer many opens) (part_made {step = step} adds t.commits.opening n.1 closes) in
       record {
         body = body;
-        notes = one.0 ∷ [];
+        notes = opens.0 ∷ closes.0 ∷ [];
         more = [];
         object_more = r ∷ [];
         adds = (same_log ∙ sym (append-nil h.log.receipts), t.receipt);
         enters = part.enters;
+        whole = refl;
         part = part_claimed claim [] (r ∷ []) part;
         ran = λ e joined goes finish rearmed.
-            ((is_body _ (fired_of c body finish (asks restart) rearmed) (inl (many + 1, n.0, refl), ap asks stops)), tt);
+            ((is_body _ (fired_of c body finish (asks restart) rearmed) (inl (many, n.0, refl), ap asks stops)), tt);
       }
 
   -- a trigger that a full history refused
@@ -143,6 +145,7 @@ module _ (s : Script) (x : ObjectsOf) (limit : x.limit ≡ s.limit) (some : 1 �
         object_more = r ∷ [];
         adds = (same_log ∙ sym (append-nil h.log.receipts), t.receipt);
         enters = part.enters;
+        whole = refl;
         part = part_claimed claim [] (r ∷ []) part;
         ran = λ e joined goes finish rearmed. (
           (is_body _ (fired_of c body finish (asks restart) rearmed) (inr (many, refl), ap asks stops)),

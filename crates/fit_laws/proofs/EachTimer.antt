@@ -33,7 +33,7 @@ use Rattle.run_history.specs.Told.{observed}
 use Rattle.run_history.specs.Histories.{answers_of, reading_at, timer_after, timer_labels}
 use Rattle.script_text.specs.Declarations.{declared_of, terms_of}
 use Rattle.run_history.specs.Order.{CallInRound, calls_of, is_before, is_label, IsInOrder, IsLabel, IsPoint, IsWithin, made_by, round_of}
-use Rattle.run_history.specs.Witnesses.{Witness, Move, OfTimer, Shown, labels, owner_of, timer_along, witness_with}
+use Rattle.run_history.specs.Witnesses.{Witness, Move, OfTimer, Shown, labels, owner_of, timer_along, TimersList, witness_with}
 use Rattle.fit_laws.specs.EachTimer.{HasTimers, FitsTimers, IsOwnPoint, TookNextDue, WasRefused, WasSo, WasTold}
 use Rattle.run_history.specs.Fits.{Fits, FitsCall, FitsIn, FitsLane, Seen, unseen}
 use Rattle.run_history.specs.Traces.{all_entered, own_moves}
@@ -43,7 +43,7 @@ use Rattle.run_history.proofs.Labels.{same_label}
 use Rattle.run_history.proofs.Lists.{all_at, at_map, each_drop, each_take}
 use Rattle.fit_laws.proofs.OwnParts.{count_moves}
 use Rattle.run_history.proofs.Reached.{does_wider}
-use Rattle.fit_laws.proofs.OwnPoints.{before_then, declared_then, entered_then, labels_each, legal_each, order_each, point_then, same_then, saw_then, seen, stamp_then, turn_at}
+use Rattle.fit_laws.proofs.OwnPoints.{before_there, declared_then, entered_then, labels_each, legal_each, order_each, point_then, same_then, saw_then, seen, stamp_then, turn_at}
 
 -- a function runs on a base
 running_there : (base : ℕ) (u : Timer) (g : ℕ) → running_on base u ≡ Some g → (u.running ≡ Some g) × (u.base ≡ base)
@@ -157,20 +157,20 @@ within_at s c ls p order there = record {
 -- ---- each call
 
 -- what is true of all that a call did is true of each thing
-pub true_at : (w : Witness) (c : Label) (first from : ℕ) (done ds mid : List Action) (d : Action) (rest : List Action) (last : ℕ)
-    → AreTrue w c first from done ds last
-    → ds ≡ mid ++ d ∷ rest → (n : ℕ) × IsTrue w c first (done ++ mid) d n
-true_at w c first from done [] [] d rest last all is = absurd (cc)
-true_at w c first from done [] (m ∷ mid) d rest last all is = absurd (cc)
-true_at w c first from done (x ∷ ds) [] d rest last all is = (
+pub true_at : (w : Witness) (c : Label) (from : ℕ) (done ds mid : List Action) (d : Action) (rest : List Action) (last : ℕ)
+    → AreTrue w c from done ds last
+    → ds ≡ mid ++ d ∷ rest → (n : ℕ) × IsTrue w c (done ++ mid) d n
+true_at w c from done [] [] d rest last all is = absurd (cc)
+true_at w c from done [] (m ∷ mid) d rest last all is = absurd (cc)
+true_at w c from done (x ∷ ds) [] d rest last all is = (
   all.0,
-  subst (λ y. IsTrue w c first (done ++ []) y all.0) (heads x d ds rest is)
-      (subst (λ b. IsTrue w c first b x all.0) (sym (append-nil done)) all.2),
+  subst (λ y. IsTrue w c (done ++ []) y all.0) (heads x d ds rest is)
+      (subst (λ b. IsTrue w c b x all.0) (sym (append-nil done)) all.2),
 )
-true_at w c first from done (x ∷ ds) (m ∷ mid) d rest last all is =
-    let further = true_at w c first all.0 (done ++ x ∷ []) ds mid d rest last all.3 (tails x m ds (mid ++ d ∷ rest) is) in (
+true_at w c from done (x ∷ ds) (m ∷ mid) d rest last all is =
+    let further = true_at w c all.0 (done ++ x ∷ []) ds mid d rest last all.3 (tails x m ds (mid ++ d ∷ rest) is) in (
       further.0,
-      subst (λ b. IsTrue w c first b d further.0)
+      subst (λ b. IsTrue w c b d further.0)
           (append_assoc done (x ∷ []) mid ∙ ap (λ y. done ++ y ∷ mid) (heads x m ds (mid ++ d ∷ rest) is)) further.1,
     )
 
@@ -211,7 +211,7 @@ module _ (w : Witness) (f : FitsIn w) where
       record {
         seen = seen w p;
         points = λ u. point_then w f.history f.timers c before (e ∷ rest) p u own_are moment;
-        claimed = ap (λ n. n + 1) (before_then w f.history f.timers p t m s.there (ap owner_of shown)) ∙ ap (λ (x : ℕ × Shown). x.0) s.is;
+        claimed = ap (λ n. n + 1) (sym (before_there w f.history p m (TimersList t) s.there (ap owner_of shown))) ∙ ap (λ (x : ℕ × Shown). x.0) s.is;
         free = λ u. sym (same (λ k. runs_on base (seen_in x k)) (none_seen base x (terms_of w.script)) p u) ∙ idle u;
         next = next_due-alike (in_context x (timer_along w p)) (in_context x (λ u. timer_after w.script w.run u (seen w p u)))
             (λ u. seen-alike x (timer_along w p u) (timer_after w.script w.run u (seen w p u)) (same_then w f.history f.timers unlimited refl p u)) base
@@ -310,7 +310,7 @@ module _ (w : Witness) (f : FitsIn w) where
         entered = λ u. entered_then w f.history f.timers c t.actions u fits.traced.moves;
         looked = fits.traced.looks;
         looks = λ early rest u number look is.
-            let true_there = true_at w c t.first t.first [] t.actions early (Looked u number look) rest t.last fits.truth is in
+            let true_there = true_at w c t.first [] t.actions early (Looked u number look) rest t.last fits.truth is in
             saw_then w f.history f.timers c early (Looked u number look ∷ rest) true_there.0 u number (observed look) (fits.traced.moves ∙ ap all_entered is)
             true_there.1.0 true_there.1.1;
         claims = λ early rest u number base reading reply is.

@@ -3,6 +3,7 @@ pub mod NoSlack
 mod OneText
 pub mod OwnParts
 pub mod ObjectOrder
+pub mod ObjectTurns
 pub mod OwnPoints
 pub mod Moments
 pub mod Readings

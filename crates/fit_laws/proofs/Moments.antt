@@ -1,4 +1,4 @@
--- What a moment has seen of a call: its last entry, all its entries, or none of them; and how many entries an object has there.
+-- What a moment has seen of a call: its last entry, all its entries, or none of them; and how often an object's counter has risen there.
 use Rattle.std.proofs.Common.{◌≡◌, ◌<◌, ◌≤◌, ℕ, zero, suc, ◌+◌, true, false, nat_eq, if◌then◌else◌, Some, List, [], ◌∷◌, ◌++◌, filter, length, map, take, arith, refl, sym, ap, ◌∙◌}
 use Rattle.std.specs.List.{slice_get}
 use Rattle.std.proofs.Math.Logic.{⊎_elim}
@@ -16,11 +16,11 @@ use Rattle.run_history.specs.Order.{is_label, made_by}
 use Rattle.run_history.specs.Fits.{FitsCall, Seen}
 use Rattle.run_history.specs.Truths.{AreTrue, IsMoment}
 use Rattle.run_history.specs.Traces.{own_moves}
-use Rattle.run_history.specs.Witnesses.{CountersList, IsOneHistory, Move, OfBase, OfRise, OfTimer, Owner, Shown, TimersList, Witness, entry_of_move, entry_of_shown, is_owner, lines_at, moves_from, moves_on, object_along, owner_of, timer_along, writes_along}
+use Rattle.run_history.specs.Witnesses.{CountersList, IsOneHistory, Move, OfBase, OfRise, OfTimer, Owner, Shown, TimersList, Witness, entry_of_move, entry_of_shown, is_owner, lines_at, moves_from, moves_on, owner_of, timer_along, turns_along, writes_along}
 use Rattle.run_history.proofs.Labels.{label_itself}
 use Rattle.fit_laws.proofs.EachTimer.{stands}
-use Rattle.fit_laws.proofs.OwnParts.{before_at, count_moves, on_place, on_rises, own_rises}
-use Rattle.fit_laws.proofs.OwnPoints.{stamp_then}
+use Rattle.fit_laws.proofs.OwnParts.{count_moves, on_here, on_rises, own_rises}
+use Rattle.fit_laws.proofs.OwnPoints.{before_there, stamp_then}
 
 -- ---- counts
 
@@ -50,9 +50,9 @@ rises_counted w k n = ap (rises_of k) (take-map (entry_of_move w.run.clock) n w.
 pub writes_rise : (w : Witness) (a b : ℕ) → a ≤ b → writes_along w a ≤ writes_along w b
 writes_rise w a b le = omega (arith, on_rises (CountersList 0) w.moves a b le, rises_counted w 0 a, rises_counted w 0 b)
 
--- law: an object has no fewer entries later
-pub object_rises : (w : Witness) (i a b : ℕ) → a ≤ b → object_along w a i ≤ object_along w b i
-object_rises w i a b le =
+-- law: an object's counter has risen no less often later
+pub turns_rise : (w : Witness) (i a b : ℕ) → a ≤ b → turns_along w a i ≤ turns_along w b i
+turns_rise w i a b le =
     omega (arith, on_rises (CountersList (suc i)) w.moves a b le, rises_counted w (suc i) a, rises_counted w (suc i) b)
 
 -- at a call's place it makes one more
@@ -149,10 +149,10 @@ abbrev pub HasAll : Witness → Label → ℕ → Type 0
 HasAll w c n = length (own_moves c w.moves) ≤ length (own_moves c (take n w.moves))
 
 -- law: what a call did took no moment behind its last one
-pub ends_later : (w : Witness) (c : Label) (first from : ℕ) (done ds : List Action) (last : ℕ) → AreTrue w c first from done ds last → from ≤ last
-ends_later w c first from done [] last truth = truth
-ends_later w c first from done (d ∷ ds) last truth =
-    let rest = ends_later w c first truth.0 (done ++ d ∷ []) ds last truth.3 in omega (arith, truth.1, rest)
+pub ends_later : (w : Witness) (c : Label) (from : ℕ) (done ds : List Action) (last : ℕ) → AreTrue w c from done ds last → from ≤ last
+ends_later w c from done [] last truth = truth
+ends_later w c from done (d ∷ ds) last truth =
+    let rest = ends_later w c truth.0 (done ++ d ∷ []) ds last truth.3 in omega (arith, truth.1, rest)
 
 -- law: a call has made all its entries at its last moment, and so at all moments behind those that its lane has seen then
 pub all_since : {w : Witness} {c : Label} {call : Call} {answer : Answer} {before after : Seen} (n : ℕ) → FitsCall w c call answer before after
@@ -173,7 +173,7 @@ pub seen_more : {w : Witness} {c : Label} {call : Call} {answer : Answer} {befor
     → before.moves ≤ after.moves
 seen_more {w} {c} fits =
     let t = w.traces c in
-    let within = ends_later w c t.first t.first [] t.actions t.last fits.truth in
+    let within = ends_later w c t.first [] t.actions t.last fits.truth in
     omega (arith, fits.move_steps.0, within, fits.move_steps.1)
 
 module _ (w : Witness) (history : IsOneHistory w) where
@@ -182,7 +182,7 @@ module _ (w : Witness) (history : IsOneHistory w) where
   none_yet o c k n line begins = not_yet o c n k w.moves (ap (λ ms. slice_get (map (λ m. m.label) ms) k) (history.all o) ∙ line) begins.so_many
 
   -- law: an object's list neither
-  pub none_made : (i : ℕ) (c : Label) (k n : ℕ) → IsLineOf w.run (CountersList (suc i)) k c → IsMoment w c [] n → object_along w n i ≤ k
+  pub none_made : (i : ℕ) (c : Label) (k n : ℕ) → IsLineOf w.run (CountersList (suc i)) k c → IsMoment w c [] n → turns_along w n i ≤ k
   none_made i c k n line begins = omega (arith, rises_counted w (suc i) n, none_yet (CountersList (suc i)) c k n line begins)
 
   -- law: at a moment at which a call has made all its entries a list reaches past each line of it
@@ -190,7 +190,7 @@ module _ (w : Witness) (history : IsOneHistory w) where
   all_yet o c k n line all = all_there o c n k w.moves (ap (λ ms. slice_get (map (λ m. m.label) ms) k) (history.all o) ∙ line) all
 
   -- law: an object's list too
-  pub all_made : (i : ℕ) (c : Label) (k n : ℕ) → IsLineOf w.run (CountersList (suc i)) k c → HasAll w c n → k < object_along w n i
+  pub all_made : (i : ℕ) (c : Label) (k n : ℕ) → IsLineOf w.run (CountersList (suc i)) k c → HasAll w c n → k < turns_along w n i
   all_made i c k n line all = omega (arith, rises_counted w (suc i) n, all_yet (CountersList (suc i)) c k n line all)
 
   -- law: a timer's too
@@ -202,6 +202,38 @@ module _ (w : Witness) (history : IsOneHistory w) where
   pub all_later : (c : Label) (a b : ℕ) → a ≤ b → HasAll w c a → HasAll w c b
   all_later c a b le all = let rise = own_rises c w.moves a b le in omega (arith, all, rise)
 
+  -- law: where a list reaches past a line of a call, the call has made an entry
+  pub some_made : (o : Owner) (c : Label) (k n : ℕ) → IsLineOf w.run o k c → k < length (moves_on o (take n w.moves))
+      → 0 < length (own_moves c (take n w.moves))
+  some_made o c k n line reached = ⊎_elim
+      (λ (some : 0 < length (own_moves c (take n w.moves))). some)
+      (λ (none : length (own_moves c (take n w.moves)) ≤ 0). absurd (omega (
+        arith,
+        reached,
+        not_yet o c n k w.moves (ap (λ ms. slice_get (map (λ m. m.label) ms) k) (history.all o) ∙ line)
+            (omega (arith, none, ap (made_by c) (take-map (λ (m : Move). m.label) n w.moves) ∙ count_moves c (take n w.moves))),
+      )))
+      (cases_lt 0 (length (own_moves c (take n w.moves))))
+
+  -- law: a moment at which a call has made an entry has its first one
+  pub first_by : (c : Label) (rest : List (ℕ × Shown)) (number n : ℕ) (shown : Shown) → own_moves c w.moves ≡ (number, shown) ∷ rest
+      → 0 < length (own_moves c (take n w.moves)) → number ≤ length (moves_on (owner_of shown) (take n w.moves))
+  first_by c rest number n shown own some =
+      let s = stands c w.moves [] rest (number, shown) own in
+      let p = s.place in
+      let o = owner_of shown in
+      let of : owner_of s.move.shown ≡ o = ap (λ (x : ℕ × Shown). owner_of x.1) s.is in
+      ⊎_elim
+      (λ (less : p < n). omega (
+        arith,
+        on_rises o w.moves (suc p) n (omega (arith, less)),
+        on_here o p w.moves s.move s.there of,
+        before_there w history p s.move o s.there of,
+        ap (λ (x : ℕ × Shown). x.0) s.is,
+      ))
+      (λ (more : n ≤ p). absurd (omega (arith, some, own_rises c w.moves n p more, ap length s.own)))
+      (cases_lt p n)
+
   -- law: a moment that has a call's last entry has all its entries
   pub all_by_last : (c : Label) (before : List (ℕ × Shown)) (number n : ℕ) (shown : Shown) → own_moves c w.moves ≡ before ++ (number, shown) ∷ []
       → number ≤ length (moves_on (owner_of shown) (take n w.moves)) → HasAll w c n
@@ -209,10 +241,6 @@ module _ (w : Witness) (history : IsOneHistory w) where
       let s = stands c w.moves before [] (number, shown) own in
       let p = s.place in
       let o = owner_of shown in
-      let is : s.move.shown ≡ shown = ap (λ (x : ℕ × Shown). x.1) s.is in
-      let count : s.move.before ≡ length (moves_on o (take p w.moves)) =
-      sym (none _ ∙ before_at 0 (length (moves_on o (take p w.moves))) (lines_at w.run o) s.move
-      (ap (λ ms. slice_get ms (length (moves_on o (take p w.moves)))) (sym (history.all o)) ∙ on_place o p w.moves s.move s.there (ap owner_of is))) in
       ⊎_elim
       (λ (less : p < n).
       let rise = own_rises c w.moves (suc p) n (omega (arith, less)) in
@@ -222,14 +250,11 @@ module _ (w : Witness) (history : IsOneHistory w) where
         arith,
         reached,
         ap (λ (x : ℕ × Shown). x.0) s.is,
-        count,
+        before_there w history p s.move o s.there (ap (λ (x : ℕ × Shown). owner_of x.1) s.is),
         on_rises o w.moves n p more,
       )))
       (cases_lt p n)
     where
-      none : (n : ℕ) → n ≡ 0 + n
-      none n = omega arith
-
       more : {X : Type 0} (xs : List X) (x : X) → length (xs ++ x ∷ []) ≡ suc (length xs)
       more [] x = refl
       more (y ∷ xs) x = ap suc (more xs x)

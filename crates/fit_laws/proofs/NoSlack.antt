@@ -28,7 +28,7 @@ use Rattle.record_text.specs.declared.record.SettimeReply.{SettimeReply}
 use Rattle.record_text.specs.declared.record.TimerLine.{TimerLine}
 use Rattle.record_text.specs.declared.record.Armed.{Armed}
 use Rattle.record_text.specs.declared.record.Armed.TheVariants as armings
-use Rattle.run_history.specs.Actions.{Action, Entered, Looked, Made, Shifted, Skipped, Wrote, also, entered, own}
+use Rattle.run_history.specs.Actions.{Action, Began, Entered, Looked, Made, Shifted, Skipped, Wrote, also, entered, own}
 use Rattle.run_history.specs.Histories.{answers_of, history_from, history_of, lines_of_timer, reading_at}
 use Rattle.script_text.specs.Declarations.{declared_of, terms_of, kind_of, asked_slack, without_slack}
 use Rattle.run_history.specs.ObjectCalls.{Arms, DoesAccept, DoesGettime, DoesRead, DoesSettime, MakesRearming, MakesSettime, cancels}
@@ -125,6 +125,7 @@ entered_none t [] none = tt
 entered_none t (Wrote number write ∷ ds) none = entered_none t ds none.1
 entered_none t (Entered timer number entry ∷ ds) none = also_none (nat_eq timer t) (number, entry) (entered t ds) none.0 (entered_none t ds none.1)
 entered_none t (Looked timer number reply ∷ ds) none = entered_none t ds none.1
+entered_none t (Began i stamp ∷ ds) none = entered_none t ds none.1
 entered_none t (Made i number entry ∷ ds) none = entered_none t ds none.1
 entered_none t (Skipped i number generation ∷ ds) none = entered_none t ds none.1
 entered_none t (Shifted base number event ∷ ds) none = entered_none t ds none.1
@@ -157,8 +158,11 @@ module _ (Reached : ℕ → ℕ → Type 0) (s : Script) where
   settime_made_none : {kind : Kind} {timer flags : ℕ} {value interval : TimeSpec} {reading : ℕ} {reply : SettimeReply} {actions : List Action}
       → MakesSettime Reached s.limit kind timer flags value interval reading reply actions → AllNone actions
   settime_made_none {timer = timer} makes =
-      subst AllNone (sym makes.done) (none-append (cancels timer makes.cancel ++ makes.start) _
-      (none-append (cancels timer makes.cancel) makes.start (cancelled makes.cancel) (arms_none _ _ _ _ _ makes.arm makes.start makes.arms)) (tt, tt))
+      subst AllNone (sym makes.done) (
+        tt,
+        none-append (cancels timer makes.cancel ++ makes.start) _
+            (none-append (cancels timer makes.cancel) makes.start (cancelled makes.cancel) (arms_none _ _ _ _ _ makes.arm makes.start makes.arms)) (tt, tt),
+      )
     where
       cancelled : (cancel : Option (ℕ × ℕ)) → AllNone (cancels timer cancel)
       cancelled None = tt
@@ -168,7 +172,7 @@ module _ (Reached : ℕ → ℕ → Type 0) (s : Script) where
       → MakesRearming Reached s.limit kind timer reading entry actions
       → AllNone actions
   rearming_made_none makes =
-      subst AllNone (sym makes.done) (none-append makes.start _ (arms_none _ _ _ _ _ makes.arm makes.start makes.arms) (tt, tt))
+      subst AllNone (sym makes.done) (tt, none-append makes.start _ (arms_none _ _ _ _ _ makes.arm makes.start makes.arms) (tt, tt))
 
   settime_none : (kind : Kind) (timer flags : ℕ) (value interval : TimeSpec) (reading : ℕ) (answer : Answer) (actions : List Action)
       → DoesSettime Reached s.limit kind timer flags value interval reading answer actions → AllNone actions
@@ -213,9 +217,9 @@ module _ (Reached : ℕ → ℕ → Type 0) (s : Script) where
       ⊎_elim (λ a. subst AllNone (sym a.1) (start_none f.timer reading (without_slack modes.Rel ns base) a.0 refl))
       (λ spent. subst AllNone (sym spent.1) (tt, tt)) is.0
   body_none (kinds.Posix base) reading f is =
-      ⊎_elim (λ trigger. subst AllNone (sym trigger.2) (tt, tt)) (λ skipped. subst AllNone (sym skipped.1) (tt, tt)) is.0
+      ⊎_elim (λ trigger. subst AllNone (sym trigger.2) (tt, (tt, tt))) (λ skipped. subst AllNone (sym skipped.1) (tt, tt)) is.0
   body_none (kinds.Fd base) reading f is =
-      ⊎_elim (λ trigger. subst AllNone (sym trigger.2) (tt, tt)) (λ skipped. subst AllNone (sym skipped.1) (tt, tt)) is.0
+      ⊎_elim (λ trigger. subst AllNone (sym trigger.2) (tt, (tt, tt))) (λ skipped. subst AllNone (sym skipped.1) (tt, tt)) is.0
 
   fired_none : (base reading : ℕ) (fired : List Fired) → AllByRecursion (λ f. IsBody Reached s.limit (kind_of s f.timer) reading f) fired
       → AllNone (flat_map (fires base reading) fired)

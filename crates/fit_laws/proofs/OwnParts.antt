@@ -8,7 +8,7 @@ use Rattle.std.proofs.lemmas.List.{take-map}
 use Rattle.record_text.specs.declared.record.Entry.{Entry}
 use Rattle.record_text.specs.declared.record.Label.{Label}
 use Rattle.record_text.specs.declared.record.TimerLine.{TimerLine}
-use Rattle.run_history.specs.Actions.{Action, also, Entered, entered, Looked, Made, own, Shifted, Skipped, Wrote}
+use Rattle.run_history.specs.Actions.{Action, also, Began, Entered, entered, Looked, Made, own, Shifted, Skipped, Wrote}
 use Rattle.run_history.specs.Order.{is_before, is_label, IsInOrder, made_by}
 use Rattle.script_text.specs.declared.script.Script.{Script}
 use Rattle.run_history.specs.Witnesses.{Move, OfBase, OfRise, OfTimer, Owner, Shown, ShownLine, TimersList, is_owner, line_of_timer, moves_from, moves_on, owner_of}
@@ -64,6 +64,19 @@ on_place o (suc p) (x ∷ ms) m at of =
     as (λ b. slice_get (also b x (moves_on o ms)) (length (also b x (moves_on o (take p ms)))) ≡ Some m) [
       | true ↦ on_place o p ms m at of
       | false ↦ on_place o p ms m at of
+    ]
+
+-- at a move's place its list goes on by one
+pub on_here : (o : Owner) (p : ℕ) (ms : List Move) (m : Move) → slice_get ms p ≡ Some m → owner_of m.shown ≡ o
+    → length (moves_on o (take (suc p) ms)) ≡ suc (length (moves_on o (take p ms)))
+on_here o p [] m there of = absurd (cc)
+on_here o zero (x ∷ ms) m there of =
+    ap (λ b. length (also b x [])) (owner_is (owner_of x.shown) o (ap (λ (y : Move). owner_of y.shown) (same_Some x m there) ∙ of))
+on_here o (suc p) (x ∷ ms) m there of =
+    elim (is_owner (owner_of x.shown) o)
+    as (λ b. length (also b x (moves_on o (take (suc p) ms))) ≡ suc (length (also b x (moves_on o (take p ms))))) [
+      | true ↦ ap suc (on_here o p ms m there of)
+      | false ↦ on_here o p ms m there of
     ]
 
 -- a line taken as a move says its own place
@@ -171,6 +184,7 @@ of_timer-entered t [] = refl
 of_timer-entered t (Wrote number write ∷ ds) = of_timer-entered t ds
 of_timer-entered t (Entered timer number entry ∷ ds) = ap (also (nat_eq timer t) (number, entry)) (of_timer-entered t ds)
 of_timer-entered t (Looked timer number reply ∷ ds) = of_timer-entered t ds
+of_timer-entered t (Began i stamp ∷ ds) = of_timer-entered t ds
 of_timer-entered t (Made i number entry ∷ ds) = of_timer-entered t ds
 of_timer-entered t (Skipped i number generation ∷ ds) = of_timer-entered t ds
 of_timer-entered t (Shifted base number event ∷ ds) = of_timer-entered t ds

@@ -27,7 +27,7 @@ use Rattle.run_history.specs.Actions.{Action, entered, own}
 use Rattle.run_history.specs.Histories.{history_from, history_of, lines_of_timer, reading_at, timer_after, timer_labels}
 use Rattle.script_text.specs.Declarations.{declared_as, declared_of, terms_of, declareds_of}
 use Rattle.run_history.specs.Order.{is_before, IsInOrder, made_by}
-use Rattle.run_history.specs.Witnesses.{Witness, entries_in, entry_of_move, entry_of_shown, IsOneHistory, labels, line_of_timer, lines_at, Move, moves_from, moves_on, OfTimer, owner_of, Shown, TimersList, timer_along}
+use Rattle.run_history.specs.Witnesses.{Witness, entries_in, entry_of_move, entry_of_shown, IsOneHistory, labels, line_of_timer, lines_at, Move, moves_from, moves_on, OfTimer, Owner, owner_of, Shown, TimersList, timer_along}
 use Rattle.fit_laws.specs.EachTimer.{IsOwnPoint, WasSo}
 use Rattle.run_history.specs.Traces.{all_entered, own_moves}
 use Rattle.run_history.specs.Truths.{IsMoment, Saw}
@@ -46,6 +46,16 @@ split_at (y ∷ xs) (suc p) x at = ap (λ zs. y ∷ zs) (split_at xs p x at)
 -- how many entries a timer has among the first so many of all
 abbrev pub seen : Witness → ℕ → ℕ → ℕ
 seen w n t = length (moves_on (TimersList t) (take n w.moves))
+
+-- where a move stands its list has as many moves as it says
+pub before_there : (w : Witness) → IsOneHistory w → (p : ℕ) (m : Move) (o : Owner) → slice_get w.moves p ≡ Some m → owner_of m.shown ≡ o
+    → m.before ≡ length (moves_on o (take p w.moves))
+before_there w one p m o there of =
+    let many = length (moves_on o (take p w.moves)) in
+    sym (none many ∙ before_at 0 many (lines_at w.run o) m (ap (λ ms. slice_get ms many) (sym (one.all o)) ∙ on_place o p w.moves m there of))
+  where
+    none : (n : ℕ) → n ≡ 0 + n
+    none n = omega arith
 
 -- a script's timer by its number; one that isn't there has no clock of its own
 declared : (list : List Declared) (terms : Terms) (t : ℕ) → t < length list → timer_at (openings list terms) t ≡ opening (get_or list t no_declared) terms
@@ -183,14 +193,6 @@ module _ (w : Witness) (one : IsOneHistory w) (timers : length w.run.timers ≡ 
       fits [] (suc k) is = absurd (omega (arith, is))
       fits (x ∷ xs) zero is = omega arith
       fits (x ∷ xs) (suc k) is = let below = fits xs k (omega (arith, is)) in omega (arith, below)
-
-  -- at a move's place its timer has as many entries as it says
-  pub before_then : (p t : ℕ) (m : Move) → slice_get w.moves p ≡ Some m → owner_of m.shown ≡ TimersList t → seen w p t ≡ m.before
-  before_then p t m at of = from_none (seen w p t) ∙ before_at 0 (seen w p t) (lines_at w.run (TimersList t)) m
-      (ap (λ ms. slice_get ms (seen w p t)) (sym (one.all (TimersList t))) ∙ on_place (TimersList t) p w.moves m at of)
-    where
-      from_none : (n : ℕ) → n ≡ 0 + n
-      from_none n = omega arith
 
   -- law: a timer has no fewer entries later
   pub seen_rises : (a b t : ℕ) → a ≤ b → seen w a t ≤ seen w b t

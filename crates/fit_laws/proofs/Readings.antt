@@ -1,6 +1,6 @@
 -- Readings of the clock among all moves: each has the writes before what its call's lane had seen, and none behind an entry of its call; none reads a write
 -- of a call that began no earlier, and none reads less than a call whose first moment its lane had seen.
-use Rattle.std.proofs.Common.{◌≡◌, ◌<◌, ◌≤◌, ℕ, ◌+◌, zero, suc, true, false, Some, List, [], ◌∷◌, length, take, arith, sym, ap, ◌∙◌, subst}
+use Rattle.std.proofs.Common.{◌≡◌, ◌<◌, ◌≤◌, ℕ, ◌+◌, zero, suc, true, Some, List, [], ◌∷◌, length, take, arith, ap, ◌∙◌, subst}
 use Rattle.std.specs.List.{slice_get}
 use Rattle.std.specs.Prelude.{MatchBool}
 use Rattle.std.proofs.Math.Logic.{⊎_elim}
@@ -10,16 +10,14 @@ use Rattle.std.proofs.lemmas.Option.{same_Some}
 use Rattle.record_text.specs.declared.record.Answer.{Answer}
 use Rattle.record_text.specs.declared.record.Label.{Label}
 use Rattle.script_text.specs.declared.script.Call.{Call}
-use Rattle.run_history.specs.Actions.{also}
 use Rattle.run_history.specs.Fits.{FitsIn, FitsInTurn, FitsLane, HasRead, ReadsInTurn, Seen, reads_clock, unseen}
 use Rattle.run_history.specs.Histories.{answers_of}
 use Rattle.run_history.specs.Order.{CallInRound, calls_of, made_by}
 use Rattle.run_history.specs.Truths.{IsMoment}
-use Rattle.run_history.specs.Witnesses.{CountersList, IsOneHistory, Move, Owner, TimersList, Witness, is_owner, lines_at, moves_on, owner_of, timer_along, writes_along}
-use Rattle.run_history.proofs.Owners.{owner_is}
+use Rattle.run_history.specs.Witnesses.{CountersList, IsOneHistory, Move, TimersList, Witness, owner_of, timer_along, writes_along}
 use Rattle.fit_laws.specs.Readings.{HadSeen, HasEntryAt, HasWriteAt, TakesReading}
-use Rattle.fit_laws.proofs.OwnParts.{before_at, count_moves, on_place, on_rises, own_rises}
-use Rattle.fit_laws.proofs.OwnPoints.{stamp_then}
+use Rattle.fit_laws.proofs.OwnParts.{count_moves, on_here, on_rises, own_rises}
+use Rattle.fit_laws.proofs.OwnPoints.{before_there, stamp_then}
 use Rattle.fit_laws.proofs.Moments.{IsLineOf, none_yet, own_here, rises_counted, seen_more, writes_rise}
 
 -- ---- a call in its lane's turn
@@ -72,31 +70,11 @@ has_read w c call from reads read = subst (λ b. MatchBool b (HasRead w c from) 
 
 -- ---- where a write stands
 
--- at a move's place its list goes on by one
-on_here : (o : Owner) (p : ℕ) (ms : List Move) (m : Move) → slice_get ms p ≡ Some m → owner_of m.shown ≡ o
-    → length (moves_on o (take (suc p) ms)) ≡ suc (length (moves_on o (take p ms)))
-on_here o p [] m there of = absurd (cc)
-on_here o zero (x ∷ ms) m there of =
-    ap (λ b. length (also b x [])) (owner_is (owner_of x.shown) o (ap (λ (y : Move). owner_of y.shown) (same_Some x m there) ∙ of))
-on_here o (suc p) (x ∷ ms) m there of =
-    elim (is_owner (owner_of x.shown) o)
-    as (λ b. length (also b x (moves_on o (take (suc p) ms))) ≡ suc (length (also b x (moves_on o (take p ms))))) [
-      | true ↦ ap suc (on_here o p ms m there of)
-      | false ↦ on_here o p ms m there of
-    ]
-
 module _ (w : Witness) (history : IsOneHistory w) where
   -- before a write's place stand all writes of lower numbers, and no others
   before_write : (place number : ℕ) → HasWriteAt w place number → writes_along w place + 1 ≡ number
   before_write place number write =
-      let o = CountersList 0 in
-      let many = length (moves_on o (take place w.moves)) in
-      let count : many ≡ write.move.before = none many ∙ before_at 0 many (lines_at w.run o) write.move
-      (ap (λ ms. slice_get ms many) (sym (history.all o)) ∙ on_place o place w.moves write.move write.there (ap owner_of write.is)) in
-      omega (arith, rises_counted w 0 place, count, write.count)
-    where
-      none : (n : ℕ) → n ≡ 0 + n
-      none n = omega arith
+      omega (arith, rises_counted w 0 place, before_there w history place write.move (CountersList 0) write.there (ap owner_of write.is), write.count)
 
   -- behind it stands that write too
   behind_write : (place number n : ℕ) → HasWriteAt w place number → place < n → number ≤ writes_along w n

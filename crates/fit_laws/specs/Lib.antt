@@ -1,2 +1,3 @@
 pub mod EachTimer
+pub mod ObjectTurns
 pub mod Readings

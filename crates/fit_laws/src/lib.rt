@@ -13,8 +13,10 @@ ghost use Rattle.record_text.specs.declared.record.RunRecord.{RunRecord};
 ghost use Rattle.run_history.specs.Fits.{Fits, FitsIn};
 ghost use Rattle.run_history.specs.Objects.{object_labels};
 ghost use Rattle.run_history.specs.Order.{IsInOrder, IsLabel};
+ghost use Rattle.run_history.specs.Truths.{HadEntries};
 ghost use Rattle.run_history.specs.Witnesses.{Witness};
 ghost use Rattle.fit_laws.specs.EachTimer.{HasTimers};
+ghost use Rattle.fit_laws.specs.ObjectTurns.{BeginsTurn, EndsTurn};
 ghost use Rattle.fit_laws.specs.Readings.{HadSeen, HasEntryAt, HasWriteAt, TakesReading};
 
 /// A record that fits is right of each timer by itself: its list is a history of such a timer, and what calls did and were told was so by that list.
@@ -27,6 +29,13 @@ pub fn a_record_that_fits_is_right_of_each_timer()
 pub fn entries_of_an_object_keep_the_order_of_calls()
     ensures calls { (s : Script) (r : RunRecord) → Fits s r → (i : ℕ) → AllByRecursion (IsLabel s) (object_labels r i) }
     ensures order { (s : Script) (r : RunRecord) → Fits s r → (i : ℕ) → IsInOrder s (object_labels r i) }
+{}
+
+/// In the order by which a record fits, each turn of an object that began before a moment at which the object had so many entries ends before that moment,
+/// by its call's entry. So what a call tells of an object holds while no other call has its turn of it.
+pub fn no_call_has_its_turn_of_an_object_that_is_told_of()
+    ensures { (w : Witness) → FitsIn w → (i entries n : ℕ) → HadEntries w i entries n → (c : Label) (stamp begun : ℕ) → BeginsTurn w i c stamp begun → begun < n
+        → (ended : ℕ) × (begun < ended) × (ended < n) × EndsTurn w i c stamp ended }
 {}
 
 /// A record that fits a script of version 1 has no slack: a soft expiry is the expiry. The text of such a record shows neither.

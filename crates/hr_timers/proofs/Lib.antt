@@ -4,6 +4,7 @@ pub mod Making
 pub mod Locks
 pub mod Standing
 pub mod Logging
+pub mod Behind
 pub mod Leaving
 pub mod True
 pub mod Ways

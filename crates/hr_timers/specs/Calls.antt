@@ -87,6 +87,12 @@ CancelFits t (cancels.Idle n) = seq.IsIdle t × (n ≡ t.stamp)
 CancelFits t (cancels.Cancelled g n) = (t.armed ≡ Some g) × (t.running ≡ None) × (t.moving ≡ false) × (n ≡ t.stamp + 1)
 CancelFits t (cancels.Running g n) = (t.running ≡ Some g) × (n ≡ t.stamp)
 
+-- whether it tells that the timer's function runs
+abbrev pub tells_running : CancelAnswer → Bool
+tells_running (cancels.Idle n) = false
+tells_running (cancels.Cancelled g n) = false
+tells_running (cancels.Running g n) = true
+
 pub record Cancels (o : Opening) (v w : KnownOfTimers) (t : ℕ) (a : CancelAnswer) : Type 0 where
   pub at : List SystemEntry
   pub made : MadeAt v w t at (cancel_entries a)

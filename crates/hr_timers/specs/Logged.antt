@@ -1,19 +1,24 @@
 -- What each call with a sink says: what the call without one says, and that the sink got a receipt of each entry that it made, with the number
 -- that the entry has. `put` is what a receipt makes of the sink, which was `s` before the call and is `s'` after it.
-use Rattle.std.specs.Prelude.{ℕ, ◌≡◌, ◌<◌, ◌≤◌, ◌⊎◌, Bool, List, [], ◌∷◌}
+use Rattle.std.specs.Prelude.{ℕ, ◌≡◌, ◌≢◌, ◌<◌, ◌≤◌, ◌⊎◌, Bool, List, [], ◌∷◌}
 use Rattle.ktime.specs.Readings.{ClockReading}
 use Rattle.pass_names.specs.Counts.{count}
+use Rattle.pass_names.specs.Passes.{Begins}
+use Rattle.pass_names.specs.SharedHistory.{LooksOn}
 use Rattle.seq_timer.specs.Events.{Asked}
 use Rattle.seq_timer.specs.declared.event.EventBy.TheVariants as events
 use Rattle.seq_timer.specs.declared.context.Context.{Context}
 use Rattle.seq_timer.specs.Histories as seq
 use Rattle.seq_timer.specs.declared.answer.CancelAnswer.{CancelAnswer}
+use Rattle.seq_timer.specs.declared.answer.CancelAnswer.TheVariants as cancels
 use Rattle.seq_timer.specs.declared.answer.ForwardAnswer.{ForwardAnswer}
 use Rattle.seq_timer.specs.declared.answer.Finished.{Finished}
 use Rattle.seq_timer.specs.declared.system.SystemEntry.{SystemEntry}
+use Rattle.seq_timer.specs.Systems.{rises_of}
 use Rattle.base_row.specs.declared.log.Receipt.{Receipt}
 use Rattle.base_row.specs.declared.view.Opening.{Opening}
 use Rattle.base_row.specs.Logs.{all_pushed, receipts_of}
+use Rattle.base_row.specs.Plays.{RisesFrom}
 use Rattle.base_row.specs.Rules.{is_base_claim}
 use Rattle.hr_timers.specs.declared.answer.ClaimAnswer.{ClaimAnswer}
 use Rattle.hr_timers.specs.declared.answer.ClaimAnswer.TheVariants as claimings
@@ -29,6 +34,19 @@ use Rattle.hr_timers.specs.Calls.{cancel_entries, entry_by, forward_entries, sta
 abbrev pub HasRoomToStart : Opening → KnownOfTimers → ℕ → ℕ → ℕ → Type 0
 HasRoomToStart o k t base room = (most_to_start (timer_at o.timers t).terms base ≤ room)
     ⊎ ((0 < room) × ((g : ℕ) × (b : ℕ) × (0 < count (is_base_claim t g b) k.claims)))
+
+-- a counter rose by one, from so many, before a cancel that answered so; it didn't where the timer's function was running
+abbrev pub RisesUnlessRunning : CancelAnswer → ℕ → ℕ → KnownOfTimers → KnownOfTimers → Type 0
+RisesUnlessRunning (cancels.Idle n) counter from v w = LooksOn v w × RisesFrom counter from v.seen w.seen
+RisesUnlessRunning (cancels.Cancelled g n) counter from v w = LooksOn v w × RisesFrom counter from v.seen w.seen
+RisesUnlessRunning (cancels.Running g n) counter from v w = w ≡ v
+
+-- at a moment of the call a counter had risen another number of times
+pub record HadRisenOtherwise (counter from : ℕ) (v w : KnownOfTimers) : Type 0 where
+  pub at : List SystemEntry
+  pub after : Begins v.seen at
+  pub seen : Begins at w.seen
+  pub other : rises_of counter at ≢ from
 
 module _ {A : Type 0} (put : A → Receipt → A) (o : Opening) where
   -- the receipts of a timer's entries that were made at this moment went to the sink
@@ -68,3 +86,9 @@ module _ {A : Type 0} (put : A → Receipt → A) (o : Opening) where
     pub record FinishesLogged (n : ClaimNumbers) (restart : Bool) (a : Finished) (s s' : A) : Type 0 where
       pub finishes : Finishes o v w n restart a
       pub logged : IsLogged n.timer finishes.at (entry_by (timer_then o finishes.at n.timer) (events.Finish restart) ∷ []) s s'
+
+  -- a cancel behind a rise of a counter
+  pub record CancelsBehind (counter from : ℕ) (v w : KnownOfTimers) (t : ℕ) (a : CancelAnswer) (s s' : A) : Type 0 where
+    pub risen : KnownOfTimers
+    pub rises : RisesUnlessRunning a counter from v risen
+    pub cancels : CancelsLogged risen w t a s s'

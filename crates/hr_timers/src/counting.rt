@@ -1,19 +1,22 @@
 //! Counters beside the timers, whose rises stand in the one history of all timers. What a counter counts is for its callers to say: one that is raised before
 //! and behind what it counts gives that a place among the timers' entries.
-ghost use Rattle.std.specs.Prelude.{◌≡◌, ◌≢◌, ◌+◌, ◌^◌, ◌<◌, ◌≤◌, length, replicate, [], IfOk, MatchBool};
+ghost use Rattle.std.specs.Prelude.{◌≡◌, ◌≢◌, ◌+◌, ◌^◌, ◌<◌, ◌≤◌, length, replicate, [], IfOk, MatchBool, MatchOption};
 ghost use Rattle.base_row.specs.Calls.{opening_with};
 ghost use Rattle.base_row.specs.Places.{most_counters};
 ghost use Rattle.base_row.specs.Plays.{RaisesTo, RisesFrom};
-ghost use Rattle.hr_timers.specs.Known.{IsPassOf, KeepsLocks};
+ghost use Rattle.hr_timers.specs.Known.{IsPassOf, KeepsLocks, LocksGoOn};
+ghost use Rattle.hr_timers.specs.Logged.{CancelsBehind, HadRisenOtherwise};
 ghost use Rattle.pass_names.specs.SharedHistory.{LooksOn, first_known};
 ghost use Rattle.seq_timer.specs.Steps.{HasRoom};
 ghost use Rattle.seq_timer.specs.Systems.{rises_of};
 
+use crate::cancelling;
 use crate::timers::Timers;
 use crate::tokens::Pass;
-use base_row::BaseRow;
-use seq_timer::{Declared, Terms};
+use base_row::{BaseRow, ReceiptSink};
+use seq_timer::{CancelAnswer, Declared, Terms};
 use std::alloc::{AllocError, Global};
+use std::sync::Wait;
 
 impl Timers {
     /// Timers of both contexts that take entries on these terms, with so many counters, each 0. Their bases may go off line where the terms have a reach.
@@ -82,5 +85,41 @@ impl Timers {
         let rose = self.row.step_counter(&mut pass.inner, counter, from);
         self.check(pass);
         rose
+    }
+
+    /// As `try_to_cancel_logged`, with a step of a counter before it: unless the timer's function is running, the counter rises by one, under the lock of the
+    /// timer's base. It answers `None`, and has done nothing, where the counter hasn't risen `from` times.
+    pub fn try_to_cancel_behind<R: Wait, S: ReceiptSink>(
+        &self,
+        rt: &R,
+        pass: &mut Pass,
+        sink: &mut S,
+        timer: u32,
+        counter: u32,
+        from: u64,
+    ) -> Option<CancelAnswer>
+        requires pass { IsPassOf self.now pass.old }
+        requires timer { timer < length self.now.about.timers }
+        requires room { 0 < S.room sink.old }
+        requires counter { counter < self.now.about.counters }
+        requires small { from + 1 < 2 ^ 64 }
+        ensures pass { IsPassOf self.now pass.new }
+        ensures cancels { MatchOption result
+            (LooksOn pass.old.known pass.new.known × HadRisenOtherwise counter from pass.old.known pass.new.known × (sink.new ≡ sink.old))
+            (λ a. CancelsBehind S.pushed self.now.about counter from pass.old.known pass.new.known timer a sink.old sink.new) }
+        ensures locks { LocksGoOn pass.old pass.new }
+        ensures room { S.room sink.old ≤ S.room sink.new + 1 }
+    {
+        let answer = cancelling::try_to_cancel_behind(
+            rt,
+            &self.row,
+            &mut pass.inner,
+            sink,
+            timer,
+            counter,
+            from,
+        );
+        self.check(pass);
+        answer
     }
 }

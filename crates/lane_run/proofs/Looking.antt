@@ -9,7 +9,7 @@ use Rattle.pass_names.proofs.Passes.{begins_length, begins_refl, begins_trans}
 use Rattle.run_history.specs.Witnesses.{CountersList}
 use Rattle.timer_objects.specs.Known.{IsObjectsPass, seen_of}
 use Rattle.timer_objects.specs.Rearming.{FindsObject}
-use Rattle.timer_objects.specs.Turns.{entries_counter, entries_told}
+use Rattle.timer_objects.specs.Turns.{turns_counter, turns_told}
 use Rattle.timer_objects.specs.declared.object.Object.{Object}
 use Rattle.lane_world.proofs.SeenMore.{begins_same, count_begins}
 use Rattle.lane_world.specs.Rounds.{IsMain, LeftOf, MakesRounds, none_left}
@@ -29,7 +29,7 @@ pub record LookedAt (x : WorldOf) (p q : WorldPass) (many : ℕ) : Type 0 where
   pub objects : Looks p.objects.knows.pass q.objects.knows.pass
   pub opening : q.objects.knows.opening ≡ p.objects.knows.opening
   pub clock : q.clock ≡ p.clock
-  pub no_more : (i : ℕ) → i < many → entries_told i p.timers.known ≤ length (seen_of q.objects i)
+  pub no_more : (i : ℕ) → i < many → turns_told i p.timers.known ≤ length (seen_of q.objects i) + length (seen_of q.objects i)
 
 -- law: none
 pub looked_none : {x : WorldOf} {p : WorldPass} → IsMain x p [] → LookedAt x p p 0
@@ -45,7 +45,7 @@ looked_none {p = p} main = record {
 -- law: one more
 pub looked_more : {x : WorldOf} {p q r : WorldPass} {id : ℕ} {object : Object} {n : ℕ} → LookedAt x p q id → IsPassOf x.timers r.timers
     → IsObjectsPass x.objects r.objects → r.clock ≡ q.clock → LooksOn q.timers.known r.timers.known → FindsObject q.objects r.objects id object n
-    → entries_told id r.timers.known ≡ n → r.objects.knows.pass.id ≡ q.objects.knows.pass.id → LookedAt x p r (id + 1)
+    → turns_told id r.timers.known ≡ n + n → r.objects.knows.pass.id ≡ q.objects.knows.pass.id → LookedAt x p r (id + 1)
 looked_more {x = x} {p = p} {q = q} {r = r} {id = id} {n = n} before timers objects clock looks finds told name = record {
   main = main_ran [] [] (record {
     timers = timers;
@@ -72,10 +72,10 @@ looked_more {x = x} {p = p} {q = q} {r = r} {id = id} {n = n} before timers obje
       (λ (lower : i < id). omega (arith, before.no_more i lower, begins_length (finds.reads.pass.seen.each i)))
       (λ (same : id ≤ i).
       let is : id ≡ i = omega (arith, less, same) in
-      subst (λ j. entries_told j p.timers.known ≤ length (seen_of r.objects j)) is (omega (
+      subst (λ j. turns_told j p.timers.known ≤ length (seen_of r.objects j) + length (seen_of r.objects j)) is (omega (
         arith,
-        count_begins (CountersList (entries_counter id)) before.timers.seen,
-        count_begins (CountersList (entries_counter id)) looks.seen,
+        count_begins (CountersList (turns_counter id)) before.timers.seen,
+        count_begins (CountersList (turns_counter id)) looks.seen,
         told,
         finds.stamp,
       )))

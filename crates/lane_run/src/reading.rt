@@ -44,7 +44,7 @@ pub(crate) fn settle<R: Wait>(rt: &R, world: &World, main: &mut WorldPass)
     );
 }
 
-/// Looks at each object at the end of a run: by then the timers' first pass was told of no more entries of an object than it has.
+/// Looks at each object at the end of a run: by then it has made all turns of which the timers' first pass was told.
 pub(crate) fn look_at_all<R: Wait>(rt: &R, world: &World, main: &mut WorldPass)
     requires main { IsMain world.now main.old [] }
     ensures main { IsMain world.now main.new [] }

@@ -144,7 +144,7 @@ impl World {
 /// How many entries past its limit may move a timer off a base that goes off line, in version 2 of the script.
 const REACH: u64 = 1024;
 
-/// The timers of a script, declared so, with a counter for the clock's writes and one for each object's entries. In version 2 their bases may go off line.
+/// The timers of a script, declared so, with a counter for the clock's writes and one for each object's turns. In version 2 their bases may go off line.
 fn make_timers(
     alloc: Global,
     script: &Script,

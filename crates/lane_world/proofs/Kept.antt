@@ -2,7 +2,7 @@
 -- from what the lane's passes have seen.
 use Rattle.std.specs.List.{AllByRecursion, slice_get}
 use Rattle.std.specs.List.Sorted.{IsPermutation}
-use Rattle.std.proofs.Common.{ℕ, suc, ◌≡◌, ◌≤◌, ◌<◌, ◌+◌, nat_eq, Some, List, [], ◌∷◌, length, map, take, ◌++◌, filter}
+use Rattle.std.proofs.Common.{ℕ, suc, ◌≡◌, ◌≤◌, ◌<◌, ◌+◌, ◌-◌, nat_eq, Some, List, [], ◌∷◌, length, map, take, ◌++◌, filter}
 use Rattle.clock_cell.specs.Views.{reading_after, writes}
 use Rattle.clock_model.specs.Clocks.{last_stamp}
 use Rattle.lane_notes.specs.Notes.{NotesOf, both_noted, no_notes}
@@ -136,7 +136,7 @@ own_notes c notes = record {
   writes = filter (λ n. is_label c n.line.label) notes.writes;
 }
 
--- a note of an entry, of a timer's, a base's or an object's, or of a write of the clock
+-- a note of a move: of an entry of a timer, a base or an object, of a turn's beginning, or of a write of the clock
 pub record ToldNote : Type 0 where
   pub label : Label
   pub number : ℕ
@@ -148,15 +148,23 @@ of_entry n = record { label = n.label; number = n.number; shown = OfTimer n.time
 abbrev pub of_base : BaseNote → ToldNote
 of_base n = record { label = n.label; number = n.number; shown = OfBase n.base n.event }
 
+-- an object's note tells of two moves: its call's turn began, and the call made the entry
+abbrev pub of_turn : ObjectNote → ToldNote
+of_turn n = record { label = n.label; number = n.number + n.number - 1; shown = OfRise (suc n.object) }
+
 abbrev pub of_object : ObjectNote → ToldNote
-of_object n = record { label = n.label; number = n.number; shown = OfRise (suc n.object) }
+of_object n = record { label = n.label; number = n.number + n.number; shown = OfRise (suc n.object) }
+
+abbrev pub turn_notes : List ObjectNote → List ToldNote
+turn_notes [] = []
+turn_notes (n ∷ ns) = of_turn n ∷ of_object n ∷ turn_notes ns
 
 abbrev pub of_write : WriteNote → ToldNote
 of_write n = record { label = n.line.label; number = n.stamp; shown = OfRise 0 }
 
 -- all of them
 abbrev pub told_notes : NotesOf → List ToldNote
-told_notes notes = map of_entry notes.entries ++ (map of_base notes.bases ++ (map of_write notes.writes ++ map of_object notes.objects))
+told_notes notes = map of_entry notes.entries ++ (map of_base notes.bases ++ (map of_write notes.writes ++ turn_notes notes.objects))
 
 -- what such a note says but for its label
 abbrev pub told_in : ToldNote → ℕ × Shown

@@ -1,6 +1,6 @@
 -- What all lanes leave together at the end of a run: of each call what its lane kept, all notes, and what the last passes have seen.
 use Rattle.std.specs.List.{AllByRecursion}
-use Rattle.std.specs.Prelude.{ℕ, ◌≡◌, ◌≤◌, ◌<◌, List, [], get_or, length}
+use Rattle.std.specs.Prelude.{ℕ, ◌≡◌, ◌+◌, ◌≤◌, ◌<◌, List, [], get_or, length}
 use Rattle.clock_cell.specs.Views.{writes}
 use Rattle.clock_model.specs.Clocks.{last_stamp}
 use Rattle.lane_notes.specs.Notes.{NotesOf}
@@ -16,7 +16,7 @@ use Rattle.script_text.specs.declared.script.Script.{Script}
 use Rattle.record_text.specs.declared.record.Answer.{Answer}
 use Rattle.seq_timer.specs.Systems.{rises_of}
 use Rattle.timer_objects.specs.Known.{seen_of}
-use Rattle.timer_objects.specs.Turns.{entries_told}
+use Rattle.timer_objects.specs.Turns.{turns_told}
 use Rattle.lane_world.proofs.Kept.{Follows, IsNoteSeen, NoteKind, StandAt, Tallies, TellLog, label_of, list_of, own_notes}
 use Rattle.lane_world.specs.Worlds.{AreLast, ArePassesOf, IsWhole, IsWorldOf, WorldOf}
 use Rattle.lane_world.specs.declared.WorldPass.{WorldPass}
@@ -45,8 +45,8 @@ pub record AreLastOf (s : Script) (x : WorldOf) (q : WorldPass) : Type 0 where
   pub of : AreLastPasses s x q
   -- of the counter for the clock's writes the timers' pass was told of just as many rises as the clock took writes
   pub told : rises_of 0 q.timers.known.seen ≡ length (writes q.clock.knows)
-  -- and of those for objects' entries of no more than the objects have
-  pub no_more : (i : ℕ) → i < length s.timers → entries_told i q.timers.known ≤ length (seen_of q.objects i)
+  -- and of those for objects' turns of no more than two for each entry of the object
+  pub no_more : (i : ℕ) → i < length s.timers → turns_told i q.timers.known ≤ length (seen_of q.objects i) + length (seen_of q.objects i)
 
 -- ---- the run
 

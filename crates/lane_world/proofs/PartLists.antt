@@ -11,12 +11,14 @@ use Rattle.run_history.proofs.Known.{rises_lower}
 use Rattle.record_text.proofs.Lists.{All-append}
 use Rattle.std.proofs.Common.{subst}
 use Rattle.std.specs.List.Sorted.{IsPermutation}
-use Rattle.std.proofs.lemmas.List.Sorted.{IsPermutation-refl}
+use Rattle.std.proofs.lemmas.List.Sorted.{IsPermutation-cons, IsPermutation-middle, IsPermutation-refl, IsPermutation-trans}
 use Rattle.std.proofs.Common.{sym}
 use Rattle.std.proofs.lemmas.List.{append_assoc, append-nil}
 use Rattle.clock_cell.specs.Views.{writes}
 use Rattle.lane_notes.specs.Notes.{both_noted, no_notes, NotesOf}
 use Rattle.std.proofs.lemmas.Bool.{eqb-true}
+use Rattle.lane_notes.specs.declared.notes.ObjectNote.{ObjectNote}
+use Rattle.lane_world.proofs.Kept.{of_object, of_turn, turn_notes}
 
 -- ---- what holds of each
 
@@ -116,3 +118,15 @@ both_noted-assoc a b c =
     notes_same (both_noted (both_noted a b) c) (both_noted a (both_noted b c)) (append_assoc a.entries b.entries c.entries)
     (append_assoc a.looks b.looks c.looks) (append_assoc a.objects b.objects c.objects) (append_assoc a.skips b.skips c.skips)
     (append_assoc a.bases b.bases c.bases) (append_assoc a.writes b.writes c.writes)
+
+-- ---- turns of objects
+
+-- law: of some notes first the beginnings of all turns and then all entries, or of each note both
+pub turns_by_kind : (ns : List ObjectNote) → IsPermutation (map of_turn ns ++ map of_object ns) (turn_notes ns)
+turns_by_kind [] = IsPermutation-refl []
+turns_by_kind (n ∷ ns) =
+    let begins = map of_turn ns in
+    let ends = map of_object ns in
+    IsPermutation-cons (of_turn n) _ _
+    (IsPermutation-trans (begins ++ of_object n ∷ ends) (of_object n ∷ (begins ++ ends)) _ (IsPermutation-middle begins (of_object n) ends)
+    (IsPermutation-cons (of_object n) _ _ (turns_by_kind ns)))

@@ -1,5 +1,5 @@
 -- A whole run: the rounds of a script from its first passes on, and the record of what all lanes have left, which shows all that the last passes have seen.
-use Rattle.std.specs.Prelude.{ℕ, ◌≡◌, ◌≤◌, ◌<◌, length, map, Some, List, [], ◌∷◌}
+use Rattle.std.specs.Prelude.{ℕ, ◌≡◌, ◌+◌, ◌≤◌, ◌<◌, length, map, Some, List, [], ◌∷◌}
 use Rattle.clock_cell.specs.Views.{writes}
 use Rattle.ordered_clock.specs.Moments.{told}
 use Rattle.pass_names.specs.Passes.{Looks}
@@ -13,7 +13,7 @@ use Rattle.run_history.specs.Histories.{history_of, lines_of_base}
 use Rattle.run_history.specs.Objects.{lines_of_object}
 use Rattle.seq_timer.specs.Systems.{entries_of, shifts_of}
 use Rattle.timer_objects.specs.Known.{seen_of}
-use Rattle.timer_objects.specs.Turns.{entries_told}
+use Rattle.timer_objects.specs.Turns.{turns_told}
 use Rattle.lane_world.specs.Rounds.{IsMain, LeftOf, MakesRounds, none_left}
 use Rattle.lane_world.specs.Worlds.{WorldOf}
 use Rattle.lane_world.specs.declared.WorldPass.{WorldPass}
@@ -43,13 +43,13 @@ pub record Settles (p q : WorldPass) : Type 0 where
   pub clock : Looks p.clock.knows.pass q.clock.knows.pass
   pub all : told q.timers.known ≡ length (writes q.clock.knows)
 
--- Each object was looked at, and seen to have all entries of which the timers' passes had been told before that; nothing else was done.
+-- Each object was looked at, and seen to have made all turns of which the timers' passes had been told before that; nothing else was done.
 pub record LooksAtAll (x : WorldOf) (p q : WorldPass) : Type 0 where
   pub timers : LooksOn p.timers.known q.timers.known
   pub objects : Looks p.objects.knows.pass q.objects.knows.pass
   pub opening : q.objects.knows.opening ≡ p.objects.knows.opening
   pub clock : q.clock ≡ p.clock
-  pub no_more : (i : ℕ) → i < length x.objects.decls → entries_told i p.timers.known ≤ length (seen_of q.objects i)
+  pub no_more : (i : ℕ) → i < length x.objects.decls → turns_told i p.timers.known ≤ length (seen_of q.objects i) + length (seen_of q.objects i)
 
 -- The rounds were made in turn, the clock was settled, each object was looked at, and the record shows the notes and answers that the rounds left, the
 -- notes in order. The record's order is what the timers' pass had seen when the clock was settled.

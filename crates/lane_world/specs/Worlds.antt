@@ -55,7 +55,7 @@ decl_as (kinds.Fd base) clock = record { kind = over.Fd; clock = clock; base = b
 abbrev pub decl_of : Declaration → Decl
 decl_of d = decl_as d.kind d.clock
 
--- what the timers of a script begin with: its bases, the timers as it declares them, and a counter for the clock's writes and one for each object's entries
+-- what the timers of a script begin with: its bases, the timers as it declares them, and a counter for the clock's writes and one for each object's turns
 abbrev pub opening_for : Script → Opening
 opening_for s = rows.opening_with s.bases (declareds_of s) (terms_of s) (length s.timers + 1)
 

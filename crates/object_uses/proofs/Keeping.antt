@@ -53,7 +53,7 @@ keeps_armed o v w t (Some wanted) base reading arm log log' starts = keeps_made 
 -- what a call leaves that has a turn of an object, where what it did in that left it so
 keeps_turn : {id n : ℕ} {old begun worked new : KnownOfTimers} → HasTurn id n old begun worked new → KeepsPass begun worked → KeepsPass old new
 keeps_turn {id} {n} {old} {begun} {worked} {new} turn keeps =
-    keeps_trans old begun new (keeps_looks old begun turn.looks) (keeps_trans begun worked new keeps (keeps_looks worked new turn.ends))
+    keeps_trans old begun new (keeps_looks old begun turn.begins.looks) (keeps_trans begun worked new keeps (keeps_looks worked new turn.ends.looks))
 
 module _ (x : ObjectsOf) (o : Opening) (old new : Caller) (id flags value interval : ℕ) (reading : ClockReading) where
   keeps_full : (n : ℕ) → FindsFull x old new id n → KeepsBoth old new

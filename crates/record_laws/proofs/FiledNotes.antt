@@ -9,8 +9,7 @@ use Rattle.std.specs.List.{AllByRecursion, slice_get}
 use Rattle.std.proofs.lemmas.List.{length-map}
 use Rattle.seq_timer.specs.declared.system.SystemEntry.{SystemEntry}
 use Rattle.std.specs.List.Sorted.{IsPermutation}
-use Rattle.std.proofs.Common.{◌⊎◌, ◌++◌, Bool, inl, inr, ⊎_elim}
-use Rattle.std.proofs.lemmas.Bool.Decides.{nat_tests}
+use Rattle.std.proofs.Common.{◌⊎◌, ◌++◌, inl, inr, ⊎_elim}
 use Rattle.std.proofs.lemmas.Bool.{and_left, cond-false, eqb-true, ne_eqb}
 use Rattle.std.proofs.lemmas.List.{append-nil}
 use Rattle.std.proofs.lemmas.List.Sorted.{IsPermutation-append, IsPermutation-map}
@@ -24,37 +23,30 @@ use Rattle.lane_notes.specs.declared.notes.ObjectNote.{ObjectNote}
 use Rattle.lane_notes.specs.declared.notes.WriteNote.{WriteNote}
 use Rattle.lane_notes.proofs.Lists.{noted_lines-shown}
 use Rattle.lane_notes.proofs.Rising.{is_at, RiseBehind, RiseBehind-sorted}
-use Rattle.lane_notes.proofs.Standing.{AtMostOne, HasPlace, stands_permuted, stood_before}
+use Rattle.lane_notes.proofs.Standing.{All-permuted, AtMostOne, HasPlace, stands_permuted, stood_before}
 use Rattle.record_text.specs.declared.record.Answer.{Answer}
 use Rattle.record_text.specs.declared.record.Label.{Label}
 use Rattle.run_history.specs.Actions.{also}
 use Rattle.run_history.specs.Order.{IsLabel}
 use Rattle.script_text.specs.declared.script.Script.{Script}
 use Rattle.run_history.specs.Receipts.{AreFiled, Filed, files_on, IsAhead, IsMade, line_filed, PlacedEntry, RiseBy}
-use Rattle.run_history.specs.Witnesses.{BasesList, CountersList, OfBase, OfRise, OfTimer, Owner, ShownLine, TimersList, is_owner, line_of_base, line_of_object, line_of_timer, line_of_write, lines_at, owner_of}
+use Rattle.run_history.specs.Witnesses.{BasesList, CountersList, OfBase, OfRise, OfTimer, Owner, ShownLine, TimersList, line_of_base, line_of_object, line_of_timer, line_of_write, lines_at, owner_of, twice}
 use Rattle.run_history.specs.Runs.{CallLog}
 use Rattle.run_history.proofs.Known.{behind_all, rises_lower}
 use Rattle.run_history.proofs.Laid.{same_place}
 use Rattle.run_history.proofs.Lists.{all_at, each, at_map, map_get}
-use Rattle.lane_world.proofs.Kept.{BaseNotes, EntryNotes, ObjectNotes, ToldNote, WriteNotes, of_base, of_entry, of_object, of_write, told_notes}
+use Rattle.lane_world.proofs.Kept.{BaseNotes, EntryNotes, ObjectNotes, ToldNote, WriteNotes, of_base, of_entry, of_write, told_notes, turn_notes}
 use Rattle.lane_world.proofs.PartLists.{each_weaker}
 use Rattle.lane_world.proofs.Left.{AreLastOf, AreLeft}
 use Rattle.lane_world.specs.Worlds.{WorldOf}
 use Rattle.lane_world.specs.declared.WorldPass.{WorldPass}
-use Rattle.record_laws.proofs.LastSeen.{base_lines_are, entries_once, has_receipt, HasReceipt, is_told, entry_rises_once, note_made, noted_at, object_lines_are, objects_once, same_parts, write_rises_once, writes_once, shifts_once, timer_lines_are, told_parts}
+use Rattle.record_laws.proofs.LastSeen.{base_lines_are, entries_once, has_receipt, HasReceipt, is_told, note_made, noted_at, object_lines_are, objects_once, rises_counted, same_parts, write_rises_once, writes_once, shifts_once, timer_lines_are, told_parts}
+use Rattle.record_laws.proofs.Turns.{all_turns, is_on, line_told, none_of_turns, turns_of, turns_permuted, twice_many}
 use Rattle.record_laws.proofs.Numbered.{as_many, at_most_one, number_within}
 use Rattle.record_laws.proofs.ClockLines.{all_of_clock}
 use Rattle.std.proofs.lemmas.Simd.{map-map}
 
 -- ---- notes with their receipts
-
--- whether a note is of this list
-abbrev pub is_on : Owner → ToldNote → Bool
-is_on o n = is_owner (owner_of n.shown) o
-
--- the line that it gives
-abbrev pub line_told : ToldNote → ShownLine
-line_told n = record { label = n.label; shown = n.shown }
 
 module _ (logs : Label → CallLog) where
   abbrev pub WithReceipt : Type 0
@@ -92,36 +84,48 @@ files_rise : (logs : Label → CallLog) (o : Owner) (k : ℕ) (ps : List (WithRe
 files_rise logs o k [] rise = tt
 files_rise logs o k (p ∷ ps) rise = (rise.0, files_rise logs (owner_of p.0.shown) p.0.number ps rise.1)
 
-objects_rise : (i k : ℕ) (os : List ObjectNote) → RiseBehind place_of_object i k os → RiseTold (CountersList (suc i)) k (map of_object os)
-objects_rise i k [] rise = tt
-objects_rise i k (x ∷ os) rise =
-    (⊎_elim (λ less. inl (omega (arith, less))) (λ same. inr (ap (λ n. CountersList (suc n)) same.0, same.1)) rise.0, objects_rise x.object x.number os rise.1)
+-- the notes of objects have numbers from 1 on
+abbrev AreSome : List ObjectNote → Type 0
+AreSome os = AllByRecursion (λ n. 0 < n.number) os
 
-writes_rise : (k : ℕ) (ws : List WriteNote) (os : List ObjectNote) → RiseBehind place_of_write 0 k ws → RiseBehind place_of_object 0 0 os
-    → RiseTold (CountersList 0) k (map of_write ws ++ map of_object os)
-writes_rise k [] [] rise last = tt
-writes_rise k [] (x ∷ os) rise last = (inl (omega arith), objects_rise x.object x.number os last.1)
-writes_rise k (w ∷ ws) os rise last = (⊎_elim (λ less. inl less) (λ same. inr (refl, same.1)) rise.0, writes_rise w.stamp ws os rise.1 last)
+-- the note of an entry stands behind that of its turn's beginning
+turns_rise : (i k : ℕ) (os : List ObjectNote) → RiseBehind place_of_object i k os → AreSome os → RiseTold (CountersList (suc i)) (k + k) (turn_notes os)
+turns_rise i k [] rise some = tt
+turns_rise i k (x ∷ os) rise some = (
+  ⊎_elim (λ less. inl (omega (arith, less))) (λ same. inr (ap (λ n. CountersList (suc n)) same.0, omega (arith, same.1))) rise.0,
+  (inr (refl, omega (arith, some.0)), turns_rise x.object x.number os rise.1 some.1),
+)
+
+-- behind a list that is ahead of objects'
+objects_rise : (o : Owner) (k : ℕ) (os : List ObjectNote) → ((i : ℕ) → IsAhead o (CountersList (suc i))) → RiseBehind place_of_object 0 0 os → AreSome os
+    → RiseTold o k (turn_notes os)
+objects_rise o k [] ahead rise some = tt
+objects_rise o k (x ∷ os) ahead rise some =
+    (inl (ahead x.object), (inr (refl, omega (arith, some.0)), turns_rise x.object x.number os rise.1 some.1))
+
+writes_rise : (k : ℕ) (ws : List WriteNote) (os : List ObjectNote) → RiseBehind place_of_write 0 k ws → RiseBehind place_of_object 0 0 os → AreSome os
+    → RiseTold (CountersList 0) k (map of_write ws ++ turn_notes os)
+writes_rise k [] os rise last some = objects_rise (CountersList 0) k os (λ i. omega arith) last some
+writes_rise k (w ∷ ws) os rise last some = (⊎_elim (λ less. inl less) (λ same. inr (refl, same.1)) rise.0, writes_rise w.stamp ws os rise.1 last some)
 
 bases_rise : (b k : ℕ) (bs : List BaseNote) (ws : List WriteNote) (os : List ObjectNote) → RiseBehind place_of_base b k bs
-    → RiseBehind place_of_write 0 0 ws → RiseBehind place_of_object 0 0 os
-    → RiseTold (BasesList b) k (map of_base bs ++ (map of_write ws ++ map of_object os))
-bases_rise b k [] [] [] rise behind last = tt
-bases_rise b k [] [] (x ∷ os) rise behind last = (inl tt, objects_rise x.object x.number os last.1)
-bases_rise b k [] (w ∷ ws) os rise behind last = (inl tt, writes_rise w.stamp ws os behind.1 last)
-bases_rise b k (x ∷ bs) ws os rise behind last =
-    (⊎_elim (λ less. inl less) (λ same. inr (ap (λ n. BasesList n) same.0, same.1)) rise.0, bases_rise x.base x.number bs ws os rise.1 behind last)
+    → RiseBehind place_of_write 0 0 ws → RiseBehind place_of_object 0 0 os → AreSome os
+    → RiseTold (BasesList b) k (map of_base bs ++ (map of_write ws ++ turn_notes os))
+bases_rise b k [] [] os rise behind last some = objects_rise (BasesList b) k os (λ i. tt) last some
+bases_rise b k [] (w ∷ ws) os rise behind last some = (inl tt, writes_rise w.stamp ws os behind.1 last some)
+bases_rise b k (x ∷ bs) ws os rise behind last some =
+    (⊎_elim (λ less. inl less) (λ same. inr (ap (λ n. BasesList n) same.0, same.1)) rise.0, bases_rise x.base x.number bs ws os rise.1 behind last some)
 
 told_rise : (t k : ℕ) (es : List EntryNote) (bs : List BaseNote) (ws : List WriteNote) (os : List ObjectNote) → RiseBehind place_of_entry t k es
-    → RiseBehind place_of_base 0 0 bs → RiseBehind place_of_write 0 0 ws → RiseBehind place_of_object 0 0 os
-    → RiseTold (TimersList t) k (map of_entry es ++ (map of_base bs ++ (map of_write ws ++ map of_object os)))
-told_rise t k [] [] [] [] rise of_bases of_writes of_objects = tt
-told_rise t k [] [] [] (x ∷ os) rise of_bases of_writes of_objects = (inl tt, objects_rise x.object x.number os of_objects.1)
-told_rise t k [] [] (w ∷ ws) os rise of_bases of_writes of_objects = (inl tt, writes_rise w.stamp ws os of_writes.1 of_objects)
-told_rise t k [] (x ∷ bs) ws os rise of_bases of_writes of_objects = (inl tt, bases_rise x.base x.number bs ws os of_bases.1 of_writes of_objects)
-told_rise t k (e ∷ es) bs ws os rise of_bases of_writes of_objects = (
+    → RiseBehind place_of_base 0 0 bs → RiseBehind place_of_write 0 0 ws → RiseBehind place_of_object 0 0 os → AreSome os
+    → RiseTold (TimersList t) k (map of_entry es ++ (map of_base bs ++ (map of_write ws ++ turn_notes os)))
+told_rise t k [] [] [] os rise of_bases of_writes of_objects some = objects_rise (TimersList t) k os (λ i. tt) of_objects some
+told_rise t k [] [] (w ∷ ws) os rise of_bases of_writes of_objects some = (inl tt, writes_rise w.stamp ws os of_writes.1 of_objects some)
+told_rise t k [] (x ∷ bs) ws os rise of_bases of_writes of_objects some =
+    (inl tt, bases_rise x.base x.number bs ws os of_bases.1 of_writes of_objects some)
+told_rise t k (e ∷ es) bs ws os rise of_bases of_writes of_objects some = (
   ⊎_elim (λ less. inl less) (λ same. inr (ap (λ n. TimersList n) same.0, same.1)) rise.0,
-  told_rise e.timer e.number es bs ws os rise.1 of_bases of_writes of_objects,
+  told_rise e.timer e.number es bs ws os rise.1 of_bases of_writes of_objects some,
 )
 
 -- ---- notes of one list
@@ -153,7 +157,7 @@ of_timer_told : (t : ℕ) (ns : NotesOf) → map line_told (filter (is_on (Timer
 of_timer_told t ns =
     let o = TimersList t in
     ap (map line_told) (told_parts (is_on o) ns ∙ same_parts refl (none_on of_base o (λ x. refl) ns.bases) (none_on of_write o (λ x. refl) ns.writes)
-    (none_on of_object o (λ x. refl) ns.objects)
+    (none_of_turns o (λ j. refl) ns.objects)
     ∙ append-nil (filter (is_on o) (map of_entry ns.entries))) ∙ lines_on of_entry place_of_entry o t _ (λ e. refl)
     (λ e is. ap (λ u. record { label = e.label; shown = OfTimer u e.entry }) is) ns.entries
 
@@ -162,7 +166,7 @@ of_base_told : (b : ℕ) (ns : NotesOf) → map line_told (filter (is_on (BasesL
 of_base_told b ns =
     let o = BasesList b in
     ap (map line_told) (told_parts (is_on o) ns ∙ same_parts (none_on of_entry o (λ x. refl) ns.entries) refl (none_on of_write o (λ x. refl) ns.writes)
-    (none_on of_object o (λ x. refl) ns.objects)
+    (none_of_turns o (λ j. refl) ns.objects)
     ∙ append-nil (filter (is_on o) (map of_base ns.bases))) ∙ lines_on of_base place_of_base o b _ (λ e. refl)
     (λ e is. ap (λ u. record { label = e.label; shown = OfBase u e.event }) is) ns.bases
 
@@ -171,20 +175,16 @@ of_write_told : (ns : NotesOf) → map line_told (filter (is_on (CountersList 0)
 of_write_told ns =
     let o = CountersList 0 in
     ap (map line_told) (told_parts (is_on o) ns ∙ same_parts (none_on of_entry o (λ x. refl) ns.entries) (none_on of_base o (λ x. refl) ns.bases) refl
-    (none_on of_object o (λ x. ne_eqb (suc x.object) 0 (λ is. omega (arith, is))) ns.objects) ∙ append-nil (filter (is_on o) (map of_write ns.writes)))
+    (none_of_turns o (λ j. ne_eqb (suc j) 0 (λ is. omega (arith, is))) ns.objects) ∙ append-nil (filter (is_on o) (map of_write ns.writes)))
     ∙ lines_on of_write place_of_write o 0 _ (λ e. refl) (λ e is. refl) ns.writes
 
-next_test : (j i : ℕ) → nat_eq (suc j) (suc i) ≡ nat_eq j i
-next_test j i = grind (arith, nat_tests)
-
 of_object_told : (i : ℕ) (ns : NotesOf) → map line_told (filter (is_on (CountersList (suc i))) (told_notes ns))
-    ≡ map (λ n. record { label = n.label; shown = OfRise (suc i) }) (filter (is_of_list place_of_object i) ns.objects)
+    ≡ twice (map (λ n. record { label = n.label; shown = OfRise (suc i) }) (filter (is_of_list place_of_object i) ns.objects))
 of_object_told i ns =
     let o = CountersList (suc i) in
     ap (map line_told) (told_parts (is_on o) ns ∙ same_parts (none_on of_entry o (λ x. refl) ns.entries) (none_on of_base o (λ x. refl) ns.bases)
     (none_on of_write o (λ x. ne_eqb 0 (suc i) (λ is. omega (arith, is))) ns.writes) refl)
-    ∙ lines_on of_object place_of_object o i _ (λ e. next_test e.object i)
-    (λ e is. ap (λ j. record { label = e.label; shown = OfRise (suc j) }) is) ns.objects
+    ∙ turns_of i ns.objects
 
 -- writes are of the clock's one list
 none_elsewhere : (k n : ℕ) (ws : List WriteNote) → filter (is_at place_of_write (suc k) n) ws ≡ []
@@ -203,7 +203,7 @@ module _ {s : Script} {x : WorldOf} {q : WorldPass} {notes sorted : NotesOf} {lo
   same_told = IsPermutation-append _ _ _ _ (IsPermutation-map of_entry notes.entries sorted.entries is.entries.same)
       (IsPermutation-append _ _ _ _ (IsPermutation-map of_base notes.bases sorted.bases is.bases.same)
       (IsPermutation-append _ _ _ _ (IsPermutation-map of_write notes.writes sorted.writes is.writes.same)
-      (IsPermutation-map of_object notes.objects sorted.objects is.objects.same)))
+      (turns_permuted notes.objects sorted.objects is.objects.same)))
 
   -- a note stands among the sorted ones where it stands among those that were left
   stood : (n : ToldNote) → HasPlace (told_notes sorted) n → HasPlace (told_notes notes) n
@@ -263,8 +263,10 @@ module _ {s : Script} {x : WorldOf} {q : WorldPass} {notes sorted : NotesOf} {lo
       sym (length-map (files_on (CountersList 0) filed_notes) line_filed) ∙ ap length (shapes (CountersList 0) ∙ of_write_told sorted)
       ∙ length-map (filter (is_of_list place_of_write 0) sorted.writes) _ ∙ as_many is.writes (write_rises_once last left)
   many_filed (CountersList (suc i)) =
+      let own = filter (is_of_list place_of_object i) sorted.objects in
+      let many = as_many is.objects (objects_once last left i) in
       sym (length-map (files_on (CountersList (suc i)) filed_notes) line_filed) ∙ ap length (shapes (CountersList (suc i)) ∙ of_object_told i sorted)
-      ∙ length-map (filter (is_of_list place_of_object i) sorted.objects) _ ∙ as_many is.objects (entry_rises_once last left i)
+      ∙ twice_many (map _ own) ∙ ap (λ n. n + n) (length-map own _ ∙ many) ∙ sym (rises_counted last left i)
 
   -- and its lines are theirs
   lines_filed : (o : Owner) → lines_at (record_from s.version sorted s.bases (length s.timers) answers) o ≡ map line_filed (files_on o filed_notes)
@@ -283,9 +285,9 @@ module _ {s : Script} {x : WorldOf} {q : WorldPass} {notes sorted : NotesOf} {lo
       map-map line_of_write (λ (n : WriteNote). n.line) sorted.writes ∙ ap (map (λ (n : WriteNote). line_of_write n.line)) (sym (all_of_clock sorted.writes))
       ∙ sym (shapes (CountersList 0) ∙ of_write_told sorted)
   lines_filed (CountersList (suc i)) =
-      ap (map (line_of_object i)) (object_lines_are last left is answers i)
+      ap twice (ap (map (line_of_object i)) (object_lines_are last left is answers i)
       ∙ noted_lines-shown place_of_skip object_line place_of_object i sorted.objects sorted.skips (line_of_object i)
-      (λ n. record { label = n.label; shown = OfRise (suc i) }) (λ n us. refl) ∙ sym (shapes (CountersList (suc i)) ∙ of_object_told i sorted)
+      (λ n. record { label = n.label; shown = OfRise (suc i) }) (λ n us. refl)) ∙ sym (shapes (CountersList (suc i)) ∙ of_object_told i sorted)
 
   -- law: the record's lines of timers, of bases, of the clock and of objects are the receipts of all calls, sorted
   pub are_filed : AreFiled (record_from s.version sorted s.bases (length s.timers) answers) seen (λ c. (logs c).notes) filed_notes
@@ -304,6 +306,8 @@ module _ {s : Script} {x : WorldOf} {q : WorldPass} {notes sorted : NotesOf} {lo
         (RiseBehind-sorted place_of_write notes.writes sorted.writes is.writes writes_apart
         (each _ notes.writes (λ p n at. (number_within is.writes (writes_once last left) n (p, at) refl).0)))
         (RiseBehind-sorted place_of_object notes.objects sorted.objects is.objects (λ l n. at_most_one is.objects (objects_once last left l) n)
+        (each _ notes.objects (λ p n at. (number_within is.objects (objects_once last left n.object) n (p, at) refl).0)))
+        (All-permuted _ notes.objects sorted.objects is.objects.same
         (each _ notes.objects (λ p n at. (number_within is.objects (objects_once last left n.object) n (p, at) refl).0)))));
     as_many = many_filed;
     lines = lines_filed;
@@ -317,9 +321,9 @@ module _ {s : Script} {x : WorldOf} {q : WorldPass} {notes sorted : NotesOf} {lo
       (All-map _ of_entry notes.entries (each_weaker notes.entries (λ e in_it. in_it.0) (left.seen EntryNotes)))
       (All-append Called (map of_base notes.bases) _
       (All-map _ of_base notes.bases (each_weaker notes.bases (λ e in_it. in_it.0) (left.seen BaseNotes)))
-      (All-append Called (map of_write notes.writes) (map of_object notes.objects)
+      (All-append Called (map of_write notes.writes) (turn_notes notes.objects)
       (All-map _ of_write notes.writes (each_weaker notes.writes (λ e in_it. in_it.0) (left.seen WriteNotes)))
-      (All-map _ of_object notes.objects (each_weaker notes.objects (λ e in_it. in_it.0) (left.seen ObjectNotes)))))) st.1
+      (all_turns Called notes.objects (each_weaker notes.objects (λ e in_it. (in_it.0, in_it.0)) (left.seen ObjectNotes)))))) st.1
 
   -- law: receipts are of calls of the script, in their calls' spans
   pub receipts_inside : (c : Label) → AllByRecursion (λ y. IsLabel s c × ((logs c).moves.0 ≤ y.place) × (y.place < (logs c).moves.1)) (logs c).notes

@@ -1,6 +1,6 @@
 -- What the last passes know at the end of a run: of which timers, bases, counters and objects entries are, and that each of them was noted once.
 use Rattle.run_history.specs.Receipts as receipts
-use Rattle.std.proofs.Common.{◌≡◌, ℕ, ◌<◌, ◌≤◌, zero, suc, Some, List, [], ◌∷◌, filter, length, map, arith, refl, sym, ap, ◌∙◌, subst}
+use Rattle.std.proofs.Common.{◌≡◌, ℕ, ◌<◌, ◌≤◌, zero, suc, Some, List, [], ◌∷◌, filter, length, map, take, arith, refl, sym, ap, ◌∙◌, subst}
 use Rattle.std.specs.List.{slice_get}
 use Rattle.std.proofs.Math.Logic.{⊎_elim}
 use Rattle.std.proofs.lemmas.Bool.{and_right, cases_lt, lt-leb, and_parts, eqb-true}
@@ -33,9 +33,10 @@ use Rattle.run_history.specs.Receipts.{IsMade, PlacedEntry, receipt}
 use Rattle.run_history.specs.Runs.{CallLog}
 use Rattle.run_history.proofs.Labels.{label_itself, same_label}
 use Rattle.run_history.proofs.Lists.{all_at, at_left, each}
-use Rattle.run_history.specs.Witnesses.{BasesList, CountersList, OfRise, Owner, Shown, TimersList, owner_of, owner_of_entry}
-use Rattle.lane_world.proofs.Kept.{ToldNote, base_note_place, note_place, of_base, of_entry, of_object, of_write, own_notes, told_in, told_notes}
+use Rattle.run_history.specs.Witnesses.{BasesList, CountersList, Owner, Shown, TimersList, owner_of, owner_of_entry}
+use Rattle.lane_world.proofs.Kept.{ToldNote, base_note_place, note_place, of_base, of_entry, of_object, of_write, own_notes, told_in, told_notes, turn_notes}
 use Rattle.lane_world.proofs.Left.{AreLastOf, AreLeft}
+use Rattle.record_laws.proofs.Turns.{entry_stands_in, filter-turns}
 use Rattle.lane_world.specs.Worlds.{WorldOf}
 use Rattle.lane_world.specs.declared.WorldPass.{WorldPass}
 use Rattle.record_laws.proofs.SeenThere.{bases_many, IsThere, none_past, objects_past, rose_more, there_within, timers_many}
@@ -81,12 +82,12 @@ filter-map make p (x ∷ xs) =
 -- law: the notes that pass a test are those of each kind
 pub told_parts : (p : ToldNote → Bool) (notes : NotesOf) → filter p (told_notes notes)
     ≡ filter p (map of_entry notes.entries)
-    ++ (filter p (map of_base notes.bases) ++ (filter p (map of_write notes.writes) ++ filter p (map of_object notes.objects)))
+    ++ (filter p (map of_base notes.bases) ++ (filter p (map of_write notes.writes) ++ filter p (turn_notes notes.objects)))
 told_parts p notes =
-    let rises = map of_write notes.writes ++ map of_object notes.objects in
+    let rises = map of_write notes.writes ++ turn_notes notes.objects in
     filter-append p (map of_entry notes.entries) (map of_base notes.bases ++ rises)
     ∙ ap (λ xs. filter p (map of_entry notes.entries) ++ xs) (filter-append p (map of_base notes.bases) rises
-    ∙ ap (λ xs. filter p (map of_base notes.bases) ++ xs) (filter-append p (map of_write notes.writes) (map of_object notes.objects)))
+    ∙ ap (λ xs. filter p (map of_base notes.bases) ++ xs) (filter-append p (map of_write notes.writes) (turn_notes notes.objects)))
 
 -- law: four parts that are the same as others make the same list
 pub same_parts : {X : Type 0} {a b c d e f g h : List X} → a ≡ b → c ≡ d → e ≡ f → g ≡ h → a ++ (c ++ (e ++ g)) ≡ b ++ (d ++ (f ++ h))
@@ -101,7 +102,7 @@ module _ {s : Script} {q : WorldPass} {notes : NotesOf} {logs : Label → CallLo
       let mine = λ (n : ToldNote). is_label c n.label in
       sym (told_parts mine notes
       ∙ same_parts (filter-map of_entry mine notes.entries) (filter-map of_base mine notes.bases) (filter-map of_write mine notes.writes)
-      (filter-map of_object mine notes.objects))
+      (filter-turns (is_label c) notes.objects))
 
   told_so : (c : Label) → IsPermutation (map receipt (logs c).notes) (map told_in (own c))
   told_so c = subst (λ ts. IsPermutation (map receipt (logs c).notes) (map told_in ts)) (own_told c) (left.tell c).receipts
@@ -130,22 +131,22 @@ module _ {s : Script} {q : WorldPass} {notes : NotesOf} {logs : Label → CallLo
   -- a timer's note, a base's, and an object's, among all
   pub entry_stands : (e : EntryNote) → HasPlace notes.entries e → HasPlace (told_notes notes) (of_entry e)
   entry_stands e st = let o = stands_in_map of_entry notes.entries e st in
-      (o.0, at_left (map of_entry notes.entries) (map of_base notes.bases ++ (map of_write notes.writes ++ map of_object notes.objects)) o.0 _ o.1)
+      (o.0, at_left (map of_entry notes.entries) (map of_base notes.bases ++ (map of_write notes.writes ++ turn_notes notes.objects)) o.0 _ o.1)
 
   pub base_stands : (e : BaseNote) → HasPlace notes.bases e → HasPlace (told_notes notes) (of_base e)
   base_stands e st = let o = stands_in_map of_base notes.bases e st in (
     length (map of_entry notes.entries) + o.0,
-    at_behind (map of_entry notes.entries) (map of_base notes.bases ++ (map of_write notes.writes ++ map of_object notes.objects)) o.0 _
-        (at_left (map of_base notes.bases) (map of_write notes.writes ++ map of_object notes.objects) o.0 _ o.1),
+    at_behind (map of_entry notes.entries) (map of_base notes.bases ++ (map of_write notes.writes ++ turn_notes notes.objects)) o.0 _
+        (at_left (map of_base notes.bases) (map of_write notes.writes ++ turn_notes notes.objects) o.0 _ o.1),
   )
 
   pub object_stands : (e : ObjectNote) → HasPlace notes.objects e → HasPlace (told_notes notes) (of_object e)
   object_stands e st =
-      let o = stands_in_map of_object notes.objects e st in
-      let rises = map of_write notes.writes ++ map of_object notes.objects in (
+      let o = entry_stands_in notes.objects e st in
+      let rises = map of_write notes.writes ++ turn_notes notes.objects in (
         length (map of_entry notes.entries) + (length (map of_base notes.bases) + (length (map of_write notes.writes) + o.0)),
         at_behind (map of_entry notes.entries) (map of_base notes.bases ++ rises) _ _ (at_behind (map of_base notes.bases) rises _ _
-            (at_behind (map of_write notes.writes) (map of_object notes.objects) o.0 _ o.1)),
+            (at_behind (map of_write notes.writes) (turn_notes notes.objects) o.0 _ o.1)),
       )
 
 -- ---- what the last passes have seen
@@ -235,8 +236,8 @@ module _ {s : Script} {x : WorldOf} {q : WorldPass} (last : AreLastOf s x q) whe
     pub write_rises_once : AreEachOnce place_of_write 0 (receipts.count (CountersList 0) q.timers.known.seen) notes.writes
     write_rises_once = subst (λ n. AreEachOnce place_of_write 0 n notes.writes) (sym last.told) writes_once
 
-    -- of each entry of an object a rise was seen
-    object_rose : (i n : ℕ) → n ≡ length (seen_of q.objects i) → n ≤ rises_of (suc i) q.timers.known.seen
+    -- of each entry of an object two rises were seen
+    object_rose : (i n : ℕ) → n ≡ length (seen_of q.objects i) → n + n ≤ rises_of (suc i) q.timers.known.seen
     object_rose i zero is = omega arith
     object_rose i (suc n) is =
         let many = length (seen_of q.objects i) in
@@ -247,10 +248,8 @@ module _ {s : Script} {x : WorldOf} {q : WorldPass} (last : AreLastOf s x q) whe
         let parts = and_parts _ _ note.1 in
         let on : e.object ≡ i = eqb-true e.object i parts.0 in
         let has = has_receipt left (of_object e) (object_stands left e note.0) in
-        let made = subst (λ k. IsMade q.timers.known.seen (record { place = has.place; number = e.number; shown = OfRise (suc k) })) on
-        (note_made left (of_object e) has) in
-        let rise : slice_get q.timers.known.seen has.place ≡ Some (entries.Rise (suc i)) = made.there ∙ ap Some (its_rise made.step (suc i) made.owner) in
-        omega (arith, is, rose_more last.of has.place (suc i) rise, made.number, eqb-true e.number many parts.1)
+        let rose = rose_to (noted_at has.place (of_object e)) (suc i) (ap (λ j. CountersList (suc j)) on) (note_made left (of_object e) has) in
+        omega (arith, is, rose, eqb-true e.number many parts.1)
       where
         head : (xs : List ObjectNote) → length xs ≡ 1 → (y : ObjectNote) × (slice_get xs 0 ≡ Some y)
         head [] is = absurd (omega (arith, is))
@@ -261,21 +260,25 @@ module _ {s : Script} {x : WorldOf} {q : WorldPass} (last : AreLastOf s x q) whe
         its_rise (entries.Base y) k is = absurd (cc)
         its_rise (entries.Rise j) k is = cc
 
-    -- law: the counter of an object's entries has risen as often as it has entries
-    pub rises_counted : (i : ℕ) → rises_of (suc i) q.timers.known.seen ≡ length (seen_of q.objects i)
+        rose_to : (y : PlacedEntry) (k : ℕ) → owner_of y.shown ≡ CountersList k → IsMade q.timers.known.seen y → y.number ≤ rises_of k q.timers.known.seen
+        rose_to y k on made =
+            let there = subst (λ z. slice_get q.timers.known.seen y.place ≡ Some z) (its_rise made.step k (made.owner ∙ on)) made.there in
+            let number = subst (λ o. receipts.count o (take y.place q.timers.known.seen) + 1 ≡ y.number) on made.number in
+            omega (arith, rose_more last.of y.place k there, number)
+
+    -- law: the counter of an object's turns has risen twice for each of its entries
+    pub rises_counted : (i : ℕ) → rises_of (suc i) q.timers.known.seen ≡ length (seen_of q.objects i) + length (seen_of q.objects i)
     rises_counted i = ⊎_elim
         (λ (less : i < length s.timers).
-        let few = subst (λ k. rises_of k q.timers.known.seen ≤ length (seen_of q.objects i)) (one_more i) (last.no_more i less) in
+        let many = length (seen_of q.objects i) in
+        let few = subst (λ k. rises_of k q.timers.known.seen ≤ many + many) (one_more i) (last.no_more i less) in
         omega (arith, few, object_rose i (length (seen_of q.objects i)) refl))
-        (λ (past : length s.timers ≤ i). none_past last.of (CountersList (suc i)) (λ is. omega (arith, is, past)) ∙ sym (ap length (objects_past last.of i past)))
+        (λ (past : length s.timers ≤ i). none_past last.of (CountersList (suc i)) (λ is. omega (arith, is, past))
+        ∙ sym (ap (λ hs. length hs + length hs) (objects_past last.of i past)))
         (cases_lt i (length s.timers))
       where
         one_more : (k : ℕ) → k + 1 ≡ suc k
         one_more k = omega arith
-
-    -- law: so each rise of that counter is
-    pub entry_rises_once : (i : ℕ) → AreEachOnce place_of_object i (receipts.count (CountersList (suc i)) q.timers.known.seen) notes.objects
-    entry_rises_once i = subst (λ n. AreEachOnce place_of_object i n notes.objects) (sym (rises_counted i)) (objects_once i)
 
     -- law: so the record's lines of a timer, of a base and of an object are made of its sorted notes
     pub timer_lines_are : {sorted : NotesOf} → IsSortedFrom notes sorted → (answers : List (List Answer)) (t : ℕ)

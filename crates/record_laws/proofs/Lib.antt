@@ -2,6 +2,7 @@ pub mod BaseLines
 pub mod Numbered
 pub mod OwnLines
 pub mod SeenThere
+pub mod Turns
 pub mod LastSeen
 pub mod FiledNotes
 pub mod ClockLines

@@ -43,7 +43,7 @@ entry_within bases many w [] p e steps at = absurd (cc)
 entry_within bases many w (y ∷ es) zero e steps at = subst (IsWithin bases many) (same_Some y e at) (within_step bases many w y steps.0)
 entry_within bases many w (y ∷ es) (suc p) e steps at = entry_within bases many (after_one w y) es p e steps.1 at
 
--- whether a list is there; of counters those of the clock's writes and of each object's entries are
+-- whether a list is there; of counters those of the clock's writes and of each object's turns are
 abbrev pub IsThere : Script → Owner → Type 0
 IsThere s (TimersList t) = t < length s.timers
 IsThere s (BasesList b) = b < s.bases

@@ -1,7 +1,6 @@
 -- Calls of a small witness: tests of where they stand, and what else makes each right.
-use Rattle.std.proofs.Common.{◌≡◌, ◌⊎◌, ◌&&◌, ℕ, ◌+◌, Bool, true, nat_eq, nat_le, List, [], ◌∷◌, length, map, arith, sym, ap, ◌∙◌, subst}
+use Rattle.std.proofs.Common.{◌≡◌, ◌&&◌, ℕ, ◌+◌, Bool, true, nat_eq, nat_le, List, [], ◌∷◌, length, map, arith, sym, ap, ◌∙◌, subst}
 use Rattle.std.specs.List.Sorted.{IsPermutation}
-use Rattle.std.proofs.Math.Logic.{⊎_elim}
 use Rattle.std.proofs.lemmas.Bool.{and_parts, eqb-true}
 use Rattle.std.proofs.lemmas.List.Sorted.{IsPermutation-refl}
 use Rattle.std.proofs.lemmas.List.{get_or_past, nil_from_length}
@@ -20,7 +19,7 @@ use Rattle.run_history.specs.Traces.{all_entered, HasTraced, own_moves}
 use Rattle.run_history.specs.Truths.{AnswerHolds, AreTrue, WasFront, WasOffLine}
 use Rattle.run_history.proofs.OthersMade.{none_moved}
 use Rattle.run_cases.proofs.Witnesses.{Along, everywhere}
-use Rattle.run_cases.proofs.Tests.{are_made, are_plain, plain_pass, is_point, never_fall, IsPast, made_past, point_passes, steps_pass, upto}
+use Rattle.run_cases.proofs.Tests.{are_made, are_timed, AreTold, is_point, never_fall, IsPast, made_past, point_passes, steps_pass, told_pass, upto}
 
 -- ---- calls
 
@@ -50,7 +49,7 @@ pub record IsRight (w : Witness) (c : Label) (call : Call) (answer : Answer) : T
       (w.traces c).actions
   pub keeps : AllKeepExpiries w.script w.run call (w.traces c).moved
   pub turns : AllMoved (WasFront w (w.traces c).first (w.traces c).last) call (w.traces c).moved
-  pub truth : AreTrue w c (w.traces c).first (w.traces c).first [] (w.traces c).actions (w.traces c).last
+  pub truth : AreTrue w c (w.traces c).first [] (w.traces c).actions (w.traces c).last
   pub holds : AnswerHolds w (w.traces c).first (w.traces c).last c (w.traces c).at (w.traces c).actions call answer
 
 -- the same of a lane's calls from one of them on
@@ -137,8 +136,7 @@ pub right_moving : {w : Witness} {c : Label} {call : Call} {answer : Answer} →
     → Along (λ i. own_skips c 1 (lines_of_object w.run i) ≡ skipped i (w.traces c).actions) 0 w.run.objects
     → Does (WasOffLine w (w.traces c).first (w.traces c).last) w.script (w.traces c).at call answer (w.traces c).fired (w.traces c).moved (w.traces c).actions
     → AllKeepExpiries w.script w.run call (w.traces c).moved × AllMoved (WasFront w (w.traces c).first (w.traces c).last) call (w.traces c).moved
-    → (are_plain w c (w.traces c).first [] (w.traces c).actions (w.traces c).last ≡ true)
-    ⊎ AreTrue w c (w.traces c).first (w.traces c).first [] (w.traces c).actions (w.traces c).last
+    → (are_timed w c (w.traces c).first [] (w.traces c).actions (w.traces c).last ≡ true) × AreTold w c [] (w.traces c).actions
     → AnswerHolds w (w.traces c).first (w.traces c).last c (w.traces c).at (w.traces c).actions call answer
     → IsRight w c call answer
 right_moving {w} {c} {call} {answer} said clock moves looks objects skips does moved truth holds =
@@ -161,7 +159,7 @@ right_moving {w} {c} {call} {answer} said clock moves looks objects skips does m
       does = does;
       keeps = moved.0;
       turns = moved.1;
-      truth = ⊎_elim (plain_pass w c (w.traces c).first (w.traces c).first [] ds (w.traces c).last) (λ is. is) truth;
+      truth = told_pass w c (w.traces c).first [] ds (w.traces c).last truth.0 truth.1;
       holds = holds;
     }
 
@@ -173,8 +171,7 @@ pub right : {w : Witness} {c : Label} {call : Call} {answer : Answer} → (nat_e
     → Along (λ i. own (λ line. line.label) (λ line. line.entry) c 1 (lines_of_object w.run i) ≡ made i (w.traces c).actions) 0 w.run.objects
     → Along (λ i. own_skips c 1 (lines_of_object w.run i) ≡ skipped i (w.traces c).actions) 0 w.run.objects
     → Does (WasOffLine w (w.traces c).first (w.traces c).last) w.script (w.traces c).at call answer (w.traces c).fired (w.traces c).moved (w.traces c).actions
-    → (are_plain w c (w.traces c).first [] (w.traces c).actions (w.traces c).last ≡ true)
-    ⊎ AreTrue w c (w.traces c).first (w.traces c).first [] (w.traces c).actions (w.traces c).last
+    → (are_timed w c (w.traces c).first [] (w.traces c).actions (w.traces c).last ≡ true) × AreTold w c [] (w.traces c).actions
     → AnswerHolds w (w.traces c).first (w.traces c).last c (w.traces c).at (w.traces c).actions call answer
     → IsRight w c call answer
 right {w} {c} {call} {answer} said clock moves looks objects skips does truth seen =

@@ -1,5 +1,5 @@
 -- An expiry run that claimed one timer, an object's: its last entry is the finish; and where the expiry was skipped, the object was full before the finish.
-use Rattle.std.proofs.Common.{◌≡◌, ◌≤◌, ℕ, List, [], ◌∷◌, ◌++◌, length, take, arith, sym, ap, ◌∙◌, subst}
+use Rattle.std.proofs.Common.{◌≡◌, ◌≤◌, ℕ, ◌+◌, List, [], ◌∷◌, ◌++◌, length, take, arith, sym, ap, ◌∙◌, subst}
 use Rattle.std.proofs.Math.Logic.{⊎_elim}
 use Rattle.std.proofs.lemmas.Bool.{eq-eqb}
 use Rattle.std.proofs.lemmas.List.{append-nil, take-map}
@@ -15,7 +15,7 @@ use Rattle.run_history.specs.Calls.{IsBody, IsExpiryRun, IsTrigger, fires}
 use Rattle.run_history.specs.Order.{made_by}
 use Rattle.run_history.specs.Traces.{all_entered, own_moves}
 use Rattle.run_history.specs.Truths.{AreTrue}
-use Rattle.run_history.specs.Witnesses.{Fired, IsOneHistory, Move, OfTimer, TimersList, Witness, moves_on, object_along, timer_along}
+use Rattle.run_history.specs.Witnesses.{Fired, IsOneHistory, Move, OfTimer, TimersList, Witness, moves_on, timer_along, turns_along}
 use Rattle.run_history.proofs.Actions.{all_entered-append}
 use Rattle.run_history.proofs.Expires.{claim_of, finish_of}
 use Rattle.fit_laws.proofs.EachTimer.{heads, true_at}
@@ -76,17 +76,17 @@ module _ {base reading : ℕ} {fired : List Fired} {actions : List Action} (o : 
         (omega (arith, reached, ap (λ (x : ℕ × Entry). x.0) same, stamp_then w history timers n 0)))
 
     -- law: where the run made no entry of the object, it skipped its expiry at a moment at which the object was full, before the finish
-    pub skipped_before_finish : (first last : ℕ) → made 0 actions ≡ [] → AreTrue w c first first [] actions last
-        → (n : ℕ) × (HasAll w c n → ⊥) × (w.script.limit ≤ object_along w n 0)
+    pub skipped_before_finish : (first last : ℕ) → made 0 actions ≡ [] → AreTrue w c first [] actions last
+        → (n : ℕ) × (HasAll w c n → ⊥) × (w.script.limit + w.script.limit ≤ turns_along w n 0)
     skipped_before_finish first last none truth = ⊎_elim
         (λ m.
-        let e : ℕ × ObjectEntry = (m.0, object_entries.Trigger o.one.generation reading m.1) in
+        let e : ℕ × ObjectEntry = (m.0 + 1, object_entries.Trigger o.one.generation reading m.1) in
         absurd (some e (sym (ap (λ b. also b e []) (eq-eqb o.one.timer 0 o.timer))
         ∙ sym (ap (λ body. made 0 (claim ∷ (body ++ finish ∷ []))) m.2) ∙ sym (ap (made 0) o.done) ∙ none)))
         (λ m.
         let split : actions ≡ (claim ∷ []) ++ Skipped o.one.timer m.0 o.one.generation ∷ finish ∷ [] =
         o.done ∙ ap (λ body. claim ∷ (body ++ finish ∷ [])) m.1 in
-        let there = true_at w c first first [] actions (claim ∷ []) (Skipped o.one.timer m.0 o.one.generation) (finish ∷ []) last truth split in
+        let there = true_at w c first [] actions (claim ∷ []) (Skipped o.one.timer m.0 o.one.generation) (finish ∷ []) last truth split in
         let n = there.0 in (
           n,
           (λ all. omega (
@@ -96,7 +96,7 @@ module _ {base reading : ℕ} {fired : List Fired} {actions : List Action} (o : 
             there.1.0.so_many,
             ap (made_by c) (take-map (λ (m : Move). m.label) n w.moves) ∙ count_moves c (take n w.moves),
           )),
-          omega (arith, there.1.1.1, there.1.1.0, ap (object_along w n) o.timer),
+          omega (arith, there.1.1.1, there.1.1.0, ap (turns_along w n) o.timer),
         ))
         o.trigger.0
       where

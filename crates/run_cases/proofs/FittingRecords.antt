@@ -12,14 +12,14 @@ use Rattle.record_text.specs.declared.record.CallbackReply.TheVariants as replie
 use Rattle.record_text.specs.declared.record.RunRecord.{RunRecord}
 use Rattle.script_text.specs.Declarations.{declareds_of, terms_of}
 use Rattle.script_text.specs.declared.script.Call.TheVariants as calls
-use Rattle.run_history.specs.Actions.{Entered, Looked, Made, Wrote}
+use Rattle.run_history.specs.Actions.{Entered, Looked, Wrote}
 use Rattle.run_history.specs.Order.{calls_of}
 use Rattle.run_history.specs.Witnesses.{CountersList, TimersList, Witness, entries_in, Trace}
 use Rattle.run_history.specs.Fits.{Fits}
 use Rattle.run_cases.specs.Fitting.{accept_entry, accepted_record, accepted_script, beside, beside_script, cancelled_record, expired_lines, idle_record, idle_script, kept_start, late_record, moved_record, moved_script, moved_start, rearming_start, none_entry, running_record, set_entry, told_record, told_script, trigger_entry}
 use Rattle.run_cases.specs.Lines.{at, start, cancel_entry, out_entry}
 use Rattle.run_cases.proofs.Calls.{are_placed, IsRight, right}
-use Rattle.run_cases.proofs.Witnesses.{armed_as, armed_by, in_its_turn, witness_along, witness_by, did, done_by, fired, stays, ran, step, three, two}
+use Rattle.run_cases.proofs.Witnesses.{armed_as, armed_by, turn_of, witness_along, witness_by, did, done_by, fired, stays, ran, step, three, two}
 use Rattle.run_cases.proofs.Small.{fits_by}
 use Rattle.run_cases.proofs.Tests.{le, lt, point_passes}
 
@@ -47,14 +47,14 @@ idle_fits = fits_by idle_witness (record {
   object_histories = (refl, tt);
   placed = (refl, tt);
   calls = two (
-      two (right refl refl refl (refl, tt) (refl, tt) (refl, tt) (armed_by 1 100, refl, refl, refl, refl, stays refl refl refl) (inl refl) tt)
-      (two (right refl refl refl (refl, tt) (refl, tt) (refl, tt) refl (inl refl) tt)
+      two (right refl refl refl (refl, tt) (refl, tt) (refl, tt) (armed_by 1 100, refl, refl, refl, refl, stays refl refl refl) (refl, tt) tt)
+      (two (right refl refl refl (refl, tt) (refl, tt) (refl, tt) refl (refl, tt) tt)
       (two (right refl refl refl (refl, tt) (refl, tt) (refl, tt)
       (record { one_reading = refl; claimed = refl; done = refl; contexts = (refl, tt); bodies = ((refl, refl), tt) }, lt refl)
-      (inl refl) (done_by idle_witness contexts.Hard 1 0 4 refl refl (refl, tt) (λ clock. (refl, tt))))
-      (two (right refl refl refl (refl, tt) (refl, tt) (refl, tt) refl (inl refl)
+      (refl, tt) (done_by idle_witness contexts.Hard 1 0 4 refl refl (refl, tt) (λ clock. (refl, tt))))
+      (two (right refl refl refl (refl, tt) (refl, tt) (refl, tt) refl (refl, tt)
       (record { stamp = refl; holds = record { armed = refl; running = refl; moving = refl } }))
-      (two (right refl refl refl (refl, tt) (refl, tt) (refl, tt) refl (inl refl) (record { stamp = refl; holds = refl })) tt))))
+      (two (right refl refl refl (refl, tt) (refl, tt) (refl, tt) refl (refl, tt) (record { stamp = refl; holds = refl })) tt))))
       ) tt;
 })
 
@@ -86,20 +86,10 @@ told_fits = fits_by told_witness (record {
   object_histories = (refl, tt);
   placed = (refl, tt);
   calls = two (
-      two (right refl refl refl (refl, tt) (refl, tt) (refl, tt) (armed_by 1 0, refl, refl, refl, refl, stays refl refl refl) (inl refl) tt)
+      two (right refl refl refl (refl, tt) (refl, tt) (refl, tt) (armed_by 1 0, refl, refl, refl, refl, stays refl refl refl) (refl, tt) tt)
       (two (right refl refl refl (refl, tt) (refl, tt) (refl, tt)
       (record { one_reading = refl; claimed = refl; done = refl; contexts = (refl, tt); bodies = (((2, refl), refl), tt) }, refl)
-      (inr (
-        1,
-        le refl,
-        point_passes _ _ _ _ _ refl,
-        (
-          2,
-          le refl,
-          (point_passes _ _ _ _ _ refl, record { stamp = refl; holds = refl }, tt),
-          (2, le refl, tt, le refl),
-        ),
-      )) tt) tt)
+      (refl, ((record { stamp = refl; holds = refl }, tt), tt)) tt) tt)
       ) tt;
 })
 
@@ -128,7 +118,7 @@ moved_fits = fits_by moved_witness (record {
   object_histories = (refl, tt);
   placed = (refl, tt);
   calls = two (
-      two (right refl refl refl (refl, tt) (refl, tt) (refl, tt) (armed_by 1 0, refl, refl, refl, refl, stays refl refl refl) (inl refl) tt)
+      two (right refl refl refl (refl, tt) (refl, tt) (refl, tt) (armed_by 1 0, refl, refl, refl, refl, stays refl refl refl) (refl, tt) tt)
       (two (right refl refl refl (refl, tt) (refl, tt) (refl, tt) (
         record {
           one_reading = refl;
@@ -150,8 +140,8 @@ moved_fits = fits_by moved_witness (record {
         },
         refl,
       )
-      (inl refl) tt)
-      (two (right refl refl refl (refl, tt) (refl, tt) (refl, tt) refl (inl refl) (record { stamp = refl; holds = refl }))
+      (refl, tt) tt)
+      (two (right refl refl refl (refl, tt) (refl, tt) (refl, tt) refl (refl, tt) (record { stamp = refl; holds = refl }))
       (two (right refl refl refl (refl, tt) (refl, tt) (refl, tt) (
         record (armed_as 6 1 70 70) { outs = record { base = 1; number = 5; was_armed = true } ∷ [] },
         refl,
@@ -159,7 +149,7 @@ moved_fits = fits_by moved_witness (record {
         refl,
         refl,
         record { below = le refl; next = (refl, tt); way = (([], refl), refl, tt) },
-      ) (inl refl) tt) tt)))
+      ) (refl, tt) tt) tt)))
       ) tt;
 })
 
@@ -189,11 +179,11 @@ cancelled_fits = fits_by cancelled_witness (record {
   object_histories = (refl, tt);
   placed = (refl, (refl, tt));
   calls = two (
-      two (right refl refl refl (refl, tt) (refl, tt) (refl, tt) (armed_by 1 0, refl, refl, refl, refl, stays refl refl refl) (inl refl) tt)
-      (two (right refl refl refl (refl, tt) (refl, tt) (refl, tt) (2, refl) (inl refl) tt) tt)
+      two (right refl refl refl (refl, tt) (refl, tt) (refl, tt) (armed_by 1 0, refl, refl, refl, refl, stays refl refl refl) (refl, tt) tt)
+      (two (right refl refl refl (refl, tt) (refl, tt) (refl, tt) (2, refl) (refl, tt) tt) tt)
       ) (two (
       two (right refl refl refl (refl, tt) (refl, tt) (refl, tt)
-      (record { one_reading = refl; claimed = refl; done = refl; contexts = tt; bodies = tt }, lt refl) (inl refl)
+      (record { one_reading = refl; claimed = refl; done = refl; contexts = tt; bodies = tt }, lt refl) (refl, tt)
       (done_by cancelled_witness contexts.Hard 0 0 2 refl refl (refl, tt) (λ clock. (refl, tt)))) tt
       ) tt);
 })
@@ -219,11 +209,11 @@ expired_fits told moment placed cancel = fits_by (expired_witness told moment) (
   object_histories = (refl, tt);
   placed = (placed, (refl, tt));
   calls = two (
-      two (right refl refl refl (refl, tt) (refl, tt) (refl, tt) (armed_by 1 0, refl, refl, refl, refl, stays refl refl refl) (inl refl) tt)
+      two (right refl refl refl (refl, tt) (refl, tt) (refl, tt) (armed_by 1 0, refl, refl, refl, refl, stays refl refl refl) (refl, tt) tt)
       (two cancel tt)
       ) (two (
       two (right refl refl refl (refl, tt) (refl, tt) (refl, tt)
-      (record { one_reading = refl; claimed = refl; done = refl; contexts = (refl, tt); bodies = ((refl, refl), tt) }, lt refl) (inl refl)
+      (record { one_reading = refl; claimed = refl; done = refl; contexts = (refl, tt); bodies = ((refl, refl), tt) }, lt refl) (refl, tt)
       (done_by (expired_witness told moment) contexts.Hard 0 0 3 refl refl (refl, tt) (λ clock. (refl, tt)))) tt
       ) tt);
 })
@@ -232,12 +222,12 @@ expired_fits told moment placed cancel = fits_by (expired_witness told moment) (
 pub running_fits : Fits beside_script running_record
 unfolding after_entry changed
 running_fits = expired_fits (answers.Running 1 2) 2 refl
-    (right refl refl refl (refl, tt) (refl, tt) (refl, tt) refl (inl refl) (record { stamp = refl; holds = refl }))
+    (right refl refl refl (refl, tt) (refl, tt) (refl, tt) refl (refl, tt) (record { stamp = refl; holds = refl }))
 
 -- law: and where it had run
 pub late_fits : Fits beside_script late_record
 unfolding after_entry changed
-late_fits = expired_fits (answers.Idle 3) 3 refl (right refl refl refl (refl, tt) (refl, tt) (refl, tt) refl (inl refl)
+late_fits = expired_fits (answers.Idle 3) 3 refl (right refl refl refl (refl, tt) (refl, tt) (refl, tt) refl (refl, tt)
     (record { stamp = refl; holds = record { armed = refl; running = refl; moving = refl } }))
 
 -- ---- a POSIX timer is set, expires, and has its signal accepted, which arms it again; a second acceptance finds none
@@ -245,12 +235,12 @@ late_fits = expired_fits (answers.Idle 3) 3 refl (right refl refl refl (refl, tt
 -- its witness
 abbrev accepted_witness : Witness
 accepted_witness = witness_along accepted_script accepted_record
-    (TimersList 0 ∷ CountersList 1 ∷ CountersList 0 ∷ TimersList 0 ∷ CountersList 1 ∷ TimersList 0 ∷ CountersList 0 ∷ TimersList 0 ∷ CountersList 1
-    ∷ CountersList 1 ∷ [])
-    ((did 0 (Entered 0 1 (start modes.Abs 100 100) ∷ Made 0 1 set_entry ∷ []) 0 2
-    ∷ did 0 (Wrote 1 (writes.Advance 100) ∷ []) 2 3 ∷ ran 0 1 (fired 2 1 (Made 0 2 trigger_entry ∷ []) 3 false ∷ []) 3 6
-    ∷ did 1 (Wrote 2 (writes.Advance 35) ∷ []) 6 7 ∷ did 2 (Entered 0 4 rearming_start ∷ Made 0 3 accept_entry ∷ []) 7 9
-    ∷ did 2 (Made 0 4 none_entry ∷ []) 9 10 ∷ did 2 [] 10 10 ∷ []) ∷ [])
+    (CountersList 1 ∷ TimersList 0 ∷ CountersList 1 ∷ CountersList 0 ∷ TimersList 0 ∷ CountersList 1 ∷ CountersList 1 ∷ TimersList 0 ∷ CountersList 0
+    ∷ CountersList 1 ∷ TimersList 0 ∷ CountersList 1 ∷ CountersList 1 ∷ CountersList 1 ∷ [])
+    ((did 0 (turn_of 0 0 (Entered 0 1 (start modes.Abs 100 100) ∷ []) set_entry) 0 3
+    ∷ did 0 (Wrote 1 (writes.Advance 100) ∷ []) 3 4 ∷ ran 0 1 (fired 2 1 (turn_of 0 1 [] trigger_entry) 3 false ∷ []) 4 8
+    ∷ did 1 (Wrote 2 (writes.Advance 35) ∷ []) 8 9 ∷ did 2 (turn_of 0 2 (Entered 0 4 rearming_start ∷ []) accept_entry) 9 12
+    ∷ did 2 (turn_of 0 3 [] none_entry) 12 14 ∷ did 2 [] 14 14 ∷ []) ∷ [])
 
 -- law: it fits
 pub accepted_fits : Fits accepted_script accepted_record
@@ -264,8 +254,9 @@ accepted_fits = fits_by accepted_witness (record {
   bases = (refl, tt);
   clock = refl;
   objects = (refl, tt);
-  history = two (step refl (inr refl, inl (lt refl)) refl tt) (two tt (two tt (two (step refl (refl, refl, refl, refl, le refl) refl (refl, refl))
-      (two tt (two (step refl refl refl tt) (two tt (two (step refl (inr refl, inl (lt refl)) refl tt) (two tt (two tt tt)))))))));
+  history = two tt (two (step refl (inr refl, inl (lt refl)) refl tt) (two tt (two tt
+      (two (step refl (refl, refl, refl, refl, le refl) refl (refl, refl)) (two tt (two tt (two (step refl refl refl tt) (two tt (two tt
+      (two (step refl (inr refl, inl (lt refl)) refl tt) (two tt (two tt (two tt tt)))))))))))));
   object_histories = two (two (refl, (refl, (refl, (refl, tt)))) (three (lt refl, refl, le refl, le refl, (λ e. absurd (cc), λ e. absurd (cc))) refl
       (three (lt refl) refl (three (lt refl, (λ e. absurd (cc), λ e. absurd (cc))) refl (three (lt refl, (λ e. refl, λ e. refl)) refl tt))))) tt;
   placed = (refl, tt);
@@ -275,29 +266,27 @@ accepted_fits = fits_by accepted_witness (record {
         cancel = None;
         arm = armings.Generation 1;
         start = Entered 0 1 (start modes.Abs 100 100) ∷ [];
-        number = 1;
+        stamp = 0;
         arms = (armed_by 1 100, refl, refl, stays refl refl refl);
         done = refl;
-      }) (inr (0, le refl, tt, (1, le refl, (point_passes _ _ _ _ _ refl, in_its_turn (refl, (refl, refl, λ e. refl)) refl refl), le refl)))
-      (record { armed = refl; running = refl; moving = refl }))
-      (two (right refl refl refl (refl, tt) (refl, tt) (refl, tt) refl (inl refl) tt)
+      }) (refl, ((refl, (refl, refl, λ e. refl)), tt))
+      (1, le refl, le refl, point_passes _ _ _ _ _ refl, record { armed = refl; running = refl; moving = refl }))
+      (two (right refl refl refl (refl, tt) (refl, tt) (refl, tt) refl (refl, tt) tt)
       (two (right refl refl refl (refl, tt) (refl, tt) (refl, tt)
-      (record { one_reading = refl; claimed = refl; done = refl; contexts = (refl, tt); bodies = ((inl (2, true, refl), refl), tt) }, lt refl)
-      (inr (3, le refl, point_passes _ _ _ _ _ refl, (4, le refl, (point_passes _ _ _ _ _ refl, in_its_turn tt tt refl), (5, le refl, tt, le refl))))
-      (done_by accepted_witness contexts.Hard 1 0 6 refl refl (refl, tt) (λ clock. (refl, tt))))
-      (two (right refl refl refl (refl, tt) (refl, tt) (refl, tt) refl (inl refl) tt)
+      (record { one_reading = refl; claimed = refl; done = refl; contexts = (refl, tt); bodies = ((inl (1, true, refl), refl), tt) }, lt refl)
+      (refl, (tt, tt)) (done_by accepted_witness contexts.Hard 1 0 8 refl refl (refl, tt) (λ clock. (refl, tt))))
+      (two (right refl refl refl (refl, tt) (refl, tt) (refl, tt) refl (refl, tt) tt)
       (two (right refl refl refl (refl, tt) (refl, tt) (refl, tt) (record {
         arm = armings.Generation 4;
         ns = 140;
         start = Entered 0 4 rearming_start ∷ [];
-        number = 3;
+        stamp = 2;
         timely = le refl;
         arms = (armed_by 4 140, refl, refl, stays refl refl refl);
         done = refl;
-      }) (inr (7, le refl, tt, (8, le refl, (point_passes _ _ _ _ _ refl, in_its_turn (refl, (refl, refl, λ e. refl)) refl refl), le refl))) tt)
+      }) (refl, ((refl, (refl, refl, λ e. refl)), tt)) tt)
       (two (right refl refl refl (refl, tt) (refl, tt) (refl, tt)
-      (record { arm = armings.None; ns = 0; start = []; number = 4; timely = le refl; arms = refl; done = refl })
-      (inr (9, le refl, (point_passes _ _ _ _ _ refl, in_its_turn tt refl refl), le refl)) tt)
-      (two (right refl refl refl (refl, tt) (refl, tt) (refl, tt) refl (inl refl) (refl, refl)) tt))))))
+      (record { arm = armings.None; ns = 0; start = []; stamp = 3; timely = le refl; arms = refl; done = refl }) (refl, (tt, tt)) tt)
+      (two (right refl refl refl (refl, tt) (refl, tt) (refl, tt) refl (refl, tt) (refl, refl)) tt))))))
       ) tt;
 })

@@ -16,3 +16,4 @@ pub mod LooksAndWrites
 pub mod Readings
 pub mod RefusedHeir
 pub mod RefusedStart
+pub mod BusyBase

@@ -90,7 +90,7 @@ heir_fits = fits_by heir_witness (record {
         refl,
         refl,
         record { below = le refl; next = (refl, tt); way = (([], refl), refl, tt) },
-      ) (inl refl) tt)
+      ) (refl, tt) tt)
       (two (right_moving refl refl refl (refl, tt) (refl, tt) (refl, tt) (record { counted = refl; done = refl }, le refl) (
         (record { armed = refl; soft = refl; slack = refl }, tt),
         (
@@ -105,7 +105,7 @@ heir_fits = fits_by heir_witness (record {
           tt,
         ),
       )
-      (inl refl) (
+      (refl, tt) (
         record { online = refl; heir_online = refl; room = lt refl },
         record {
           unarmed = none_along heir_witness 5 (is_armed_on 1) refl refl (refl, tt);
@@ -119,8 +119,8 @@ heir_fits = fits_by heir_witness (record {
         refl,
         refl,
         record { below = le refl; next = tt; way = (0 ∷ [], ((5, le refl, le refl, refl), refl)) },
-      ) (inl refl) tt)
-      (two (right refl refl refl (refl, tt) (refl, tt) (refl, tt) refl (inl refl) tt) tt)))
+      ) (refl, tt) tt)
+      (two (right refl refl refl (refl, tt) (refl, tt) (refl, tt) refl (refl, tt) tt) tt)))
       ) tt;
 })
 

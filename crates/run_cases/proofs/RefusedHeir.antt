@@ -1,5 +1,5 @@
 -- A base whose heir is off line: the call that would take it off line is refused, and doesn't do so.
-use Rattle.std.proofs.Common.{◌≡◌, ℕ, zero, suc, None, List, [], ◌∷◌, arith, refl, inl}
+use Rattle.std.proofs.Common.{◌≡◌, ℕ, zero, suc, None, List, [], ◌∷◌, arith, refl}
 use Rattle.std.proofs.lemmas.Bool.{true≢false}
 use Rattle.seq_timer.specs.Systems.{after_entry, after_shift, changed, shifted}
 use Rattle.seq_timer.specs.Tables.{is_armed_on, runs_on}
@@ -40,14 +40,14 @@ refused_fits = fits_by refused_witness (record {
   object_histories = tt;
   placed = (refl, tt);
   calls = two (
-      two (right refl refl refl tt tt tt (record { counted = refl; done = refl }, le refl) (inl refl) (
+      two (right refl refl refl tt tt tt (record { counted = refl; done = refl }, le refl) (refl, tt) (
         record { online = refl; heir_online = refl; room = lt refl },
         record {
           unarmed = none_along refused_witness 1 (is_armed_on 1) refl refl tt;
           idle = none_along refused_witness 1 (runs_on 1) refl refl tt;
         },
       ))
-      (two (right refl refl refl tt tt tt refl (inl refl) (refl, refl, refl)) tt)
+      (two (right refl refl refl tt tt tt refl (refl, tt) (refl, refl, refl)) tt)
       ) tt;
 })
 

@@ -3,7 +3,7 @@ use Rattle.std.proofs.Common.{◌≡◌, false, None, Some, [], ◌∷◌, lengt
 use Rattle.ktime.specs.Times.{passed}
 use Rattle.seq_timer.specs.Systems.{after_entry, changed}
 use Rattle.record_text.specs.declared.record.Armed.TheVariants as armings
-use Rattle.run_history.specs.Actions.{Entered, entered, Made}
+use Rattle.run_history.specs.Actions.{Began, Entered, entered}
 use Rattle.run_history.specs.Fits.{Fits}
 use Rattle.fit_laws.proofs.EachTimer.{fits_for_each_timer}
 use Rattle.record_text.specs.declared.record.Answer.TheVariants as answers
@@ -14,17 +14,18 @@ use Rattle.run_cases.specs.Wrong.{early_refusal_record}
 use Rattle.run_cases.proofs.Calls.{right}
 use Rattle.run_cases.proofs.Small.{fits_by}
 use Rattle.run_cases.proofs.Tests.{le, lt, point_passes}
-use Rattle.run_cases.proofs.Witnesses.{armed_by, did, in_its_turn, stays, step, three, two, witness_along}
+use Rattle.run_cases.proofs.Witnesses.{armed_by, did, stays, step, three, turn_of, two, witness_along}
 
 -- ---- it is told of the timer with the cancel
 
 -- its witness
 abbrev full_witness : Witness
 full_witness = witness_along full_script full_record
-    (TimersList 0 ∷ CountersList 1 ∷ TimersList 0 ∷ TimersList 0 ∷ CountersList 1 ∷ TimersList 0 ∷ CountersList 1 ∷ [])
-    ((did 0 (Entered 0 1 (set_start 50 0 false) ∷ Made 0 1 (set_entry_of 50 0 1 0) ∷ []) 0 2
-    ∷ did 0 (Entered 0 2 (cancel_entry 1) ∷ Entered 0 3 (set_start 60 0 false) ∷ Made 0 2 (set_entry_of 60 0 3 50) ∷ []) 2 5
-    ∷ did 0 (Entered 0 4 (cancel_entry 3) ∷ Made 0 3 (unarmed_entry 4) ∷ []) 5 7 ∷ []) ∷ [])
+    (CountersList 1 ∷ TimersList 0 ∷ CountersList 1 ∷ CountersList 1 ∷ TimersList 0 ∷ TimersList 0 ∷ CountersList 1
+    ∷ CountersList 1 ∷ TimersList 0 ∷ CountersList 1 ∷ [])
+    ((did 0 (turn_of 0 0 (Entered 0 1 (set_start 50 0 false) ∷ []) (set_entry_of 50 0 1 0)) 0 3
+    ∷ did 0 (turn_of 0 1 (Entered 0 2 (cancel_entry 1) ∷ Entered 0 3 (set_start 60 0 false) ∷ []) (set_entry_of 60 0 3 50)) 3 7
+    ∷ did 0 (turn_of 0 2 (Entered 0 4 (cancel_entry 3) ∷ []) (unarmed_entry 4)) 7 10 ∷ []) ∷ [])
 
 -- law: it fits
 pub full_fits : Fits full_script full_record
@@ -37,8 +38,8 @@ full_fits = fits_by full_witness (record {
   bases = (refl, tt);
   clock = refl;
   objects = (refl, tt);
-  history = two (step refl (inr refl, inl (lt refl)) refl tt) (two tt (two (step refl (refl, refl, refl) refl tt)
-      (two (step refl (inr refl, inl (lt refl)) refl tt) (two tt (two (step refl (refl, refl, refl) refl tt) (two tt tt))))));
+  history = two tt (two (step refl (inr refl, inl (lt refl)) refl tt) (two tt (two tt (two (step refl (refl, refl, refl) refl tt)
+      (two (step refl (inr refl, inl (lt refl)) refl tt) (two tt (two tt (two (step refl (refl, refl, refl) refl tt) (two tt tt)))))))));
   object_histories = two (two (refl, (refl, (refl, tt)))
       (three (lt refl, refl, le refl, le refl, (λ e. absurd (cc), λ e. absurd (cc))) refl
       (three (lt refl, refl, le refl, le refl, (λ e. absurd (cc), λ e. absurd (cc))) refl
@@ -50,56 +51,36 @@ full_fits = fits_by full_witness (record {
         cancel = None;
         arm = armings.Generation 1;
         start = Entered 0 1 (set_start 50 0 false) ∷ [];
-        number = 1;
+        stamp = 0;
         arms = (armed_by 1 50, refl, refl, stays refl refl refl);
         done = refl;
-      }) (inr (0, le refl, tt, (1, le refl, (point_passes _ _ _ _ _ refl, in_its_turn (refl, (refl, refl, λ e. refl)) refl refl), le refl)))
-      (record { armed = refl; running = refl; moving = refl }))
+      }) (refl, ((refl, (refl, refl, λ e. refl)), tt))
+      (1, le refl, le refl, point_passes _ _ _ _ _ refl, record { armed = refl; running = refl; moving = refl }))
       (two (right refl refl refl (refl, tt) (refl, tt) (refl, tt) (record {
         taken = record { known = refl; good_value = lt refl; good_interval = lt refl };
         cancel = Some (2, 1);
         arm = armings.Generation 3;
         start = Entered 0 3 (set_start 60 0 false) ∷ [];
-        number = 2;
+        stamp = 1;
         arms = (armed_by 3 60, refl, refl, stays refl refl refl);
         done = refl;
-      }) (inr (
-        2,
-        le refl,
-        tt,
-        (
-          3,
-          le refl,
-          tt,
-          (4, le refl, (point_passes _ _ _ _ _ refl, in_its_turn (refl, (refl, refl, λ e. refl)) refl refl), le refl),
-        ),
-      )) tt)
+      }) (refl, ((refl, (refl, refl, λ e. refl)), tt)) tt)
       (two (right refl refl refl (refl, tt) (refl, tt) (refl, tt) (record {
         taken = record { known = refl; good_value = lt refl; good_interval = lt refl };
         cancel = Some (4, 3);
         arm = armings.Unarmed;
         start = [];
-        number = 3;
+        stamp = 2;
         arms = refl;
         done = refl;
-      }) (inr (
-        5,
-        le refl,
-        tt,
-        (
-          6,
-          le refl,
-          (point_passes _ _ _ _ _ refl, in_its_turn (record { stamp = refl; holds = le refl }, refl) refl refl),
-          le refl,
-        ),
-      )) (
+      }) (refl, ((record { stamp = refl; holds = le refl }, refl), tt)) (
         tt,
         record {
-          early = Entered 0 4 (cancel_entry 3) ∷ [];
+          early = Began 0 2 ∷ Entered 0 4 (cancel_entry 3) ∷ [];
           number = 3;
           entry = unarmed_entry 4;
           done = refl;
-          moment = 6;
+          moment = 9;
           from = le refl;
           to = le refl;
           point = point_passes _ _ _ _ _ refl;

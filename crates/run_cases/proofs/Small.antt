@@ -19,7 +19,7 @@ use Rattle.run_history.specs.Histories.{answers_of, AreWrites, clock_labels}
 use Rattle.script_text.specs.Declarations.{declareds_of, terms_of, kind_of}
 use Rattle.run_history.specs.Objects.{IsLegalObject}
 use Rattle.run_history.specs.Order.{AreUnder, calls_of}
-use Rattle.run_history.specs.Witnesses.{BasesList, CountersList, Witness, entries_in, is_owner, labels, line_of_base, line_of_object, line_of_timer, lines_at, Move, moves_from, moves_on, Owner, owner_of, TimersList}
+use Rattle.run_history.specs.Witnesses.{BasesList, CountersList, Witness, entries_in, is_owner, labels, line_of_base, line_of_object, line_of_timer, lines_at, Move, moves_from, moves_on, Owner, owner_of, TimersList, twice}
 use Rattle.run_history.specs.Fits.{AreSkipsUnder, Fits, FitsIn, FitsLane, unseen}
 use Rattle.run_cases.proofs.Calls.{AreRight, are_placed, lane_fits}
 use Rattle.run_cases.proofs.Witnesses.{Along, everywhere, each_list, none_on, no_calls}
@@ -137,7 +137,7 @@ each_owner r ms there all bases clock objects (CountersList (suc i)) =
     everywhere (λ i. moves_on (CountersList (suc i)) ms ≡ moves_from 0 (lines_at r (CountersList (suc i)))) r.objects objects (λ i past.
     none_on (CountersList (suc i)) ms (all_true (λ m. is_owner (owner_of m.shown) (CountersList (suc i)) ≡ false) (λ m. is_list r (owner_of m.shown))
     (λ m less. not_object r i (owner_of m.shown) past less) ms there)
-    ∙ ap (λ lines. moves_from 0 (map (line_of_object i) lines)) (sym (get_or_past r.objects i [] past))) i
+    ∙ ap (λ lines. moves_from 0 (twice (map (line_of_object i) lines))) (sym (get_or_past r.objects i [] past))) i
 
 small_fits : (w : Witness) → IsSmall w → FitsIn w
 small_fits w small =

@@ -7,12 +7,13 @@ use Rattle.seq_timer.specs.declared.event.EventBy.{EventBy}
 use Rattle.seq_timer.specs.declared.event.EventBy.TheVariants as events
 use Rattle.record_text.specs.declared.record.Label.{Label}
 use Rattle.script_text.specs.declared.script.Script.{Script}
-use Rattle.run_history.specs.Actions.{Action, also, Entered, Looked, looked, Made, made, Shifted, Skipped, skipped, Wrote}
+use Rattle.run_history.specs.Actions.{Action, also, Began, Entered, Looked, looked, Made, made, Shifted, Skipped, skipped, Wrote}
 use Rattle.run_history.specs.Order.{AreSorted, calls_of, is_before, is_label, is_lower, IsInOrder, IsLabel, IsPoint, made_by, NeverFall}
 use Rattle.run_history.specs.Witnesses.{Witness, labels}
 use Rattle.run_history.specs.Fits.{LabelsNeverFall}
 use Rattle.run_history.specs.Traces.{all_entered}
-use Rattle.run_history.specs.Truths.{AreTrue, OfClaim}
+use Rattle.run_history.specs.Told.{IsBelowLimit, observed}
+use Rattle.run_history.specs.Truths.{AreTrue, IsMoment, IsTrue, IsTrueEntry, OfClaim, Saw, SawFull}
 
 -- numbers that a test compared
 pub below : (a b : ℕ) → nat_lt a b ≡ true → a < b
@@ -112,7 +113,7 @@ pub steps_pass : (from : ℕ) (ns : List ℕ) (to : ℕ) → never_fall from ns 
 steps_pass from [] to e = upto from to e
 steps_pass from (n ∷ ns) to e = let parts = and_parts (nat_le from n) (never_fall n ns to) e in (upto from n parts.0, steps_pass n ns to parts.1)
 
--- ---- what a call did to timers alone is true: its claims are made at moments of the call
+-- ---- what a call did is true, each thing at the place of the call's next entry
 
 -- the place at which the call has its next entry, where it has made so many; the first of these places is numbered so
 abbrev pub own_place : Label → ℕ → ℕ → List Label → ℕ
@@ -120,48 +121,70 @@ own_place c made n [] = n
 own_place c zero n (x ∷ xs) = if is_label c x then n else own_place c zero (n + 1) xs
 own_place c (suc made) n (x ∷ xs) = own_place c (if is_label c x then made else suc made) (n + 1) xs
 
--- the call only wrote the clock and made entries of timers and bases, each claim at a moment of its own
-abbrev pub are_plain : Witness → Label → ℕ → List Action → List Action → ℕ → Bool
-are_plain w c from before [] last = nat_le from last
-are_plain w c from before (Wrote number write ∷ ds) last = nat_le from from && are_plain w c from (before ++ Wrote number write ∷ []) ds last
-are_plain w c from before (Entered t number entry ∷ ds) last =
-    let n = own_place c (length (all_entered before)) 0 (labels w) in
-    nat_le from n && (is_point w.script c (length (all_entered before)) n (labels w)
-    && are_plain w c n (before ++ Entered t number entry ∷ []) ds last)
-are_plain w c from before (Looked t number look ∷ ds) last = false
-are_plain w c from before (Made i number entry ∷ ds) last = false
-are_plain w c from before (Skipped i number generation ∷ ds) last = false
-are_plain w c from before (Shifted base number event ∷ ds) last =
-    nat_le from from && are_plain w c from (before ++ Shifted base number event ∷ []) ds last
+-- that place, where the call has done these things
+abbrev pub place_behind : Witness → Label → List Action → ℕ
+place_behind w c before = own_place c (length (all_entered before)) 0 (labels w)
+
+-- each of these places is a moment of the call, and they never go back
+abbrev pub are_timed : Witness → Label → ℕ → List Action → List Action → ℕ → Bool
+are_timed w c from before [] last = nat_le from last
+are_timed w c from before (d ∷ ds) last =
+    nat_le from (place_behind w c before)
+    && (is_point w.script c (length (all_entered before)) (place_behind w c before) (labels w)
+    && are_timed w c (place_behind w c before) (before ++ d ∷ []) ds last)
+
+-- what is told there of timers and of objects is true
+abbrev pub AreTold : Witness → Label → List Action → List Action → Type 0
+AreTold w c before [] = Unit
+AreTold w c before (Wrote number write ∷ ds) = AreTold w c (before ++ Wrote number write ∷ []) ds
+AreTold w c before (Entered t number entry ∷ ds) = AreTold w c (before ++ Entered t number entry ∷ []) ds
+AreTold w c before (Looked t number look ∷ ds) =
+    (Saw w t number (observed look) (place_behind w c before) × IsBelowLimit w.script.limit number look)
+    × AreTold w c (before ++ Looked t number look ∷ []) ds
+AreTold w c before (Began i stamp ∷ ds) = AreTold w c (before ++ Began i stamp ∷ []) ds
+AreTold w c before (Made i number entry ∷ ds) =
+    IsTrueEntry w i number entry (place_behind w c before) × AreTold w c (before ++ Made i number entry ∷ []) ds
+AreTold w c before (Skipped i number generation ∷ ds) =
+    SawFull w i number (place_behind w c before) × AreTold w c (before ++ Skipped i number generation ∷ []) ds
+AreTold w c before (Shifted base number event ∷ ds) = AreTold w c (before ++ Shifted base number event ∷ []) ds
 
 of_claim : {P : Type 0} (event : EventBy ℕ) → P → OfClaim event P
 of_claim (events.Claim base reading) is = is
 of_claim event is = tt
 
 -- law: so what it did is true
-pub plain_pass : (w : Witness) (c : Label) (first from : ℕ) (before ds : List Action) (last : ℕ) → are_plain w c from before ds last ≡ true
-    → AreTrue w c first from before ds last
-plain_pass w c first from before [] last e = upto from last e
-plain_pass w c first from before (Wrote number write ∷ ds) last e =
-    let parts = and_parts (nat_le from from) (are_plain w c from (before ++ Wrote number write ∷ []) ds last) e in
-    (from, upto from from parts.0, tt, plain_pass w c first from (before ++ Wrote number write ∷ []) ds last parts.1)
-plain_pass w c first from before (Entered t number entry ∷ ds) last e =
-    let n = own_place c (length (all_entered before)) 0 (labels w) in
+pub told_pass : (w : Witness) (c : Label) (from : ℕ) (before ds : List Action) (last : ℕ) → are_timed w c from before ds last ≡ true
+    → AreTold w c before ds → AreTrue w c from before ds last
+told_pass w c from before [] last e told = upto from last e
+told_pass w c from before (d ∷ ds) last e told =
+    let n = place_behind w c before in
     let parts = and_parts (nat_le from n)
-    (is_point w.script c (length (all_entered before)) n (labels w) && are_plain w c n (before ++ Entered t number entry ∷ []) ds last) e in
-    let rest = and_parts (is_point w.script c (length (all_entered before)) n (labels w))
-    (are_plain w c n (before ++ Entered t number entry ∷ []) ds last) parts.1 in (
+    (is_point w.script c (length (all_entered before)) n (labels w) && are_timed w c n (before ++ d ∷ []) ds last) e in
+    let rest = and_parts (is_point w.script c (length (all_entered before)) n (labels w)) (are_timed w c n (before ++ d ∷ []) ds last) parts.1 in (
       n,
       upto from n parts.0,
-      of_claim entry.event (point_passes w.script c (length (all_entered before)) n (labels w) rest.0),
-      plain_pass w c first n (before ++ Entered t number entry ∷ []) ds last rest.1,
+      here d told (point_passes w.script c (length (all_entered before)) n (labels w) rest.0),
+      told_pass w c n (before ++ d ∷ []) ds last
+          rest.1 (further d told),
     )
-plain_pass w c first from before (Looked t number look ∷ ds) last e = absurd (cc)
-plain_pass w c first from before (Made i number entry ∷ ds) last e = absurd (cc)
-plain_pass w c first from before (Skipped i number generation ∷ ds) last e = absurd (cc)
-plain_pass w c first from before (Shifted base number event ∷ ds) last e =
-    let parts = and_parts (nat_le from from) (are_plain w c from (before ++ Shifted base number event ∷ []) ds last) e in
-    (from, upto from from parts.0, tt, plain_pass w c first from (before ++ Shifted base number event ∷ []) ds last parts.1)
+  where
+    here : (d : Action) → AreTold w c before (d ∷ ds) → IsMoment w c before (place_behind w c before) → IsTrue w c before d (place_behind w c before)
+    here (Wrote number write) told point = tt
+    here (Entered t number entry) told point = of_claim entry.event point
+    here (Looked t number look) told point = (point, told.0.0, told.0.1)
+    here (Began i stamp) told point = tt
+    here (Made i number entry) told point = (point, told.0)
+    here (Skipped i number generation) told point = (point, told.0)
+    here (Shifted base number event) told point = tt
+
+    further : (d : Action) → AreTold w c before (d ∷ ds) → AreTold w c (before ++ d ∷ []) ds
+    further (Wrote number write) told = told
+    further (Entered t number entry) told = told
+    further (Looked t number look) told = told.1
+    further (Began i stamp) told = told
+    further (Made i number entry) told = told.1
+    further (Skipped i number generation) told = told.1
+    further (Shifted base number event) told = told
 
 -- ---- what a call did, of timers and objects that are there
 
@@ -175,6 +198,7 @@ are_made timers objects [] = true
 are_made timers objects (Wrote number write ∷ ds) = are_made timers objects ds
 are_made timers objects (Entered t number entry ∷ ds) = are_made timers objects ds
 are_made timers objects (Looked t number look ∷ ds) = nat_lt t timers && are_made timers objects ds
+are_made timers objects (Began i stamp ∷ ds) = are_made timers objects ds
 are_made timers objects (Made i number entry ∷ ds) = nat_lt i objects && are_made timers objects ds
 are_made timers objects (Skipped i number generation ∷ ds) = nat_lt i objects && are_made timers objects ds
 are_made timers objects (Shifted base number event ∷ ds) = are_made timers objects ds
@@ -199,6 +223,8 @@ made_past timers objects i (Looked t number look ∷ ds) e =
       made = rest.made;
       skipped = rest.skipped;
     }
+made_past timers objects i (Began j stamp ∷ ds) e =
+    let rest = made_past timers objects i ds e in record { looked = rest.looked; made = rest.made; skipped = rest.skipped }
 made_past timers objects i (Made j number entry ∷ ds) e =
     let parts = and_parts (nat_lt j objects) (are_made timers objects ds) e in
     let rest = made_past timers objects i ds parts.1 in record {

@@ -21,7 +21,7 @@ use Rattle.record_text.specs.declared.record.RunRecord.{RunRecord}
 use Rattle.script_text.specs.declared.script.LaneCall.{LaneCall}
 use Rattle.script_text.specs.declared.script.Round.{Round}
 use Rattle.script_text.specs.declared.script.Script.{Script}
-use Rattle.run_history.specs.Actions.{Action, also}
+use Rattle.run_history.specs.Actions.{Action, also, Began, Made}
 use Rattle.run_history.specs.Histories.{reading_at}
 use Rattle.script_text.specs.Declarations.{declared_as, declareds_of, terms_of}
 use Rattle.run_history.specs.Order.{calls_from}
@@ -29,7 +29,7 @@ use Rattle.run_history.specs.Starts.{Arming, IsArming, IsJustBefore, IsSentBy, f
 use Rattle.run_history.specs.Calls.{fires}
 use Rattle.run_history.specs.Witnesses.{Witness, entries_in, entry_of_move, Fired, is_owner, Move, moves_on, OfBase, OfRise, OfTimer, Owner, owner_of, Shown, system_along, timer_along, TimersList, Trace}
 use Rattle.run_history.specs.Receipts.{move_at}
-use Rattle.run_history.specs.Truths.{HadFromFirst, IsDone, IsTrueEntry, MadeInTurn, StoodBefore}
+use Rattle.run_history.specs.Truths.{IsDone}
 use Rattle.run_history.proofs.OwnHistories.{entries_on, own_entry}
 use Rattle.run_cases.proofs.Tests.{all_true, le, lt, other}
 
@@ -55,6 +55,10 @@ did reading actions first last = record { at = reading; fired = []; moved = []; 
 -- what an expiry run did
 abbrev pub ran : ℕ → ℕ → List Fired → ℕ → ℕ → Trace
 ran base reading each first last = record { at = reading; fired = each; moved = []; actions = flat_map (fires base reading) each; first = first; last = last }
+
+-- what a call did in a turn of an object that had so many entries: these things, and then its entry of the object
+abbrev pub turn_of : ℕ → ℕ → List Action → ObjectEntry → List Action
+turn_of i stamp these entry = Began i stamp ∷ these ++ Made i (stamp + 1) entry ∷ []
 
 -- a callback that did these things, and by which the timer wasn't armed again
 abbrev pub fired : ℕ → ℕ → List Action → ℕ → Bool → Fired
@@ -94,11 +98,6 @@ two a b = (a, b)
 
 pub three : {A B C : Type 0} → A → B → C → A × B × C
 three a b c = (a, b, c)
-
--- an entry of an object was made in its turn
-pub in_its_turn : {w : Witness} {first i number n : ℕ} {entry : ObjectEntry} → IsTrueEntry w i number entry n → HadFromFirst w first i number entry
-    → StoodBefore w i number n → MadeInTurn w first i number entry n
-in_its_turn true_start had stood = record { true_start = true_start; had = had; stood = stood }
 
 -- a start that makes one entry, on the base that is asked for, is made so
 pub stays : {Reached : ℕ → ℕ → Type 0} {limit base : ℕ} {a : Arming} → nat_le a.number limit ≡ true → a.outs ≡ [] → base ≡ a.asked

@@ -1,5 +1,5 @@
 -- Scripts, each with a record that fits it.
-use Rattle.std.specs.Prelude.{ℕ, true, false, List, [], ◌∷◌, map}
+use Rattle.std.specs.Prelude.{ℕ, true, false, List, [], ◌∷◌, ◌++◌, map}
 use Rattle.ktime.specs.declared.clock_id.ClockId.TheVariants as clocks
 use Rattle.ktime.specs.declared.mode.Mode.TheVariants as modes
 use Rattle.clock_model.specs.declared.write.Write.TheVariants as writes
@@ -16,6 +16,7 @@ use Rattle.record_text.specs.declared.record.CallbackReply.TheVariants as replie
 use Rattle.record_text.specs.declared.record.Entry.{Entry}
 use Rattle.record_text.specs.declared.record.ObjectEntry.TheVariants as object_entries
 use Rattle.record_text.specs.declared.record.ObjectEntry.{ObjectEntry}
+use Rattle.record_text.specs.declared.record.ObjectLine.{ObjectLine}
 use Rattle.record_text.specs.declared.record.ReadReply.TheVariants as reads
 use Rattle.record_text.specs.declared.record.RunRecord.{RunRecord}
 use Rattle.record_text.specs.declared.record.SettimeReply.TheVariants as settings
@@ -283,6 +284,36 @@ skipped_by looked = object_record (advance_line 0 0 10 ∷ [])
 abbrev pub skipped_record : RunRecord
 skipped_record = skipped_by (answers.Peek 1 0 true false false)
 
+-- ---- a lane looks at a timer and reads its descriptor, beside another lane that sets the descriptor twice, each time with an expiry
+
+-- the script
+abbrev pub twice_script : Script
+twice_script = case_script 1 2 (kinds.Fd 0 ∷ []) ((by 0 (calls.Clock (writes.Advance 10)) ∷ [])
+    ∷ (by 0 (settime_to 5) ∷ by 0 (hard_expire 0 4) ∷ by 0 (settime_to 6) ∷ by 0 (hard_expire 0 4) ∷ by 1 (calls.Peek 0) ∷ by 1 (calls.Read 0 8) ∷ []) ∷ [])
+
+-- the lines of the first expiry, of the second settime and of the read
+abbrev pub first_expiry : ObjectLine
+first_expiry = case_object_line 0 2 (object_entries.Trigger 1 1 true)
+
+abbrev pub second_set : ObjectLine
+second_set = case_object_line 0 3 (set_entry_of 6 1 4 0)
+
+abbrev pub read_again : ObjectLine
+read_again = case_object_line 1 1 (object_entries.Read 1 armings.None reads.Again)
+
+-- the order of these three, and all else: the look found the second function running, and the read found no expiry
+abbrev pub twice_by : List ObjectLine → RunRecord
+twice_by lines = object_record (advance_line 0 0 10 ∷ [])
+    ((line 0 1 (set_start 5 1 false) ∷ line 0 2 (claim_entry 0 1 1) ∷ line 0 2 (finish_entry false 1) ∷ line 0 3 (set_start 6 1 false)
+    ∷ line 0 4 (claim_entry 0 1 4) ∷ line 0 4 (finish_entry false 4) ∷ []) ∷ [])
+    ((case_object_line 0 1 (set_entry_of 5 1 1 0) ∷ lines ++ case_object_line 0 4 (object_entries.Trigger 4 1 true) ∷ []) ∷ [])
+    ((answers.Clock 1 ∷ answers.Old 0 0 ∷ answers.Done 1 (0 ∷ []) ∷ answers.Old 0 0 ∷ answers.Done 1 (0 ∷ []) ∷ [])
+    ∷ (answers.Peek 5 0 false true false ∷ answers.Again ∷ []) ∷ [])
+
+-- its record: the read was behind the second settime
+abbrev pub twice_record : RunRecord
+twice_record = twice_by (first_expiry ∷ second_set ∷ read_again ∷ [])
+
 -- ---- a lane looks at a descriptor and then sets the clock, which cancels another lane's read
 
 -- the script
@@ -334,17 +365,21 @@ armed_seen_by looked = object_record [] ((line 0 0 (set_start 50 0 false) ∷ []
 abbrev pub armed_record : RunRecord
 armed_record = armed_seen_by (answers.Peek 1 0 true false false)
 
--- ---- a lane looks at a timer, and then how its object is set, between the start of another lane's settime and its entry of the object
+-- ---- a lane looks at a timer, and then how its object is set, beside another lane's settime
 
 -- the script
-abbrev pub between_script : Script
-between_script = case_script 1 2 (kinds.Posix 0 ∷ [])
+abbrev pub set_script : Script
+set_script = case_script 1 2 (kinds.Posix 0 ∷ [])
     ((by 0 (settime_to 50) ∷ by 1 (calls.Peek 0) ∷ by 1 (calls.Gettime 0) ∷ []) ∷ [])
 
--- its record: the timer is started, and the object not yet armed
-abbrev pub between_record : RunRecord
-between_record = object_record [] ((line 0 0 (set_start 50 0 false) ∷ []) ∷ []) ((case_object_line 0 0 (set_entry_of 50 0 1 0) ∷ []) ∷ [])
-    ((answers.Old 0 0 ∷ []) ∷ (answers.Peek 1 0 true false false ∷ answers.LeftAt 0 0 0 0 ∷ []) ∷ [])
+-- what the look at the object was answered, and all else: the timer was started
+abbrev pub set_seen_by : Answer → RunRecord
+set_seen_by looked = object_record [] ((line 0 0 (set_start 50 0 false) ∷ []) ∷ []) ((case_object_line 0 0 (set_entry_of 50 0 1 0) ∷ []) ∷ [])
+    ((answers.Old 0 0 ∷ []) ∷ (answers.Peek 1 0 true false false ∷ looked ∷ []) ∷ [])
+
+-- its record: the looks were behind the settime
+abbrev pub set_record : RunRecord
+set_record = set_seen_by (answers.LeftAt 50 0 0 1)
 
 -- ---- a settime cancels its timer, which has as many entries then as it may have, so the start behind it is refused
 
@@ -391,6 +426,20 @@ abbrev pub waiting_record : RunRecord
 waiting_record = case_record_in versions.Two [] ((line 0 0 (slack_entry 0 100) ∷ []) ∷ (line 0 1 (start modes.Abs 50 50) ∷ []) ∷ [])
     ((answers.Started 1 0 false ∷ answers.Started 1 0 false ∷ answers.Done 0 [] ∷ []) ∷ [])
 
+-- ---- a hard and a soft expiry run on one base, each of which fires its own timer
+
+-- the script
+abbrev pub contexts_script : Script
+contexts_script = case_script_in versions.Two 1 1 (hard_raw callbacks.Once ∷ kinds.Raw contexts.Soft callbacks.Once ∷ [])
+    ((by 0 (case_start 0 modes.Abs 0 0) ∷ by 0 (case_start 1 modes.Abs 0 0) ∷ by 0 (hard_expire 0 4)
+    ∷ by 0 (calls.Expire contexts.Soft 0 4) ∷ []) ∷ [])
+
+-- its record
+abbrev pub contexts_record : RunRecord
+contexts_record = case_record_in versions.Two []
+    ((line 0 0 (start modes.Abs 0 0) ∷ claim_lines 0 2) ∷ (line 0 1 (start modes.Abs 0 0) ∷ claim_lines 0 3) ∷ [])
+    ((answers.Started 1 0 false ∷ answers.Started 1 0 false ∷ answers.Done 0 (0 ∷ []) ∷ answers.Done 0 (1 ∷ []) ∷ []) ∷ [])
+
 -- ---- a base is taken off line, which moves its timer to the heir; a start that asks for the base goes there; and the base is on line again
 
 -- the script
@@ -423,16 +472,25 @@ refused_by lines answer = off_line_record ([] ∷ (base_line 0 (shifts.Offline 0
 abbrev pub refused_record : RunRecord
 refused_record = refused_by [] (answers.HeirOffline 1)
 
--- ---- a hard and a soft expiry run on one base, each of which fires its own timer
+-- ---- a base has a soft timer that is due and a hard one; a lane looks at the first and takes the base off line, beside another lane's soft expiry run
 
 -- the script
-abbrev pub contexts_script : Script
-contexts_script = case_script_in versions.Two 1 1 (hard_raw callbacks.Once ∷ kinds.Raw contexts.Soft callbacks.Once ∷ [])
-    ((by 0 (case_start 0 modes.Abs 0 0) ∷ by 0 (case_start 1 modes.Abs 0 0) ∷ by 0 (hard_expire 0 4)
-    ∷ by 0 (calls.Expire contexts.Soft 0 4) ∷ []) ∷ [])
+abbrev pub busy_script : Script
+busy_script = case_script_in versions.Two 2 2 (kinds.Raw contexts.Soft callbacks.Once ∷ hard_raw callbacks.Once ∷ [])
+    ((by 0 (case_start 0 modes.Abs 0 1) ∷ by 0 (case_start 1 modes.Abs 50 1) ∷ [])
+    ∷ (by 0 (calls.Peek 0) ∷ by 0 (calls.Offline 1 0 4) ∷ by 1 (calls.Expire contexts.Soft 1 4) ∷ []) ∷ [])
 
--- its record
-abbrev pub contexts_record : RunRecord
-contexts_record = case_record_in versions.Two []
-    ((line 0 0 (start modes.Abs 0 0) ∷ claim_lines 0 2) ∷ (line 0 1 (start modes.Abs 0 0) ∷ claim_lines 0 3) ∷ [])
-    ((answers.Started 1 0 false ∷ answers.Started 1 0 false ∷ answers.Done 0 (0 ∷ []) ∷ answers.Done 0 (1 ∷ []) ∷ []) ∷ [])
+-- what the look was answered, and all else: the hard timer is moved off the base, and the base stays on line as the soft one's function runs there
+abbrev pub busy_by : Answer → RunRecord
+busy_by looked = record (case_record_in versions.Two []
+    ((line 0 0 (out_entry 1 false) ∷ line 0 0 (case_start_entry modes.Abs 0 0 1 1 0 false) ∷ line 1 0 (claim_entry 1 0 2)
+    ∷ line 1 0 (finish_entry false 2) ∷ [])
+    ∷ (line 0 1 (out_entry 1 false) ∷ line 0 1 (case_start_entry modes.Abs 50 0 1 1 50 false) ∷ line 0 3 (out_entry 0 true)
+    ∷ line 0 3 (case_start_entry modes.Keep 50 0 0 0 50 false) ∷ []) ∷ [])
+    ((answers.Started 2 1 false ∷ answers.Started 2 1 false ∷ looked ∷ answers.OfflineBusy 1 0 2 ∷ []) ∷ (answers.Done 0 (0 ∷ []) ∷ []) ∷ [])) {
+      bases = [] ∷ [] ∷ [];
+    }
+
+-- its record: the look was before the claim
+abbrev pub busy_record : RunRecord
+busy_record = busy_by (answers.Peek 2 1 true false false)

@@ -5,10 +5,8 @@ use Rattle.clock_model.specs.declared.write.Write.TheVariants as writes
 use Rattle.seq_timer.specs.declared.context.Context.TheVariants as contexts
 use Rattle.seq_timer.specs.declared.standing.BaseEvent.TheVariants as shifts
 use Rattle.record_text.specs.declared.record.Answer.TheVariants as answers
-use Rattle.record_text.specs.declared.record.Armed.TheVariants as armings
 use Rattle.record_text.specs.declared.record.Entry.{Entry}
 use Rattle.record_text.specs.declared.record.ObjectEntry.TheVariants as object_entries
-use Rattle.record_text.specs.declared.record.ReadReply.TheVariants as reads
 use Rattle.record_text.specs.declared.record.RunRecord.{RunRecord}
 use Rattle.record_text.specs.declared.record.TimerLine.{TimerLine}
 use Rattle.record_text.specs.declared.version.Version.TheVariants as versions
@@ -18,7 +16,7 @@ use Rattle.script_text.specs.declared.script.Callback.TheVariants as callbacks
 use Rattle.script_text.specs.declared.script.Kind.TheVariants as kinds
 use Rattle.script_text.specs.declared.script.Kind.{Kind}
 use Rattle.script_text.specs.declared.script.Script.{Script}
-use Rattle.run_cases.specs.Fitting.{accepts_by, armed_seen_by, awaited_by, canceled_by, full_by, nothing_by, refused_by, seen_by, skipped_by, started_by, unreadable_by}
+use Rattle.run_cases.specs.Fitting.{accepts_by, armed_seen_by, awaited_by, busy_by, canceled_by, first_expiry, full_by, nothing_by, read_again, refused_by, second_set, seen_by, set_seen_by, skipped_by, started_by, twice_by, unreadable_by}
 use Rattle.run_cases.specs.Lines.{advance_line, at, object_record, set_entry_of, set_start, settime_to, base_line, by, case_object_line, case_script, case_start, claim_lines, hard_expire, hard_raw, line, off_line_record, out_entry, case_start_entry, raw_record, case_record_in, case_script_in, slack_entry, slack_start, start, cancel_entry, claim_entry, finish_entry}
 
 -- two timers whose callbacks do nothing
@@ -133,23 +131,11 @@ settimes_record = object_record [] ((line 0 0 (set_start 100 0 false) ∷ line 1
 abbrev pub missed_expiry_record : RunRecord
 missed_expiry_record = unreadable_by (answers.Peek 3 0 false false false)
 
--- ---- a read stands before the first of two expiries, and its lane saw the function of the second
-
--- the script
-abbrev pub twice_script : Script
-twice_script = case_script 1 2 (kinds.Fd 0 ∷ []) ((by 0 (calls.Clock (writes.Advance 10)) ∷ [])
-    ∷ (by 0 (settime_to 5) ∷ by 0 (hard_expire 0 4) ∷ by 0 (settime_to 6) ∷ by 0 (hard_expire 0 4) ∷ by 1 (calls.Peek 0) ∷ by 1 (calls.Read 0 8) ∷ []) ∷ [])
+-- ---- a read stands before the first of two expiries, and its lane saw the function of the second: the script of a read behind the second settime
 
 -- a record that breaks it
 abbrev pub early_read_record : RunRecord
-early_read_record = object_record (advance_line 0 0 10 ∷ [])
-    ((line 0 1 (set_start 5 1 false) ∷ line 0 2 (claim_entry 0 1 1) ∷ line 0 2 (finish_entry false 1) ∷ line 0 3 (set_start 6 1 false)
-    ∷ line 0 4 (claim_entry 0 1 4) ∷ line 0 4 (finish_entry false 4) ∷ []) ∷ [])
-    ((case_object_line 0 1 (set_entry_of 5 1 1 0) ∷ case_object_line 1 1 (object_entries.Read 1 armings.None reads.Again)
-    ∷ case_object_line 0 2 (object_entries.Trigger 1 1 true) ∷ case_object_line 0 3 (set_entry_of 6 1 4 0)
-    ∷ case_object_line 0 4 (object_entries.Trigger 4 1 true) ∷ []) ∷ [])
-    ((answers.Clock 1 ∷ answers.Old 0 0 ∷ answers.Done 1 (0 ∷ []) ∷ answers.Old 0 0 ∷ answers.Done 1 (0 ∷ []) ∷ [])
-    ∷ (answers.Peek 5 0 false true false ∷ answers.Again ∷ []) ∷ [])
+early_read_record = twice_by (read_again ∷ first_expiry ∷ second_set ∷ [])
 
 -- ---- of two lanes each sets its descriptor, and sees the other's as it was before: the script of these settimes and looks
 
@@ -180,6 +166,12 @@ foreseen_set_record = canceled_by 2
 -- a record that breaks it
 abbrev pub unstarted_record : RunRecord
 unstarted_record = armed_seen_by (answers.Peek 0 0 false false false)
+
+-- ---- an object is seen as before a settime whose start its lane has seen: the script of a settime beside looks at both
+
+-- a record that breaks it
+abbrev pub unset_record : RunRecord
+unset_record = set_seen_by (answers.LeftAt 0 0 0 0)
 
 -- ---- a start is refused by its timer as it was before its own settime's cancel: the script of a settime whose start is refused
 
@@ -296,6 +288,12 @@ turns_record = off_line_record ([] ∷ [] ∷ [])
     ((lines_there 1 ++ map (line 0 2) later_move)
     ∷ (line 0 0 (out_entry 1 false) ∷ line 0 0 (case_start_entry modes.Abs 50 0 1 1 50 false) ∷ []) ∷ [])
     (answers.Started 2 1 false ∷ answers.Started 2 1 false ∷ answers.OfflineMore 1 ∷ [])
+
+-- ---- a timer is moved off a base while a function runs there: the script of a base that stays on line as a function runs there
+
+-- a record that breaks it
+abbrev pub running_moved_record : RunRecord
+running_moved_record = busy_by (answers.Peek 3 1 false true false)
 
 -- ---- a base goes off line with an heir that is off line: the script of a refused heir
 

@@ -52,6 +52,12 @@ pub fn a_look_at_an_object_beside_another_lane()
     ensures armed { Fits fitting.armed_script fitting.armed_record }
 {}
 
+/// A lane sees a timer started by another lane's settime, and then its object as that settime set it.
+#[tactic(auto, using(crate::proofs::ObjectsFitting::set_fits))]
+pub fn a_look_at_an_object_behind_its_timers_start()
+    ensures { Fits fitting.set_script fitting.set_record }
+{}
+
 /// Two lanes accept of two POSIX timers, and one of them comes first on both.
 #[tactic(auto, using(crate::proofs::ObjectsFitting::accepts_fit))]
 pub fn two_lanes_accept_of_two_timers()
@@ -64,17 +70,16 @@ pub fn a_full_object_skips_an_expiry()
     ensures { Fits fitting.skipped_script fitting.skipped_record }
 {}
 
+/// A lane sees a timer's function run a second time, and its read finds no expiry: it stands behind the second settime, before the second expiry's entry.
+#[tactic(auto, using(crate::proofs::ObjectsFitting::twice_fits))]
+pub fn a_read_between_two_expiries()
+    ensures { Fits fitting.twice_script fitting.twice_record }
+{}
+
 /// A read is canceled by another lane's set of the clock.
 #[tactic(auto, using(crate::proofs::ObjectsFitting::canceled_fits))]
 pub fn a_set_clock_cancels_a_read()
     ensures { Fits fitting.canceled_script fitting.canceled_record }
-{}
-
-/// A look at an object between the start of another lane's settime and its entry of the object fits, though no lane gets such a look of an object whose
-/// lock the settime holds.
-#[tactic(auto, using(crate::proofs::ObjectsFitting::between_fits))]
-pub fn a_look_between_a_start_and_its_settimes_entry()
-    ensures { Fits fitting.between_script fitting.between_record }
 {}
 
 /// A start that the limit refuses is told with the settime's own cancel among the timer's entries.
@@ -111,4 +116,10 @@ pub fn a_start_goes_to_the_heir()
 #[tactic(auto, using(crate::proofs::RefusedHeir::refused_fits))]
 pub fn an_heir_off_line_is_refused()
     ensures { Fits fitting.refused_script fitting.refused_record }
+{}
+
+/// A base has a soft timer that is due and a hard one. A call moves the hard one off it; then the soft one's function runs there, and the base stays on line.
+#[tactic(auto, using(crate::proofs::BusyBase::busy_fits))]
+pub fn a_base_stays_on_line_while_a_function_runs_there()
+    ensures { Fits fitting.busy_script fitting.busy_record }
 {}

@@ -5,10 +5,11 @@ mod fitting;
 mod wrong;
 
 pub use fitting::{
-    a_callback_is_told_that_it_runs, a_cancel_beside_an_expiry,
-    a_due_timer_waits_behind_an_earlier_one, a_full_object_skips_an_expiry,
-    a_look_and_a_write_beside_another_lane, a_look_at_an_object_beside_another_lane,
-    a_look_between_a_start_and_its_settimes_entry, a_set_clock_cancels_a_read,
+    a_base_stays_on_line_while_a_function_runs_there, a_callback_is_told_that_it_runs,
+    a_cancel_beside_an_expiry, a_due_timer_waits_behind_an_earlier_one,
+    a_full_object_skips_an_expiry, a_look_and_a_write_beside_another_lane,
+    a_look_at_an_object_behind_its_timers_start, a_look_at_an_object_beside_another_lane,
+    a_read_between_two_expiries, a_set_clock_cancels_a_read,
     a_settime_cancels_a_timer_and_cannot_start_it, a_soft_expiry_is_enough,
     a_start_goes_to_the_heir, a_start_while_running_and_one_to_another_base,
     an_accepted_signal_arms_a_timer_again, an_expiry_and_an_idle_cancel,
@@ -24,10 +25,11 @@ pub use wrong::{
     no_base_goes_off_line_to_an_heir_off_line, no_claim_looks_past_the_first_timer,
     no_expiry_is_skipped_before_its_object_is_full,
     no_function_runs_before_the_write_that_makes_it_due, no_hard_expiry_is_missed,
-    no_look_misses_an_expiry_that_was_over, no_object_is_armed_before_its_timers_start,
-    no_read_is_canceled_by_a_later_set, no_read_misses_the_first_of_two_expiries,
-    no_run_is_done_by_an_old_reading, no_start_ends_on_a_base_off_line,
-    no_start_goes_by_a_later_write, no_timer_expires_before_its_soft_expiry,
+    no_look_misses_a_settime_whose_start_its_lane_saw, no_look_misses_an_expiry_that_was_over,
+    no_object_is_armed_before_its_timers_start, no_read_is_canceled_by_a_later_set,
+    no_read_misses_the_first_of_two_expiries, no_run_is_done_by_an_old_reading,
+    no_start_ends_on_a_base_off_line, no_start_goes_by_a_later_write,
+    no_timer_expires_before_its_soft_expiry, no_timer_is_moved_while_a_function_runs,
     timers_are_moved_in_turn, two_functions_never_run_at_once_on_a_base,
     two_lanes_dont_both_come_first,
 };

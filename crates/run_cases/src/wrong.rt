@@ -61,7 +61,7 @@ pub fn no_look_misses_an_expiry_that_was_over()
 /// A read doesn't stand before the first of two expiries, when its lane has seen the function of the second.
 #[tactic(auto, using(crate::proofs::ObjectsWrong::early_read_doesnt_fit))]
 pub fn no_read_misses_the_first_of_two_expiries()
-    ensures { Fits wrong.twice_script wrong.early_read_record → ⊥ }
+    ensures { Fits fitting.twice_script wrong.early_read_record → ⊥ }
 {}
 
 /// Of two lanes that each make an entry of one object and then look at the other's, not both see none.
@@ -92,6 +92,12 @@ pub fn no_read_is_canceled_by_a_later_set()
 #[tactic(auto, using(crate::proofs::ObjectsWrong::unstarted_doesnt_fit))]
 pub fn no_object_is_armed_before_its_timers_start()
     ensures { Fits fitting.armed_script wrong.unstarted_record → ⊥ }
+{}
+
+/// A look at an object doesn't miss a settime whose start its lane saw: no lane sees the object as it was before, within that settime's turn.
+#[tactic(auto, using(crate::proofs::ObjectsWrong::unset_doesnt_fit))]
+pub fn no_look_misses_a_settime_whose_start_its_lane_saw()
+    ensures { Fits fitting.set_script wrong.unset_record → ⊥ }
 {}
 
 /// A start isn't refused by its timer as it was before the settime's own cancel.
@@ -152,6 +158,12 @@ pub fn a_moved_timer_keeps_its_expiry()
 #[tactic(auto, using(crate::proofs::MovedInTurn::turns_dont_fit))]
 pub fn timers_are_moved_in_turn()
     ensures { Fits wrong.turns_script wrong.turns_record → ⊥ }
+{}
+
+/// A timer isn't moved off a base while a function runs there: the lane whose call moves it saw the function run before, and is told that it still runs.
+#[tactic(auto, using(crate::proofs::BusyBase::running_moved_doesnt_fit))]
+pub fn no_timer_is_moved_while_a_function_runs()
+    ensures { Fits fitting.busy_script wrong.running_moved_record → ⊥ }
 {}
 
 /// A base doesn't go off line with an heir that was off line when the call began.

@@ -1,5 +1,5 @@
 -- Expiry runs, by what their pass had seen at each of its calls: before and after each claim, after each callback, after each finish.
-use Rattle.std.proofs.Common.{◌≡◌, ◌<◌, ◌≤◌, ℕ, suc, List, [], ◌∷◌, ◌++◌, Some, length, map, arith, refl, sym, ap, ◌∙◌, subst}
+use Rattle.std.proofs.Common.{◌≡◌, ◌<◌, ◌≤◌, ℕ, ◌+◌, suc, List, [], ◌∷◌, ◌++◌, Some, length, map, arith, refl, sym, ap, ◌∙◌, subst}
 use Rattle.std.specs.List.{AllByRecursion}
 use Rattle.std.specs.Prelude.{flat_map}
 use Rattle.std.proofs.Math.Logic.{⊎_elim}
@@ -18,7 +18,8 @@ use Rattle.seq_timer.specs.declared.event.Reply.TheVariants as replies
 use Rattle.record_text.specs.declared.record.Entry.{Entry}
 use Rattle.record_text.specs.declared.record.Label.{Label}
 use Rattle.record_text.specs.declared.record.ObjectEntry.TheVariants as object_entries
-use Rattle.run_history.specs.Actions.{Action, Entered, Looked, Made, Skipped}
+use Rattle.record_text.specs.declared.record.ObjectEntry.{ObjectEntry}
+use Rattle.run_history.specs.Actions.{Action, Began, Entered, Looked, Made, Skipped}
 use Rattle.run_history.specs.Told.{IsBelowLimit, observed}
 use Rattle.script_text.specs.Declarations.{kind_of, declared_of, without_slack}
 use Rattle.run_history.specs.Starts.{arming_actions}
@@ -28,36 +29,36 @@ use Rattle.script_text.specs.declared.script.Callback.{Callback}
 use Rattle.script_text.specs.declared.script.Kind.TheVariants as kinds
 use Rattle.script_text.specs.declared.script.Kind.{Kind}
 use Rattle.run_history.specs.Calls.{Does, fires, IsBody, IsCallback, IsExpiryRun, IsTrigger}
-use Rattle.run_history.specs.Witnesses.{Fired, OfRise, OfTimer, Shown, Trace, Witness, entries_in, timer_along}
+use Rattle.run_history.specs.Witnesses.{Fired, OfRise, OfTimer, Trace, Witness, timer_along}
 use Rattle.run_history.specs.Fits.{FitsCall, Seen}
 use Rattle.run_history.specs.Receipts.{PlacedEntry, receipt}
 use Rattle.run_history.specs.Rounds.{Spans}
 use Rattle.run_history.specs.Traces.{all_entered}
-use Rattle.run_history.specs.Truths.{AnswerHolds, AreTrue, IsDone, IsMoment, Saw, SawFull, StoodBefore, WasOffLine}
+use Rattle.run_history.specs.Truths.{AnswerHolds, AreTrue, IsDone, IsMoment, Saw, SawFull, WasOffLine}
 use Rattle.run_history.proofs.Actions.{all_entered-append}
 use Rattle.run_history.proofs.Kept.{call_made_whole, IsKept, moment_of, Stops}
-use Rattle.run_history.proofs.Known.{AreMade, made-append, made_stood, made_wider, none_made, stops_between}
+use Rattle.run_history.proofs.Known.{AreMade, first_note, made-append, made_wider, no_notes, none_made, one_note, stops_between}
 use Rattle.run_history.proofs.OthersMade.{start_true}
 use Rattle.run_history.proofs.Reached.{body_wider, was_wider}
 
 -- ---- truths in turn
 
 -- they may begin earlier
-true_earlier : (w : Witness) (c : Label) (first from mid last : ℕ) (before es : List Action) → from ≤ mid → AreTrue w c first mid before es last
-    → AreTrue w c first from before es last
-true_earlier w c first from mid last before [] le all = omega (arith, le, all)
-true_earlier w c first from mid last before (d ∷ ds) le all = (all.0, omega (arith, le, all.1), all.2, all.3)
+true_earlier : (w : Witness) (c : Label) (from mid last : ℕ) (before es : List Action) → from ≤ mid → AreTrue w c mid before es last
+    → AreTrue w c from before es last
+true_earlier w c from mid last before [] le all = omega (arith, le, all)
+true_earlier w c from mid last before (d ∷ ds) le all = (all.0, omega (arith, le, all.1), all.2, all.3)
 
-true-append : (w : Witness) (c : Label) (first from mid last : ℕ) (before ds es : List Action) → AreTrue w c first from before ds mid
-    → AreTrue w c first mid (before ++ ds) es last → AreTrue w c first from before (ds ++ es) last
-true-append w c first from mid last before [] es one two =
-    subst (λ b. AreTrue w c first from b es last) (append-nil before) (true_earlier w c first from mid last (before ++ []) es one two)
-true-append w c first from mid last before (d ∷ ds) es one two = (
+true-append : (w : Witness) (c : Label) (from mid last : ℕ) (before ds es : List Action) → AreTrue w c from before ds mid
+    → AreTrue w c mid (before ++ ds) es last → AreTrue w c from before (ds ++ es) last
+true-append w c from mid last before [] es one two =
+    subst (λ b. AreTrue w c from b es last) (append-nil before) (true_earlier w c from mid last (before ++ []) es one two)
+true-append w c from mid last before (d ∷ ds) es one two = (
   one.0,
   one.1,
   one.2,
-  true-append w c first one.0 mid last (before ++ d ∷ []) ds es one.3
-      (subst (λ b. AreTrue w c first mid b es last) (sym (append_assoc before (d ∷ []) ds)) two),
+  true-append w c one.0 mid last (before ++ d ∷ []) ds es one.3
+      (subst (λ b. AreTrue w c mid b es last) (sym (append_assoc before (d ∷ []) ds)) two),
 )
 
 -- ---- one callback
@@ -108,15 +109,6 @@ abbrev pub notes_of : {w : Witness} {order : List SystemEntry} {context : Contex
     → Ran w order context base at f from to → List PlacedEntry
 notes_of ran = ran.claim ∷ ran.body ++ ran.finish ∷ []
 
-no_notes : (xs : List PlacedEntry) → map receipt xs ≡ [] → xs ≡ []
-no_notes [] is = refl
-no_notes (x ∷ xs) is = absurd (cc)
-
-one_note : (xs : List PlacedEntry) (e : ℕ × Shown) → map receipt xs ≡ e ∷ [] → (x : PlacedEntry) × (xs ≡ x ∷ []) × (receipt x ≡ e)
-one_note [] e is = absurd (cc)
-one_note (x ∷ []) e is = (x, refl, cc)
-one_note (x ∷ y ∷ xs) e is = absurd (cc)
-
 module _ {w : Witness} {order : List SystemEntry} {context : Context} {base at : ℕ} {f : Fired} {from to : ℕ}
     (ran : Ran w order context base at f from to) where
   forward : from ≤ to
@@ -140,7 +132,7 @@ abbrev pub AreMoments : Witness → Label → List PlacedEntry → ℕ → ℕ �
 AreMoments w c notes low high = (early : List Action) (n : ℕ) → low ≤ n → n ≤ high → Stops c notes early n → IsMoment w c early n
 
 -- a callback among a call's receipts, those before it and those behind
-module _ {w : Witness} {order : List SystemEntry} {context : Context} {base at : ℕ} {f : Fired} {from to : ℕ} (entries : entries_in w ≡ order) (c : Label)
+module _ {w : Witness} {order : List SystemEntry} {context : Context} {base at : ℕ} {f : Fired} {from to : ℕ} (c : Label)
     (before : List Action) (ran : Ran w order context base at f from to) (low high : ℕ) (all early late : List PlacedEntry)
     (split : all ≡ early ++ (notes_of ran ++ late)) (one : AreMade order low from early) (two : AreMade order to high late)
     (are : map receipt early ≡ all_entered before) (under : low ≤ from) (over : to ≤ high) (moments : AreMoments w c all low high) where
@@ -154,47 +146,60 @@ module _ {w : Witness} {order : List SystemEntry} {context : Context} {base at :
       moments before from under (omega (arith, forward ran, over))
       (subst (λ xs. Stops c xs before from) (sym split) (stops_between c order low from high early (notes_of ran ++ late) before one rest are))
 
-  -- a moment behind the claim, before the rest
-  moment_behind : (n : ℕ) (rest : List PlacedEntry) → ran.claimed ≤ n → n ≤ to → AreMade order n to rest → all ≡ early ++ (ran.claim ∷ rest ++ late)
-      → IsMoment w c (with_claim base at f before) n
-  moment_behind n rest le more made is =
-      let first = made_wider order low low ran.claimed n (early ++ ran.claim ∷ []) (omega arith) le
-      (made-append order low from ran.claimed early (ran.claim ∷ []) one ran.claim_made under ran.rise) in
-      let entered : map receipt (early ++ ran.claim ∷ []) ≡ all_entered (with_claim base at f before) =
+  -- a moment behind the claim at which the callback had done so much, before the rest
+  moment_behind : (done : List Action) (mine rest : List PlacedEntry) (n : ℕ) → ran.claimed ≤ n → n ≤ to → AreMade order ran.claimed n mine
+      → map receipt mine ≡ all_entered done → AreMade order n to rest → all ≡ early ++ (ran.claim ∷ (mine ++ rest) ++ late)
+      → IsMoment w c (with_claim base at f before ++ done) n
+  moment_behind done mine rest n le more is_made entered made is =
+      let claimed = made-append order low from ran.claimed early (ran.claim ∷ []) one ran.claim_made under ran.rise in
+      let first = made-append order low ran.claimed n (early ++ ran.claim ∷ []) mine claimed is_made forward_claimed le in
+      let claim_entered : map receipt (early ++ ran.claim ∷ []) ≡ all_entered (with_claim base at f before) =
       map-append receipt early (ran.claim ∷ []) ∙ ap (λ xs. xs ++ receipt ran.claim ∷ []) are ∙ ap (λ x. all_entered before ++ x ∷ []) ran.claim_is
       ∙ sym (all_entered-append before (Entered f.timer f.claim (claim_of base at f) ∷ [])) in
-      moments (with_claim base at f before) n (omega (arith, forward_claimed, le)) (omega (arith, more, over))
-      (subst (λ xs. Stops c xs (with_claim base at f before) n) (sym (is ∙ sym (append_assoc early (ran.claim ∷ []) (rest ++ late))))
-      (stops_between c order low n high (early ++ ran.claim ∷ []) (rest ++ late) (with_claim base at f before) first
-      (made-append order n to high rest late made two more over) entered))
+      let all_so_far : map receipt ((early ++ ran.claim ∷ []) ++ mine) ≡ all_entered (with_claim base at f before ++ done) =
+      map-append receipt (early ++ ran.claim ∷ []) mine ∙ ap (λ xs. xs ++ map receipt mine) claim_entered
+      ∙ ap (λ xs. all_entered (with_claim base at f before) ++ xs) entered ∙ sym (all_entered-append (with_claim base at f before) done) in
+      let parts : all ≡ ((early ++ ran.claim ∷ []) ++ mine) ++ (rest ++ late) =
+      is ∙ ap (λ xs. early ++ (ran.claim ∷ xs)) (append_assoc mine rest late) ∙ sym (append_assoc early (ran.claim ∷ []) (mine ++ (rest ++ late)))
+      ∙ sym (append_assoc (early ++ ran.claim ∷ []) mine (rest ++ late)) in
+      moments (with_claim base at f before ++ done) n (omega (arith, forward_claimed, le)) (omega (arith, more, over))
+      (subst (λ xs. Stops c xs (with_claim base at f before ++ done) n) (sym parts)
+      (stops_between c order low n high ((early ++ ran.claim ∷ []) ++ mine) (rest ++ late) (with_claim base at f before ++ done) first
+      (made-append order n to high rest late made two more over) all_so_far))
 
-  -- the moment before an object's entry, which had just those before it then
-  moment_made : (i number : ℕ) → all_entered f.body ≡ (number, OfRise (suc i)) ∷ []
-      → (n : ℕ) × (from ≤ n) × (n ≤ ran.acted) × IsMoment w c (with_claim base at f before) n × StoodBefore w i number n
-  moment_made i number is =
-      let note = one_note ran.body (number, OfRise (suc i)) (ran.body_is ∙ is) in
-      let p = note.0.place in
-      let made : AreMade order ran.claimed ran.acted (note.0 ∷ []) = subst (AreMade order ran.claimed ran.acted) note.1 ran.body_made in
-      let alone : AreMade order p ran.acted (note.0 ∷ []) = record { rise = (omega arith, tt); below = made.below; made = made.made } in
-      let rest : AreMade order p to (ran.body ++ ran.finish ∷ []) =
-      subst (λ b. AreMade order p to (b ++ ran.finish ∷ [])) (sym note.1)
-      (made-append order p ran.acted to (note.0 ∷ []) (ran.finish ∷ []) alone ran.finish_made (omega (arith, made.below.0)) ran.ends) in (
+  -- the moment before a turn's entry: the turn had begun
+  moment_made : (i stamp : ℕ) (entry : ObjectEntry) → f.body ≡ Began i stamp ∷ Made i (stamp + 1) entry ∷ []
+      → (n : ℕ) × (from ≤ n) × (n ≤ ran.acted) × IsMoment w c (with_claim base at f before ++ Began i stamp ∷ []) n
+  moment_made i stamp entry is =
+      let entered : map receipt ran.body ≡ all_entered (Began i stamp ∷ Made i (stamp + 1) entry ∷ []) = ran.body_is ∙ ap all_entered is in
+      let begun = first_note ran.body (stamp + stamp + 1, OfRise (suc i)) ((stamp + 1 + (stamp + 1), OfRise (suc i)) ∷ []) entered in
+      let ended = one_note begun.1 (stamp + 1 + (stamp + 1), OfRise (suc i)) begun.4 in
+      let p = ended.0.place in
+      let body : ran.body ≡ begun.0 ∷ ended.0 ∷ [] = begun.2 ∙ ap (λ xs. begun.0 ∷ xs) ended.1 in
+      let made : AreMade order ran.claimed ran.acted (begun.0 ∷ ended.0 ∷ []) = subst (AreMade order ran.claimed ran.acted) body ran.body_made in
+      let first : AreMade order ran.claimed p (begun.0 ∷ []) =
+      record { rise = (made.rise.0, tt); below = (omega (arith, made.rise.1.0), tt); made = (made.made.0, tt) } in
+      let second : AreMade order p ran.acted (ended.0 ∷ []) = record { rise = (omega arith, tt); below = made.below.1; made = made.made.1 } in
+      let upto : ran.claimed ≤ p = omega (arith, made.rise.0, made.rise.1.0) in
+      let below : p ≤ ran.acted = omega (arith, made.below.1.0) in (
         p,
-        omega (arith, ran.rise, made.rise.0),
-        omega (arith, made.below.0),
-        moment_behind p (ran.body ++ ran.finish ∷ []) made.rise.0 (omega (arith, made.below.0, ran.ends)) rest split,
-        made_stood w order i number note.0 entries made.made.0 note.2,
+        omega (arith, ran.rise, upto),
+        below,
+        moment_behind (Began i stamp ∷ []) (begun.0 ∷ []) (ended.0 ∷ ran.finish ∷ []) p upto (omega (arith, below, ran.ends)) first
+            (ap (λ e. e ∷ []) begun.3) (made-append order p ran.acted to (ended.0 ∷ []) (ran.finish ∷ []) second ran.finish_made below ran.ends)
+            (split ∙ ap (λ xs. early ++ (ran.claim ∷ (xs ++ ran.finish ∷ []) ++ late)) body),
       )
 
   -- a callback that made no entry left the call where the claim had put it
   moment_acted : [] ≡ all_entered f.body → IsMoment w c (with_claim base at f before) ran.acted
   moment_acted none =
-      moment_behind ran.acted (ran.finish ∷ []) ran.goes_on ran.ends ran.finish_made
-      (split ∙ ap (λ xs. early ++ (ran.claim ∷ (xs ++ ran.finish ∷ []) ++ late)) (no_notes ran.body (ran.body_is ∙ sym none)))
+      subst (λ ds. IsMoment w c ds ran.acted) (append-nil (with_claim base at f before))
+      (moment_behind [] [] (ran.finish ∷ []) ran.acted ran.goes_on ran.ends (none_made order ran.claimed ran.acted) refl ran.finish_made
+      (split ∙ ap (λ xs. early ++ (ran.claim ∷ (xs ++ ran.finish ∷ []) ++ late)) (no_notes ran.body (ran.body_is ∙ sym none))))
 
   -- what the callback was told holds
-  body_true : (first : ℕ) → AreTrue w c first from (with_claim base at f before) f.body ran.acted
-  body_true first = by_kind (kind_of w.script f.timer) ran.kind
+  body_true : AreTrue w c from (with_claim base at f before) f.body ran.acted
+  body_true = by_kind (kind_of w.script f.timer) ran.kind
     where
       since : List Action
       since = with_claim base at f before
@@ -202,15 +207,15 @@ module _ {w : Witness} {order : List SystemEntry} {context : Context} {base at :
       onward : from ≤ ran.acted
       onward = omega (arith, ran.rise, ran.goes_on)
 
-      by_body : (ds : List Action) → f.body ≡ ds → (ReplyHolds w ran.acted ds → AreTrue w c first from since ds ran.acted)
-          → AreTrue w c first from since f.body ran.acted
-      by_body ds is go = subst (λ xs. AreTrue w c first from since xs ran.acted) (sym is) (go (subst (ReplyHolds w ran.acted) is ran.holds))
+      by_body : (ds : List Action) → f.body ≡ ds → (ReplyHolds w ran.acted ds → AreTrue w c from since ds ran.acted)
+          → AreTrue w c from since f.body ran.acted
+      by_body ds is go = subst (λ xs. AreTrue w c from since xs ran.acted) (sym is) (go (subst (ReplyHolds w ran.acted) is ran.holds))
 
-      looks : (timer number : ℕ) (look : CallbackReply) → f.body ≡ Looked timer number look ∷ [] → AreTrue w c first from since f.body ran.acted
+      looks : (timer number : ℕ) (look : CallbackReply) → f.body ≡ Looked timer number look ∷ [] → AreTrue w c from since f.body ran.acted
       looks timer number look is = by_body (Looked timer number look ∷ []) is
           (λ holds. (ran.acted, onward, (moment_acted (ap all_entered (sym is)), holds.0, holds.1), omega arith))
 
-      by_callback : (callback : Callback) → IsCallback (WasOffLine w from to) w.script.limit callback at f → AreTrue w c first from since f.body ran.acted
+      by_callback : (callback : Callback) → IsCallback (WasOffLine w from to) w.script.limit callback at f → AreTrue w c from since f.body ran.acted
       by_callback callbacks.Once is = by_body [] is.0 (λ holds. onward)
       by_callback (callbacks.Every interval) is =
           ⊎_elim
@@ -222,29 +227,31 @@ module _ {w : Witness} {order : List SystemEntry} {context : Context} {base at :
       by_callback (callbacks.Starts ns asked) is =
           ⊎_elim
           (λ a. by_body (arming_actions f.timer (without_slack modes.Rel ns asked) at a.0) a.1
-          (λ holds. start_true w c first from ran.acted f.timer at (without_slack modes.Rel ns asked) since a.0 onward))
+          (λ holds. start_true w c from ran.acted f.timer at (without_slack modes.Rel ns asked) since a.0 onward))
           (λ spent. looks f.timer spent.0 told.Spent spent.1) is.0
 
-      by_trigger : IsTrigger at f → AreTrue w c first from since f.body ran.acted
+      by_trigger : IsTrigger at f → AreTrue w c from since f.body ran.acted
       by_trigger is =
           ⊎_elim
-          (λ trigger. by_body (Made f.timer trigger.0 (object_entries.Trigger f.generation at trigger.1) ∷ []) trigger.2
-          (λ holds. let m = moment_made f.timer trigger.0 (ap all_entered trigger.2) in
-          (m.0, m.1, (m.3, record { true_start = tt; had = tt; stood = m.4 }), m.2)))
+          (λ trigger.
+          let entry = object_entries.Trigger f.generation at trigger.1 in
+          let m = moment_made f.timer trigger.0 entry trigger.2 in
+          by_body (Began f.timer trigger.0 ∷ Made f.timer (trigger.0 + 1) entry ∷ []) trigger.2
+          (λ holds. (from, omega arith, tt, (m.0, m.1, (m.3, tt), m.2))))
           (λ skipped. by_body (Skipped f.timer skipped.0 f.generation ∷ []) skipped.1
           (λ holds. (ran.acted, onward, (moment_acted (ap all_entered (sym skipped.1)), holds), omega arith))) is.0
 
-      by_kind : (kind : Kind) → IsBody (WasOffLine w from to) w.script.limit kind at f → AreTrue w c first from since f.body ran.acted
+      by_kind : (kind : Kind) → IsBody (WasOffLine w from to) w.script.limit kind at f → AreTrue w c from since f.body ran.acted
       by_kind (kinds.Raw x callback) is = by_callback callback is
       by_kind (kinds.Posix on) is = by_trigger is
       by_kind (kinds.Fd on) is = by_trigger is
 
-  fire_true : (first : ℕ) → AreTrue w c first from before (fires base at f) to
-  fire_true first = (
+  fire_true : AreTrue w c from before (fires base at f) to
+  fire_true = (
     from,
     omega arith,
     moment_before,
-    true-append w c first from ran.acted to (with_claim base at f before) f.body (Entered f.timer f.finish (finish_of f) ∷ []) (body_true first)
+    true-append w c from ran.acted to (with_claim base at f before) f.body (Entered f.timer f.finish (finish_of f) ∷ []) body_true
         (ran.acted, omega arith, tt, ran.ends),
   )
 
@@ -326,19 +333,19 @@ module _ (w : Witness) (order : List SystemEntry) (context : Context) (base at :
     each_ran P low high one run.0 fs run.2 to run.4 (omega (arith, under, forward run.1)) over,
   )
 
-  run_true : (entries : entries_in w ≡ order) (c : Label) (first low high : ℕ) (all : List PlacedEntry) → AreMoments w c all low high
+  run_true : (c : Label) (low high : ℕ) (all : List PlacedEntry) → AreMoments w c all low high
       → (before : List Action) (from : ℕ) (fs : List Fired) (notes : List PlacedEntry) (to : ℕ) (early : List PlacedEntry)
       → HaveRun w order context base at from fs notes to → all ≡ early ++ notes → AreMade order low from early
-      → map receipt early ≡ all_entered before → low ≤ from → to ≤ high → AreTrue w c first from before (flat_map (fires base at) fs) to
-  run_true entries c first low high all moments before from [] notes to early run is one are under over = run.1
-  run_true entries c first low high all moments before from (f ∷ fs) notes to early run is one are under over =
+      → map receipt early ≡ all_entered before → low ≤ from → to ≤ high → AreTrue w c from before (flat_map (fires base at) fs) to
+  run_true c low high all moments before from [] notes to early run is one are under over = run.1
+  run_true c low high all moments before from (f ∷ fs) notes to early run is one are under over =
       let on = run_forward run.0 fs run.2 to run.4 in
       let rest = run_made run.0 fs run.2 to run.4 in
       let split : all ≡ early ++ (notes_of run.1 ++ run.2) = is ∙ ap (λ xs. early ++ xs) run.3 in
-      true-append w c first from run.0 to before (fires base at f) (flat_map (fires base at) fs)
-      (fire_true entries c before run.1 low high all early run.2 split one
-      (made_wider order run.0 run.0 to high run.2 (omega arith) over rest.0) are under (omega (arith, on, over)) moments first)
-      (run_true entries c first low high all moments (before ++ fires base at f) run.0 fs run.2 to (early ++ notes_of run.1) run.4
+      true-append w c from run.0 to before (fires base at f) (flat_map (fires base at) fs)
+      (fire_true c before run.1 low high all early run.2 split one
+      (made_wider order run.0 run.0 to high run.2 (omega arith) over rest.0) are under (omega (arith, on, over)) moments)
+      (run_true c low high all moments (before ++ fires base at f) run.0 fs run.2 to (early ++ notes_of run.1) run.4
       (split ∙ sym (append_assoc early (notes_of run.1) run.2))
       (made-append order low from run.0 early (notes_of run.1) one (made_of run.1) under (forward run.1))
       (map-append receipt early (notes_of run.1) ∙ ap (λ xs. xs ++ map receipt (notes_of run.1)) are ∙ ap (λ xs. all_entered before ++ xs) (notes_are run.1)
@@ -352,7 +359,7 @@ abbrev pub expiring : ℕ → ℕ → ℕ → ℕ → List Fired → Trace
 expiring base at first last fired = record { at = at; fired = fired; moved = []; actions = flat_map (fires base at) fired; first = first; last = last }
 
 module _ {w : Witness} {moves : Spans} {c : Label} {context : Context} {base budget at first last : ℕ} {notes : List PlacedEntry} {fired : List Fired}
-    {answer : Answer} {before after : Seen} (order : List SystemEntry) (entries : entries_in w ≡ order)
+    {answer : Answer} {before after : Seen} (order : List SystemEntry)
     (kept : IsKept w moves c (expiring base at first last fired) notes (calls.Expire context base budget) answer before after) (starts : first ≡ moves.first c)
     (run : HaveRun w order context base at first fired notes last) where
   expired : (IsExpiryRun (WasOffLine w first last) w.script context at base fired at (map (λ f. f.timer) fired) (flat_map (fires base at) fired)
@@ -372,25 +379,25 @@ module _ {w : Witness} {moves : Spans} {c : Label} {context : Context} {base bud
             (kind_of w.script f.timer) at f ran.kind) first fired notes last run (omega arith) (omega arith);
       }))
       (tt, tt)
-      (run_true w order context base at entries c first (moves.first c) last notes (moment_of kept) [] first fired notes last [] run refl
+      (run_true w order context base at c (moves.first c) last notes (moment_of kept) [] first fired notes last [] run refl
       (none_made order (moves.first c) first) refl (omega (arith, starts)) (omega arith))
       seen
 
 module _ {w : Witness} {moves : Spans} {c : Label} {context : Context} {base budget at first last : ℕ} {notes : List PlacedEntry} {fired : List Fired}
-    {before after : Seen} (order : List SystemEntry) (entries : entries_in w ≡ order) where
+    {before after : Seen} (order : List SystemEntry) where
   -- a run that left nothing to do
   pub expire_done : IsKept w moves c (expiring base at first last fired) notes (calls.Expire context base budget)
       (answers.Done at (map (λ f. f.timer) fired)) before after
       → first ≡ moves.first c → HaveRun w order context base at first fired notes last → length fired < budget → IsDone w context at base last
       → FitsCall w c (calls.Expire context base budget) (answers.Done at (map (λ f. f.timer) fired)) before after
-  expire_done kept starts ran few done = expired order entries kept starts ran (λ run. (run, few)) done
+  expire_done kept starts ran few done = expired order kept starts ran (λ run. (run, few)) done
 
   -- a run that ended with its budget
   pub expire_more : IsKept w moves c (expiring base at first last fired) notes (calls.Expire context base budget)
       (answers.More at (map (λ f. f.timer) fired)) before after
       → first ≡ moves.first c → HaveRun w order context base at first fired notes last → length fired ≡ budget
       → FitsCall w c (calls.Expire context base budget) (answers.More at (map (λ f. f.timer) fired)) before after
-  expire_more kept starts ran all = expired order entries kept starts ran (λ run. (run, all)) tt
+  expire_more kept starts ran all = expired order kept starts ran (λ run. (run, all)) tt
 
   -- a run that met a function that ran on its base
   pub expire_busy : {timer generation : ℕ} → IsKept w moves c (expiring base at first last fired) notes (calls.Expire context base budget)
@@ -398,4 +405,4 @@ module _ {w : Witness} {moves : Spans} {c : Label} {context : Context} {base bud
       → first ≡ moves.first c → HaveRun w order context base at first fired notes last → length fired < budget
       → running_on base (in_context context (timer_along w last) timer) ≡ Some generation
       → FitsCall w c (calls.Expire context base budget) (answers.Busy at (map (λ f. f.timer) fired) timer generation) before after
-  expire_busy kept starts ran few runs = expired order entries kept starts ran (λ run. (run, few)) runs
+  expire_busy kept starts ran few runs = expired order kept starts ran (λ run. (run, few)) runs

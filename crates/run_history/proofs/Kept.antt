@@ -110,7 +110,7 @@ module _ {w : Witness} {moves : Spans} {c : Label} {t : Trace} {notes : List Pla
   pub call_made : moves.first c ≤ t.first → t.first ≤ t.last → AllByRecursion (λ x. t.first ≤ x.place) notes
       → Does (WasOffLine w t.first t.last) w.script t.at call answer t.fired t.moved t.actions
       → AllKeepExpiries w.script w.run call t.moved × AllMoved (WasFront w t.first t.last) call t.moved
-      → AreTrue w c t.first t.first [] t.actions t.last → AnswerHolds w t.first t.last c t.at t.actions call answer
+      → AreTrue w c t.first [] t.actions t.last → AnswerHolds w t.first t.last c t.at t.actions call answer
       → FitsCall w c call answer before after
   call_made low high behind does moved truth holds =
       subst (λ x. FitsTrace w c x call answer before after) (sym kept.trace) (record {
@@ -136,6 +136,6 @@ module _ {w : Witness} {moves : Spans} {c : Label} {t : Trace} {notes : List Pla
   -- the same, where it begins with what its pass had seen
   pub call_made_whole : t.first ≡ moves.first c → Does (WasOffLine w t.first t.last) w.script t.at call answer t.fired t.moved t.actions
       → AllKeepExpiries w.script w.run call t.moved × AllMoved (WasFront w t.first t.last) call t.moved
-      → AreTrue w c t.first t.first [] t.actions t.last → AnswerHolds w t.first t.last c t.at t.actions call answer → FitsCall w c call answer before after
+      → AreTrue w c t.first [] t.actions t.last → AnswerHolds w t.first t.last c t.at t.actions call answer → FitsCall w c call answer before after
   call_made_whole starts = call_made (omega (arith, starts)) (omega (arith, starts, kept.forward))
       (subst (λ n. AllByRecursion (λ x. n ≤ x.place) notes) (sym starts) (inside_behind (moves.first c) t.last notes kept.inside))

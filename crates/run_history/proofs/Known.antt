@@ -21,11 +21,10 @@ use Rattle.run_history.specs.Receipts.{count, IsMade, PlacedEntry, receipt, Rise
 use Rattle.run_history.specs.Traces.{all_entered}
 use Rattle.run_history.specs.Promises.{GoesOn}
 use Rattle.run_history.specs.Runs.{Ending, IsJoined, witness_of}
-use Rattle.run_history.specs.Truths.{StoodBefore}
 use Rattle.script_text.specs.declared.script.Script.{Script}
-use Rattle.run_history.specs.Witnesses.{BasesList, CountersList, OfBase, OfRise, OfTimer, Owner, Shown, TimersList, Witness, entries_in, entry_of_shown, is_owner, owner_of, owner_of_entry}
+use Rattle.run_history.specs.Witnesses.{BasesList, OfBase, OfRise, OfTimer, Owner, Shown, TimersList, entries_in, entry_of_shown, is_owner, owner_of, owner_of_entry}
 use Rattle.run_history.proofs.Kept.{Stops}
-use Rattle.run_history.proofs.Laid.{counts_more, counts_rise}
+use Rattle.run_history.proofs.Laid.{counts_more}
 use Rattle.run_history.proofs.Promise.{seen_first}
 use Rattle.run_history.proofs.Lists.{at_left, at_seam}
 use Rattle.run_history.proofs.Owners.{and_one, bases_entry, count_cons, count_is, entries_at, entries_at-base, entries_at-timer, owner_is, timers_entry}
@@ -52,6 +51,21 @@ numbered_on k (s ∷ ss) = (k + 1, s) ∷ numbered_on (k + 1) ss
 -- the same of entries of a timer
 abbrev pub numbered : ℕ → ℕ → List Entry → List (ℕ × Shown)
 numbered t k es = numbered_on k (map (OfTimer t) es)
+
+-- ---- receipts by what they tell
+
+pub no_notes : (xs : List PlacedEntry) → map receipt xs ≡ [] → xs ≡ []
+no_notes [] is = refl
+no_notes (x ∷ xs) is = absurd (cc)
+
+pub first_note : (xs : List PlacedEntry) (e : ℕ × Shown) (es : List (ℕ × Shown)) → map receipt xs ≡ e ∷ es
+    → (x : PlacedEntry) × (rest : List PlacedEntry) × (xs ≡ x ∷ rest) × (receipt x ≡ e) × (map receipt rest ≡ es)
+first_note [] e es is = absurd (cc)
+first_note (x ∷ xs) e es is = (x, xs, refl, cc, cc)
+
+pub one_note : (xs : List PlacedEntry) (e : ℕ × Shown) → map receipt xs ≡ e ∷ [] → (x : PlacedEntry) × (xs ≡ x ∷ []) × (receipt x ≡ e)
+one_note xs e is =
+    let first = first_note xs e [] is in (first.0, first.2 ∙ ap (λ rest. first.0 ∷ rest) (no_notes first.1 first.4), first.3)
 
 -- ---- a call's entries
 
@@ -168,29 +182,28 @@ shift_made before more b event adds =
     ∙ ap (λ xs. xs ++ bases_entry b event ∷ []) (sym (entries_at-base b before)))
     refl (refl, tt)
 
--- the receipt of a rise of a counter that stands behind these
-abbrev pub rise_receipt : ℕ → List SystemEntry → PlacedEntry
-rise_receipt k before = record { place = length before; number = rises_of k before + 1; shown = OfRise k }
-
--- law: and of a rise of a counter, by its place
-pub rise_made : (k low : ℕ) (before rest : List SystemEntry) → low ≤ length before
-    → AreMade (before ++ entries.Rise k ∷ rest) low (length before + 1) (rise_receipt k before ∷ [])
-    × AreEntries (before ++ entries.Rise k ∷ rest) (rise_receipt k before ∷ []) (entries.Rise k ∷ [])
-rise_made k low before rest le =
-    let there = at_seam before rest (entries.Rise k) in (
+-- law: and of a rise of a counter, the last of what the pass has seen
+pub rise_made : (k n low : ℕ) (before seen : List SystemEntry) → seen ≡ before ++ entries.Rise k ∷ [] → rises_of k before ≡ n → low ≤ length before
+    → (x : PlacedEntry) × AreMade seen low (length seen) (x ∷ []) × (receipt x ≡ (n + 1, OfRise k)) × AreEntries seen (x ∷ []) (entries.Rise k ∷ [])
+rise_made k n low before seen is count le =
+    let there : slice_get seen (length before) ≡ Some (entries.Rise k) =
+    ap (λ xs. slice_get xs (length before)) is ∙ at_seam before [] (entries.Rise k) in (
+      record { place = length before; number = n + 1; shown = OfRise k },
       record {
         rise = (le, tt);
-        below = (omega arith, tt);
+        below = (slice_get_within seen (length before) (entries.Rise k) there, tt);
         made = (
           record {
             step = entries.Rise k;
             there = there;
             owner = refl;
-            number = ap (λ xs. rises_of k xs + 1) (take-append_seam before (entries.Rise k ∷ rest));
+            number = ap (λ xs. rises_of k (take (length before) xs) + 1) is
+                ∙ ap (λ xs. rises_of k xs + 1) (take-append_seam before (entries.Rise k ∷ [])) ∙ ap (λ m. m + 1) count;
           },
           tt,
         );
       },
+      refl,
       (there, tt),
     )
 
@@ -201,27 +214,6 @@ pub rises_along : {s : Script} {e : Ending} (k : ℕ) (seen : List SystemEntry) 
     → rises_of k (take (length seen) (entries_in (witness_of s e))) ≡ rises_of k seen
 rises_along k seen joined on =
     ap (λ es. rises_of k (take (length seen) es)) (seen_first seen joined on) ∙ ap (rises_of k) (take-append_seam seen on.0)
-
--- law: just those before it stand before an object's entry
-pub made_stood : (w : Witness) (order : List SystemEntry) (i number : ℕ) (x : PlacedEntry) → entries_in w ≡ order → IsMade order x
-    → receipt x ≡ (number, OfRise (suc i)) → StoodBefore w i number x.place
-made_stood w order i number x entries made is =
-    let counted : rises_of (suc i) (take x.place order) + 1 ≡ x.number =
-    subst (λ shown. count (owner_of shown) (take x.place order) + 1 ≡ x.number) (ap (λ (r : ℕ × Shown). r.1) is) made.number in
-    ap (λ es. rises_of (suc i) (take x.place es) + 1) entries ∙ counted ∙ ap (λ (r : ℕ × Shown). r.0) is
-
--- law: an object that had just these entries at two moments had them at each one between
-pub stood_between : (w : Witness) (i number low n high : ℕ) → low ≤ n → n ≤ high → StoodBefore w i number low → StoodBefore w i number high
-    → StoodBefore w i number n
-stood_between w i number low n high le more one two =
-    let up : rises_of (suc i) (take low (entries_in w)) ≤ rises_of (suc i) (take n (entries_in w)) =
-    counts_rise (CountersList (suc i)) low n (entries_in w) le in
-    let on : rises_of (suc i) (take n (entries_in w)) ≤ rises_of (suc i) (take high (entries_in w)) =
-    counts_rise (CountersList (suc i)) n high (entries_in w) more in
-    between one two up on
-  where
-    between : {a b c : ℕ} → a + 1 ≡ number → c + 1 ≡ number → a ≤ b → b ≤ c → b + 1 ≡ number
-    between one two up on = omega (arith, one, two, up, on)
 
 -- ---- the order goes on
 

@@ -51,21 +51,6 @@ counts_more (y ∷ xs) (suc p) (suc q) o x at is less =
       | false ↦ rest
     ]))
 
--- and before a later place stand no fewer of a list than before an earlier one
-pub counts_rise : (o : Owner) (m n : ℕ) (xs : List SystemEntry) → m ≤ n → count o (take m xs) ≤ count o (take n xs)
-counts_rise o zero n [] le = subst (λ k. k ≤ count o (take n [])) (sym (count_none o)) (omega arith)
-counts_rise o zero n (x ∷ xs) le = subst (λ k. k ≤ count o (take n (x ∷ xs))) (sym (count_none o)) (omega arith)
-counts_rise o (suc m) zero xs le = absurd (omega (arith, le))
-counts_rise o (suc m) (suc n) [] le = omega arith
-counts_rise o (suc m) (suc n) (x ∷ xs) le =
-    let rest = counts_rise o m n xs (omega (arith, le)) in
-    subst (λ k. k ≤ count o (x ∷ take n xs)) (sym (count_cons o x (take m xs)))
-    (subst (λ k. and_one (is_owner (owner_of_entry x) o) (count o (take m xs)) ≤ k) (sym (count_cons o x (take n xs)))
-    (elim (is_owner (owner_of_entry x) o) as (λ b. and_one b (count o (take m xs)) ≤ and_one b (count o (take n xs))) [
-      | true ↦ omega (arith, rest)
-      | false ↦ rest
-    ]))
-
 pub same_place : (xs : List SystemEntry) (p q : ℕ) (o : Owner) (x y : SystemEntry) → slice_get xs p ≡ Some x → slice_get xs q ≡ Some y
     → owner_of_entry x ≡ o → owner_of_entry y ≡ o → count o (take p xs) ≡ count o (take q xs) → p ≡ q
 same_place xs p q o x y at_p at_q is_x is_y same =

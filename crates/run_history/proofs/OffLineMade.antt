@@ -45,7 +45,7 @@ pub offline_made : {w : Witness} {moves : Spans} {c : Label} {at first last : �
     → FitsCall w c (calls.Offline base heir budget) answer before after
 offline_made {w = w} {c = c} {at = at} {first = first} {last = last} base heir budget moved answer kept starts does keeps holds =
     call_made_whole kept starts does keeps
-    (plain_true w c first first last [] (flat_map (evacuates heir at) moved ++ shift_by base heir answer)
+    (plain_true w c first last [] (flat_map (evacuates heir at) moved ++ shift_by base heir answer)
     (plain_evacuations heir at moved (shift_by base heir answer) (plain_shift answer)) (omega (arith, starts, kept.forward))) holds
   where
     plain_shift : (answer : Answer) → AllByRecursion IsPlain (shift_by base heir answer)

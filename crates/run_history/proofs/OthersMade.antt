@@ -1,5 +1,5 @@
 -- Calls on timers but for expiry runs: those that make no entry, the cancel, the write of the clock and the start.
-use Rattle.std.proofs.Common.{map, ◌≡◌, ◌≤◌, ℕ, List, [], ◌∷◌, arith, refl}
+use Rattle.std.proofs.Common.{◌≡◌, ◌≤◌, ℕ, List, [], ◌∷◌, arith, refl, sym, subst}
 use Rattle.std.specs.List.{AllByRecursion}
 use Rattle.clock_model.specs.declared.write.Write.{Write}
 use Rattle.record_text.specs.declared.record.Answer.TheVariants as answers
@@ -15,10 +15,11 @@ use Rattle.script_text.specs.declared.script.Call.{Call}
 use Rattle.run_history.specs.Calls.{AllMoved, Does}
 use Rattle.run_history.specs.Witnesses.{Evacuation, Witness, Trace}
 use Rattle.run_history.specs.Fits.{FitsCall, Seen}
-use Rattle.run_history.specs.Receipts.{PlacedEntry, receipt}
+use Rattle.run_history.specs.Receipts.{PlacedEntry}
 use Rattle.run_history.specs.Rounds.{Spans}
 use Rattle.run_history.specs.Truths.{AreTrue, AnswerHolds, WasOffLine}
 use Rattle.run_history.proofs.Kept.{call_made, call_made_whole, IsKept}
+use Rattle.run_history.proofs.Known.{no_notes}
 use Rattle.run_history.proofs.Plain.{plain_arms, plain_true}
 
 -- what a call did that ran no callbacks
@@ -46,12 +47,9 @@ pub quiet_made : {w : Witness} {moves : Spans} {c : Label} {at last : ℕ} {note
     → IsKept w moves c (plain at last last []) notes call answer before after
     → Does (WasOffLine w last last) w.script at call answer [] [] [] → AnswerHolds w last last c at [] call answer → FitsCall w c call answer before after
 quiet_made {w = w} {last = last} {notes = notes} {call = call} kept does seen =
-    call_made kept kept.forward (omega arith) (none_of notes kept.entered) does
+    call_made kept kept.forward (omega arith)
+    (subst (AllByRecursion (λ x. last ≤ x.place)) (sym (no_notes notes kept.entered)) tt) does
     (none_moved _ call, none_moved _ call) (omega arith) seen
-  where
-    none_of : (xs : List PlacedEntry) → map receipt xs ≡ [] → AllByRecursion (λ x. last ≤ x.place) xs
-    none_of [] none = tt
-    none_of (x ∷ xs) none = absurd (cc)
 
 -- a cancel that cancelled
 pub cancelled_made : {w : Witness} {moves : Spans} {c : Label} {at first last : ℕ} {notes : List PlacedEntry} {before after : Seen}
@@ -71,10 +69,10 @@ wrote_made {first = first} stamp write kept low high behind =
     call_made kept low high behind refl (tt, tt) (first, omega arith, tt, high) tt
 
 -- a start's entries tell nothing that must be looked up
-pub start_true : (w : Witness) (c : Label) (first from to timer reading : ℕ) (request : StartRequest) (before : List Action) (a : Arming) → from ≤ to
-    → AreTrue w c first from before (arming_actions timer request reading a) to
-start_true w c first from to timer reading request before a order =
-    plain_true w c first from to before (arming_actions timer request reading a) (plain_arms timer reading request a) order
+pub start_true : (w : Witness) (c : Label) (from to timer reading : ℕ) (request : StartRequest) (before : List Action) (a : Arming) → from ≤ to
+    → AreTrue w c from before (arming_actions timer request reading a) to
+start_true w c from to timer reading request before a order =
+    plain_true w c from to before (arming_actions timer request reading a) (plain_arms timer reading request a) order
 
 -- a start that was made
 pub started_made : {w : Witness} {moves : Spans} {c : Label} {at first last : ℕ} {notes : List PlacedEntry} {before after : Seen} (timer : ℕ)
@@ -86,4 +84,4 @@ pub started_made : {w : Witness} {moves : Spans} {c : Label} {at first last : �
     → FitsCall w c (calls.Start timer request) (answers.Started a.number a.placement.base (was_armed_before a.outs a.was_armed)) before after
 started_made {w = w} {c = c} {at = at} {first = first} {last = last} timer request a kept starts arms =
     call_made_whole kept starts (a, refl, refl, refl, refl, arms) (tt, tt)
-    (start_true w c first first last timer at request [] a (omega (arith, starts, kept.forward))) tt
+    (start_true w c first last timer at request [] a (omega (arith, starts, kept.forward))) tt

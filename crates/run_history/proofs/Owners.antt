@@ -17,7 +17,7 @@ use Rattle.run_history.specs.Actions.{also}
 use Rattle.run_history.specs.Histories.{lines_of_base, lines_of_timer}
 use Rattle.run_history.specs.Objects.{lines_of_object}
 use Rattle.run_history.specs.Receipts.{count, no_line}
-use Rattle.run_history.specs.Witnesses.{BasesList, CountersList, Owner, TimersList, is_owner, line_of_base, line_of_object, line_of_timer, line_of_write, lines_at, owner_of, owner_of_entry}
+use Rattle.run_history.specs.Witnesses.{BasesList, CountersList, Owner, TimersList, is_owner, line_of_base, line_of_object, line_of_timer, line_of_write, lines_at, owner_of, owner_of_entry, twice}
 
 pub owner_itself : (o : Owner) → is_owner o o ≡ true
 owner_itself (TimersList t) = eq-eqb t t refl
@@ -64,10 +64,11 @@ owner_at r (CountersList zero) n = of_writes r.clock n
 owner_at r (CountersList (suc i)) n = of_objects (lines_of_object r i) n
   where
     of_objects : (lines : List ObjectLine) (n : ℕ)
-        → owner_of (get_or (map (line_of_object i) lines) n (no_line (CountersList (suc i)))).shown ≡ CountersList (suc i)
+        → owner_of (get_or (twice (map (line_of_object i) lines)) n (no_line (CountersList (suc i)))).shown ≡ CountersList (suc i)
     of_objects [] n = refl
     of_objects (line ∷ lines) zero = refl
-    of_objects (line ∷ lines) (suc n) = of_objects lines n
+    of_objects (line ∷ lines) (suc zero) = refl
+    of_objects (line ∷ lines) (suc (suc n)) = of_objects lines n
 
 -- ---- the entries of a list
 

@@ -61,7 +61,7 @@ module _ (Fewer More : ℕ → ℕ → Type 0) (to : (base heir : ℕ) → Fewer
     cancel = makes.cancel;
     arm = makes.arm;
     start = makes.start;
-    number = makes.number;
+    stamp = makes.stamp;
     arms = arms_wider _ _ _ _ _ _ makes.arm makes.start makes.arms;
     done = makes.done;
   }
@@ -72,7 +72,7 @@ module _ (Fewer More : ℕ → ℕ → Type 0) (to : (base heir : ℕ) → Fewer
     arm = makes.arm;
     ns = makes.ns;
     start = makes.start;
-    number = makes.number;
+    stamp = makes.stamp;
     timely = makes.timely;
     arms = arms_wider _ _ _ _ _ _ makes.arm makes.start makes.arms;
     done = makes.done;

@@ -14,11 +14,13 @@ use Rattle.seq_timer.specs.declared.standing.BaseEvent.{BaseEvent}
 use Rattle.run_history.specs.Order.{is_label}
 
 -- one thing that a call did, with its number in its list: a write of the clock; an entry of a timer, or a look that holds after that
--- entry; an entry of an object, or an expiry of a generation that the object refused after that entry, its history being full; an entry of a base
+-- entry; the beginning of its turn of an object, behind so many entries of it; an entry of an object, or an expiry of a generation that the object refused
+-- after that entry, its history being full; an entry of a base
 pub data Action : Type 0 where
   Wrote : ℕ → Write → Action
   Entered : ℕ → ℕ → Entry → Action
   Looked : ℕ → ℕ → CallbackReply → Action
+  Began : ℕ → ℕ → Action
   Made : ℕ → ℕ → ObjectEntry → Action
   Skipped : ℕ → ℕ → ℕ → Action
   Shifted : ℕ → ℕ → BaseEvent → Action
@@ -34,6 +36,7 @@ wrote [] = []
 wrote (Wrote number write ∷ ds) = (number, write) ∷ wrote ds
 wrote (Entered timer number entry ∷ ds) = wrote ds
 wrote (Looked timer number reply ∷ ds) = wrote ds
+wrote (Began i stamp ∷ ds) = wrote ds
 wrote (Made i number entry ∷ ds) = wrote ds
 wrote (Skipped i number generation ∷ ds) = wrote ds
 wrote (Shifted base number event ∷ ds) = wrote ds
@@ -44,6 +47,7 @@ entered t [] = []
 entered t (Wrote number write ∷ ds) = entered t ds
 entered t (Entered timer number entry ∷ ds) = also (nat_eq timer t) (number, entry) (entered t ds)
 entered t (Looked timer number reply ∷ ds) = entered t ds
+entered t (Began i stamp ∷ ds) = entered t ds
 entered t (Made i number entry ∷ ds) = entered t ds
 entered t (Skipped i number generation ∷ ds) = entered t ds
 entered t (Shifted base number event ∷ ds) = entered t ds
@@ -54,6 +58,7 @@ made t [] = []
 made t (Wrote number write ∷ ds) = made t ds
 made t (Entered timer number entry ∷ ds) = made t ds
 made t (Looked timer number reply ∷ ds) = made t ds
+made t (Began i stamp ∷ ds) = made t ds
 made t (Made i number entry ∷ ds) = also (nat_eq i t) (number, entry) (made t ds)
 made t (Skipped i number generation ∷ ds) = made t ds
 made t (Shifted base number event ∷ ds) = made t ds
@@ -64,6 +69,7 @@ looked t [] = []
 looked t (Wrote number write ∷ ds) = looked t ds
 looked t (Entered timer number entry ∷ ds) = looked t ds
 looked t (Looked timer number reply ∷ ds) = also (nat_eq timer t) (number, reply) (looked t ds)
+looked t (Began i stamp ∷ ds) = looked t ds
 looked t (Made i number entry ∷ ds) = looked t ds
 looked t (Skipped i number generation ∷ ds) = looked t ds
 looked t (Shifted base number event ∷ ds) = looked t ds
@@ -74,6 +80,7 @@ skipped t [] = []
 skipped t (Wrote number write ∷ ds) = skipped t ds
 skipped t (Entered timer number entry ∷ ds) = skipped t ds
 skipped t (Looked timer number reply ∷ ds) = skipped t ds
+skipped t (Began i stamp ∷ ds) = skipped t ds
 skipped t (Made i number entry ∷ ds) = skipped t ds
 skipped t (Skipped i number generation ∷ ds) = also (nat_eq i t) (number, generation) (skipped t ds)
 skipped t (Shifted base number event ∷ ds) = skipped t ds

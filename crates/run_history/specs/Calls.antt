@@ -25,7 +25,7 @@ use Rattle.script_text.specs.Declarations.{declared_of, without_slack, kind_of}
 use Rattle.run_history.specs.Histories.{timer_after}
 use Rattle.run_history.specs.Starts.{Arming, IsArming, arming_actions, was_armed_before}
 use Rattle.run_history.specs.ObjectCalls.{DoesSettime, DoesGettime, DoesAccept, DoesRead}
-use Rattle.run_history.specs.Actions.{Action, Wrote, Entered, Looked, Made, Shifted, Skipped}
+use Rattle.run_history.specs.Actions.{Action, Began, Wrote, Entered, Looked, Made, Shifted, Skipped}
 use Rattle.run_history.specs.Witnesses.{Evacuation, Fired}
 
 -- all that an expiry run did for one callback
@@ -34,11 +34,12 @@ fires base reading f =
     Entered f.timer f.claim (record { event = events.Claim base reading; reply = replies.Claim f.generation })
     ∷ f.body ++ Entered f.timer f.finish (record { event = events.Finish f.restart; reply = replies.Finish f.generation f.restarted }) ∷ []
 
--- what a claim of an object's timer does: an entry of the object that tells the expiry, or none where its history is full; it
--- never asks for a restart
+-- what a claim of an object's timer does: a turn of the object with an entry that tells the expiry, or none where its history is full; it never asks for a
+-- restart
 abbrev pub IsTrigger : ℕ → Fired → Type 0
 IsTrigger reading f =
-    (((number : ℕ) × (counted : Bool) × (f.body ≡ Made f.timer number (object_entries.Trigger f.generation reading counted) ∷ []))
+    (((stamp : ℕ) × (counted : Bool)
+    × (f.body ≡ Began f.timer stamp ∷ Made f.timer (stamp + 1) (object_entries.Trigger f.generation reading counted) ∷ []))
     ⊎ ((number : ℕ) × (f.body ≡ Skipped f.timer number f.generation ∷ [])))
     × (f.restart ≡ false)
 

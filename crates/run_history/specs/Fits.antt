@@ -41,7 +41,7 @@ pub record FitsTrace (w : Witness) (c : Label) (t : Trace) (call : Call) (answer
   -- its first moment, at which it had made no entry, and its last, at which it had made them all
   pub begins : IsMoment w c [] t.first
   pub ends : IsMoment w c t.actions t.last
-  pub truth : AreTrue w c t.first t.first [] t.actions t.last
+  pub truth : AreTrue w c t.first [] t.actions t.last
   pub holds : AnswerHolds w t.first t.last c t.at t.actions call answer
   pub clock_steps : NeverFall before.clock (t.at ∷ map (λ x. x.0) (wrote t.actions)) after.clock
   pub move_steps : (before.moves ≤ t.first) × (t.last ≤ after.moves)

@@ -1,5 +1,5 @@
 -- What the calls on objects may do and answer: which arguments they take, how they arm the object's timer, and the entry that they make.
-use Rattle.std.specs.Prelude.{ℕ, ◌≡◌, ◌<◌, ◌≤◌, Option, Some, None, List, [], ◌∷◌, ◌++◌}
+use Rattle.std.specs.Prelude.{ℕ, ◌≡◌, ◌+◌, ◌<◌, ◌≤◌, Option, Some, None, List, [], ◌∷◌, ◌++◌}
 use Rattle.ktime.specs.declared.mode.Mode.{Mode}
 use Rattle.ktime.specs.declared.mode.Mode.TheVariants as modes
 use Rattle.ktime.specs.declared.timespec.TimeSpec.{TimeSpec}
@@ -22,7 +22,7 @@ use Rattle.timer_fd.specs.States.{AreFdArguments}
 use Rattle.timer_fd.specs.Steps.{count_length}
 use Rattle.script_text.specs.declared.script.Kind.{Kind}
 use Rattle.script_text.specs.declared.script.Kind.TheVariants as kinds
-use Rattle.run_history.specs.Actions.{Action, Entered, Made}
+use Rattle.run_history.specs.Actions.{Action, Began, Entered, Made}
 use Rattle.run_history.specs.Starts.{Arming, IsArming, arming_actions}
 use Rattle.script_text.specs.Declarations.{base_of, without_slack}
 
@@ -56,29 +56,29 @@ module _ (Reached : ℕ → ℕ → Type 0) (limit : ℕ) where
       (a : Arming) × (actions ≡ arming_actions timer (without_slack mode ns base) reading a) × (generation ≡ a.number) × IsArming Reached limit base a
   Arms timer mode ns reading base armings.Unarmed actions = actions ≡ []
 
-  -- a settime that made an entry: a cancel and a start, where there are any, and the entry of the object, with the call's own arguments
+  -- a settime that made an entry: in its turn of the object a cancel and a start, where there are any, and the entry of the object, with the call's own arguments
   pub record MakesSettime (kind : Kind) (timer flags : ℕ) (value interval : TimeSpec) (reading : ℕ) (reply : SettimeReply)
       (actions : List Action) : Type 0 where
     pub taken : AreValidFor kind flags value interval
     pub cancel : Option (ℕ × ℕ)
     pub arm : Armed
     pub start : List Action
-    pub number : ℕ
+    pub stamp : ℕ
     pub arms : Arms timer (start_mode kind flags) (nanoseconds_of value) reading (base_of kind) arm start
-    pub done : actions ≡ cancels timer cancel ++ start
-        ++ Made timer number (made_entries.Settime flags (nanoseconds_of value) (nanoseconds_of interval) reading arm reply) ∷ []
+    pub done : actions ≡ Began timer stamp ∷ cancels timer cancel ++ start
+        ++ Made timer (stamp + 1) (made_entries.Settime flags (nanoseconds_of value) (nanoseconds_of interval) reading arm reply) ∷ []
 
-  -- a call that looks how a timer's periods have passed, and arms it for its next expiry where it has expired: a start that keeps
+  -- a call that looks how a timer's periods have passed, and arms it for its next expiry where it has expired: in its turn of the object a start that keeps
   -- the timer's clock, and the entry of the object
   pub record MakesRearming (kind : Kind) (timer reading : ℕ) (entry : Armed → ObjectEntry) (actions : List Action) : Type 0 where
     pub arm : Armed
     pub ns : ℕ
     pub start : List Action
-    pub number : ℕ
+    pub stamp : ℕ
     -- the start shows this very time as its expiry, since it isn't past the end of time
     pub timely : ns ≤ last_time
     pub arms : Arms timer modes.Keep ns reading (base_of kind) arm start
-    pub done : actions ≡ start ++ Made timer number (entry arm) ∷ []
+    pub done : actions ≡ Began timer stamp ∷ start ++ Made timer (stamp + 1) (entry arm) ∷ []
 
   -- a settime
   abbrev pub DoesSettime : Kind → ℕ → ℕ → TimeSpec → TimeSpec → ℕ → Answer → List Action → Type 0

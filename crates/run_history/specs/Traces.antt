@@ -3,18 +3,20 @@ use Rattle.std.specs.Prelude.{ℕ, suc, ◌≡◌, ◌+◌, List, [], ◌∷◌}
 use Rattle.std.specs.List.Sorted.{IsPermutation}
 use Rattle.record_text.specs.declared.record.Label.{Label}
 use Rattle.run_history.specs.Witnesses.{Witness, Move, OfBase, OfRise, OfTimer, Shown}
-use Rattle.run_history.specs.Actions.{Action, Entered, Looked, Made, Shifted, Skipped, Wrote, also, looked, made, own, own_looks, own_skips, skipped, wrote}
+use Rattle.run_history.specs.Actions.{Action, Began, Entered, Looked, Made, Shifted, Skipped, Wrote, also, looked, made, own, own_looks, own_skips, skipped, wrote}
 use Rattle.run_history.specs.Histories.{lines_of_timer}
 use Rattle.run_history.specs.Objects.{lines_of_object}
 use Rattle.run_history.specs.Order.{is_label}
 
--- the entries of timers, bases and objects among these, and the writes of the clock, each with its number in its list
+-- the entries of timers, bases and objects among these, the beginnings of turns, and the writes of the clock, each with its number in its list. An object's
+-- list has two moves for each of its entries: where the call's turn began, and where it made the entry.
 abbrev pub all_entered : List Action → List (ℕ × Shown)
 all_entered [] = []
 all_entered (Wrote number write ∷ ds) = (number, OfRise 0) ∷ all_entered ds
 all_entered (Entered timer number entry ∷ ds) = (number, OfTimer timer entry) ∷ all_entered ds
 all_entered (Looked timer number reply ∷ ds) = all_entered ds
-all_entered (Made i number entry ∷ ds) = (number, OfRise (suc i)) ∷ all_entered ds
+all_entered (Began i stamp ∷ ds) = (stamp + stamp + 1, OfRise (suc i)) ∷ all_entered ds
+all_entered (Made i number entry ∷ ds) = (number + number, OfRise (suc i)) ∷ all_entered ds
 all_entered (Skipped i number generation ∷ ds) = all_entered ds
 all_entered (Shifted base number event ∷ ds) = (number, OfBase base event) ∷ all_entered ds
 

@@ -21,7 +21,7 @@ use Rattle.script_text.specs.Declarations.{base_of, kind_of, terms_of}
 use Rattle.run_history.specs.Order.{IsPoint}
 use Rattle.run_history.specs.Histories.{reading_at}
 use Rattle.run_history.specs.Objects.{object_armed_after, fd_after, posix_after}
-use Rattle.run_history.specs.Actions.{Action, Entered, Looked, Made, Shifted, Skipped, Wrote}
+use Rattle.run_history.specs.Actions.{Action, Began, Entered, Looked, Made, Shifted, Skipped, Wrote}
 use Rattle.run_history.specs.Told.{IsBelowLimit, IsOutOfRange, IsArmedLike, observed}
 use Rattle.ktime.specs.declared.clock_id.ClockId.{ClockId}
 use Rattle.seq_timer.specs.Contents.{front_of}
@@ -32,7 +32,7 @@ use Rattle.seq_timer.specs.Systems.{next_on}
 use Rattle.seq_timer.specs.Standings.{last_standing}
 use Rattle.seq_timer.specs.Tables.{IsStopped, IsUnused, in_context, is_armed_on, runs_on}
 use Rattle.run_history.specs.Traces.{all_entered}
-use Rattle.run_history.specs.Witnesses.{Witness, labels, object_along, standing_along, system_along, timer_along}
+use Rattle.run_history.specs.Witnesses.{Witness, labels, standing_along, system_along, timer_along, turns_along}
 use Rattle.run_history.specs.Witnesses.{Evacuation}
 
 -- a number of moves of the order is one at which the call has done so much, and that it may have seen
@@ -89,17 +89,13 @@ pub record RefusedBefore (w : Witness) (c : Label) (first last : ℕ) (actions :
   pub point : IsMoment w c early moment
   pub refused : SawRefusal w timer stamp moment
 
--- at this moment the object had so many entries
+-- at this moment the object had so many entries, and no call had its turn
 abbrev pub HadEntries : Witness → ℕ → ℕ → ℕ → Type 0
-HadEntries w i stamp n = object_along w n i ≡ stamp
+HadEntries w i stamp n = turns_along w n i ≡ stamp + stamp
 
 -- at this moment the object's history was full, with so many entries
 abbrev pub SawFull : Witness → ℕ → ℕ → ℕ → Type 0
 SawFull w i stamp n = HadEntries w i stamp n × (w.script.limit ≤ stamp)
-
--- at this moment the object had just the entries before the one of this number
-abbrev pub StoodBefore : Witness → ℕ → ℕ → ℕ → Type 0
-StoodBefore w i number n = object_along w n i + 1 ≡ number
 
 -- Nothing is asked here: nothing is told but what a call did, or what it was asked. Of that `Does` and the moves' history speak.
 abbrev pub NothingTold : Type 0
@@ -115,10 +111,16 @@ abbrev pub ButOfCancel : EventBy ℕ → Type 0 → Type 0
 ButOfCancel events.Cancel P = Unit
 ButOfCancel event P = P
 
--- a settime disarmed its timer first: it cancelled it, or it was idle at the call's first moment, before which the call had made no entry
-abbrev pub DisarmedFirst : Witness → ℕ → List Action → ℕ → Type 0
-DisarmedFirst w timer (Entered t number entry ∷ actions) first = ButOfCancel entry.event (Holds (timer_along w first timer) observations.Idle)
-DisarmedFirst w timer actions first = Holds (timer_along w first timer) observations.Idle
+-- between these two moments there was one at which the call had only begun its turn, and the timer was idle
+abbrev pub WasIdle : Witness → Label → ℕ → ℕ → ℕ → List Action → Type 0
+WasIdle w c first last timer begun = (n : ℕ) × (first ≤ n) × (n ≤ last) × IsMoment w c begun n × Holds (timer_along w n timer) observations.Idle
+
+-- a settime disarmed its timer first: when it had begun its turn it cancelled it, or the timer was idle
+abbrev pub DisarmedFirst : Witness → Label → ℕ → ℕ → ℕ → List Action → Type 0
+DisarmedFirst w c first last timer (Began i stamp ∷ Entered t number entry ∷ actions) =
+    ButOfCancel entry.event (WasIdle w c first last timer (Began i stamp ∷ []))
+DisarmedFirst w c first last timer (Began i stamp ∷ actions) = WasIdle w c first last timer (Began i stamp ∷ [])
+DisarmedFirst w c first last timer actions = ⊥
 
 -- what an entry of an object tells of its timer's start is true
 abbrev pub IsTrueStart : Witness → ℕ → ℕ → Bool → Armed → ℕ → Type 0
@@ -136,34 +138,20 @@ IsTrueEntry w i number (object_entries.Accept reading arm reply) n = IsTrueStart
 IsTrueEntry w i number (object_entries.Read reading arm reply) n = IsTrueStart w i number false arm n
 IsTrueEntry w i number (object_entries.Gettime reading arm left interval) n = IsTrueStart w i number false arm n
 
--- For any entry but a trigger, the object has just the entries before it from the call's first moment on; for a trigger that is asked only at a moment
--- behind the claim.
-abbrev pub HadFromFirst : Witness → ℕ → ℕ → ℕ → ObjectEntry → Type 0
-HadFromFirst w first i number (object_entries.Trigger generation reading counted) = Unit
-HadFromFirst w first i number (object_entries.Settime flags value interval reading arm reply) = StoodBefore w i number first
-HadFromFirst w first i number (object_entries.Accept reading arm reply) = StoodBefore w i number first
-HadFromFirst w first i number (object_entries.Read reading arm reply) = StoodBefore w i number first
-HadFromFirst w first i number (object_entries.Gettime reading arm left interval) = StoodBefore w i number first
-
--- an entry of an object was made while its call had the object, and what it tells of its timer's start is true
-pub record MadeInTurn (w : Witness) (first i number : ℕ) (entry : ObjectEntry) (n : ℕ) : Type 0 where
-  pub true_start : IsTrueEntry w i number entry n
-  pub had : HadFromFirst w first i number entry
-  pub stood : StoodBefore w i number n
-
 -- what a thing that a call did tells of a timer or an object is true, at a moment after what the call did before it
-abbrev pub IsTrue : Witness → Label → ℕ → List Action → Action → ℕ → Type 0
-IsTrue w c first before (Entered timer number entry) n = OfClaim entry.event (IsMoment w c before n)
-IsTrue w c first before (Looked timer number look) n = IsMoment w c before n × Saw w timer number (observed look) n × IsBelowLimit w.script.limit number look
-IsTrue w c first before (Made i number entry) n = IsMoment w c before n × MadeInTurn w first i number entry n
-IsTrue w c first before (Skipped i number generation) n = IsMoment w c before n × SawFull w i number n
-IsTrue w c first before (Shifted base number event) n = NothingTold
-IsTrue w c first before (Wrote number write) n = NothingTold
+abbrev pub IsTrue : Witness → Label → List Action → Action → ℕ → Type 0
+IsTrue w c before (Entered timer number entry) n = OfClaim entry.event (IsMoment w c before n)
+IsTrue w c before (Looked timer number look) n = IsMoment w c before n × Saw w timer number (observed look) n × IsBelowLimit w.script.limit number look
+IsTrue w c before (Began i stamp) n = NothingTold
+IsTrue w c before (Made i number entry) n = IsMoment w c before n × IsTrueEntry w i number entry n
+IsTrue w c before (Skipped i number generation) n = IsMoment w c before n × SawFull w i number n
+IsTrue w c before (Shifted base number event) n = NothingTold
+IsTrue w c before (Wrote number write) n = NothingTold
 
 -- each thing that a call did tells the truth, at moments that never go back, from one moment to another
-abbrev pub AreTrue : Witness → Label → ℕ → ℕ → List Action → List Action → ℕ → Type 0
-AreTrue w c first from before [] last = from ≤ last
-AreTrue w c first from before (d ∷ ds) last = (n : ℕ) × (from ≤ n) × IsTrue w c first before d n × AreTrue w c first n (before ++ d ∷ []) ds last
+abbrev pub AreTrue : Witness → Label → ℕ → List Action → List Action → ℕ → Type 0
+AreTrue w c from before [] last = from ≤ last
+AreTrue w c from before (d ∷ ds) last = (n : ℕ) × (from ≤ n) × IsTrue w c before d n × AreTrue w c n (before ++ d ∷ []) ds last
 
 -- no function of a context ran on the base, no timer of that context was next to expire there, and the base was stopped for each clock
 pub record IsDone (w : Witness) (context : Context) (reading base n : ℕ) : Type 0 where
@@ -189,7 +177,7 @@ pub record MayGo (w : Witness) (base heir n : ℕ) : Type 0 where
   pub room : (standing_along w n base).stamp < last_standing
 
 -- An answer that tells of a state of timers, bases or objects tells of that of the call's last moment, but that a base might go off line held at its first.
--- A settime that cancelled nothing found an idle timer at its first moment; one whose start was refused tells of the moment before its object's entry. A
+-- A settime that cancelled nothing found an idle timer when it had begun its turn; one whose start was refused tells of the moment before its object's entry. A
 -- write is refused only while the clock may take more of them, and where one of its times would be past the latest; the answer is the greatest of these.
 abbrev pub AnswerHolds : Witness → ℕ → ℕ → Label → ℕ → List Action → Call → Answer → Type 0
 AnswerHolds w first last c reading actions (calls.Start timer request) (answers.Spent stamp) = SawRefusal w timer stamp last
@@ -203,10 +191,10 @@ AnswerHolds w first last c reading actions (calls.Expire context base budget) (a
 AnswerHolds w first last c reading actions (calls.Clock write) (answers.Range would_be) =
     IsOutOfRange reading would_be (greatest (after_write (reading_at w.run.clock reading) write))
 AnswerHolds w first last c reading actions (calls.Settime timer flags value interval) (answers.Spent stamp) = SawFull w timer stamp last
-AnswerHolds w first last c reading actions (calls.Settime timer flags value interval) (answers.Old left old) = DisarmedFirst w timer actions first
-AnswerHolds w first last c reading actions (calls.Settime timer flags value interval) answers.Canceled = DisarmedFirst w timer actions first
+AnswerHolds w first last c reading actions (calls.Settime timer flags value interval) (answers.Old left old) = DisarmedFirst w c first last timer actions
+AnswerHolds w first last c reading actions (calls.Settime timer flags value interval) answers.Canceled = DisarmedFirst w c first last timer actions
 AnswerHolds w first last c reading actions (calls.Settime timer flags value interval) (answers.Unarmed stamp) =
-    DisarmedFirst w timer actions first × RefusedBefore w c first last actions timer stamp
+    DisarmedFirst w c first last timer actions × RefusedBefore w c first last actions timer stamp
 AnswerHolds w first last c reading actions (calls.Gettime timer) (answers.Spent stamp) = SawFull w timer stamp last
 AnswerHolds w first last c reading actions (calls.Gettime timer) (answers.LeftAt left interval shown stamp) =
     HadEntries w timer stamp last

@@ -1,4 +1,5 @@
--- One order of all entries of a record's timers, bases and objects and of the clock's writes, and all timers and bases after each number of them.
+-- One order of all entries of a record's timers, bases and objects, of the beginnings of calls' turns of objects, and of the clock's writes; and all timers
+-- and bases after each number of them.
 use Rattle.std.specs.Prelude.{ℕ, zero, suc, ◌≡◌, ◌+◌, nat_eq, Bool, false, List, [], ◌∷◌, map, take}
 use Rattle.record_text.specs.declared.record.BaseLine.{BaseLine}
 use Rattle.record_text.specs.declared.record.ClockLine.{ClockLine}
@@ -50,8 +51,8 @@ pub record Trace : Type 0 where
   pub first : ℕ
   pub last : ℕ
 
--- what a line shows: an entry of a timer, or of a base; or a rise of a counter, of which counter 0 counts the clock's writes, and counter i + 1 the entries
--- of object i
+-- what a line shows: an entry of a timer, or of a base; or a rise of a counter. Counter 0 counts the clock's writes. Counter i + 1 rises where a call's turn of
+-- object i begins and again where the call makes its entry: it is odd while a call has its turn.
 pub data Shown : Type 0 where
   OfTimer : ℕ → Entry → Shown
   OfBase : ℕ → BaseEvent → Shown
@@ -100,12 +101,17 @@ line_of_write line = record { label = line.label; shown = OfRise 0 }
 abbrev pub line_of_object : ℕ → ObjectLine → ShownLine
 line_of_object i line = record { label = line.label; shown = OfRise (suc i) }
 
--- the lines of a list; none for one that isn't there
+-- each item twice
+abbrev pub twice : {A : Type 0} → List A → List A
+twice [] = []
+twice (x ∷ xs) = x ∷ x ∷ twice xs
+
+-- the lines of a list; none for one that isn't there. An object's line stands for two moves: a call's turn begins, and it makes the line's entry.
 abbrev pub lines_at : RunRecord → Owner → List ShownLine
 lines_at r (TimersList t) = map (line_of_timer t) (lines_of_timer r t)
 lines_at r (BasesList b) = map (line_of_base b) (lines_of_base r b)
 lines_at r (CountersList zero) = map line_of_write r.clock
-lines_at r (CountersList (suc i)) = map (line_of_object i) (lines_of_object r i)
+lines_at r (CountersList (suc i)) = twice (map (line_of_object i) (lines_of_object r i))
 
 -- a line along the order, and how many lines of its list stand before it
 pub record Move : Type 0 where
@@ -113,8 +119,8 @@ pub record Move : Type 0 where
   pub label : Label
   pub shown : Shown
 
--- a script, a record of it, and what the record doesn't print: an order of all timers', bases' and objects' entries and the clock's writes; and what each
--- call did
+-- a script, a record of it, and what the record doesn't print: an order of all timers', bases' and objects' entries, the beginnings of turns and the clock's
+-- writes; and what each call did
 pub record Witness : Type 0 where
   pub script : Script
   pub run : RunRecord
@@ -170,9 +176,9 @@ standing_along w n b = ((system_along w n).bases b).standing
 abbrev pub writes_along : Witness → ℕ → ℕ
 writes_along w n = rises_of 0 (take n (entries_in w))
 
--- how many of the first so many moves are entries of an object
-abbrev pub object_along : Witness → ℕ → ℕ → ℕ
-object_along w n i = rises_of (suc i) (take n (entries_in w))
+-- how often the counter of an object rose in the first so many moves: twice for each of its entries, and once more while a call has its turn
+abbrev pub turns_along : Witness → ℕ → ℕ → ℕ
+turns_along w n i = rises_of (suc i) (take n (entries_in w))
 
 -- The order is one of all entries and writes, and those of timers and bases together are one history that a library on one thread gives: each is a step of
 -- its timer and of the base that it is on, is sent only to a base that is there, and is started only on one that is on line; each claim takes the first

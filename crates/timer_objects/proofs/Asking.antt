@@ -23,7 +23,7 @@ use Rattle.timer_objects.specs.declared.wanting.Ended.TheVariants as ends
 use Rattle.timer_objects.specs.Steps.{IsObjectOf, ObjectAllows, object_answer}
 use Rattle.timer_objects.specs.Meaning.{object_meaning}
 use Rattle.timer_objects.specs.Known.{Enters, HoldsObject, IsObjectsPass, ObjectsOf, ObjectsPass, Suits, decl_at, receipt_of, row_of}
-use Rattle.timer_objects.specs.Arming.{ArmsFor}
+use Rattle.timer_objects.specs.Arming.{ArmsFor, Disarms}
 use Rattle.timer_objects.specs.Calls.{
   BearsStart,
   Caller,
@@ -36,7 +36,7 @@ use Rattle.timer_objects.specs.Calls.{
   wanted_by,
 }
 use Rattle.timer_objects.specs.Turns.{HasTurn}
-use Rattle.timer_objects.specs.Valid.{IsSettimeReply, IsValidSettime, SetsAnew, settime_with}
+use Rattle.timer_objects.specs.Valid.{IsSettimeReply, IsValidSettime, settime_with}
 use Rattle.timer_objects.specs.Rearming.{Ends, EndsAt, KeepsNames, MakesEntry, rearming_kind}
 use Rattle.timer_objects.proofs.Bearing.{allows, bears, replies_to}
 use Rattle.timer_objects.proofs.Entering.{commits, enters_call, stamp_before}
@@ -101,11 +101,12 @@ module _ (x : ObjectsOf) (id : ℕ) (h : Locked Object) (index : h.index ≡ id)
 
     -- law: a settime was made
     pub settimes : (s : ValidSettime) (a : SettimeAnswer) → Suits x o → id < length x.decls → d.kind ≢ kinds.Raw → IsValidSettime d.kind s
-        → SetsAnew o v w id (start_by s.flags s.value) d.base s.reading arm log log'
+        → (disarmed : KnownOfTimers) (cancel_log : List Receipt) → Disarms o v disarmed id log cancel_log
+        → ArmsFor o disarmed w id (start_by s.flags s.value) d.base s.reading arm cancel_log log'
         → Enters m q h (settime_call d.kind (settime_with s arm)) reply
         → olog' ≡ olog ++ receipt_of h (settime_call d.kind (settime_with s arm)) ∷ [] → SettimeTells reply a
         → SettimeMade x o begun done id s.flags s.value s.interval s.reading a
-    settimes s a suits within kind valid sets e noted tells =
+    settimes s a suits within kind valid disarmed cancel_log disarms arms e noted tells =
         let c = settime_with s arm in
         made_by x o begun done id _ _ _ _ a
         (settime_grants d x.limit h.stamp h.state c a holds_it kind (subst (λ r. SettimeTells r a) e.reply tells))
@@ -116,13 +117,12 @@ module _ (x : ObjectsOf) (id : ℕ) (h : Locked Object) (index : h.index ≡ id)
           begun = v;
           worked = w;
           turn = turn_at e;
-          disarmed = sets.disarmed;
-          cancel_log = sets.cancel_log;
-          disarms = sets.disarms;
-          arms = sets.arms;
+          disarmed = disarmed;
+          cancel_log = cancel_log;
+          disarms = disarms;
+          arms = arms;
           bears = subst (λ f. BearsStart o w id arm f) (sym (set_phase d x.limit h.stamp h.state c holds_it kind))
-              (arms_bears o sets.disarmed w id d s.flags s.value d.base s.reading sets.cancel_log log' (suits.clocks id within) valid.value arm
-              sets.arms);
+              (arms_bears o disarmed w id d s.flags s.value d.base s.reading cancel_log log' (suits.clocks id within) valid.value arm arms);
           answer = tells;
         })
 

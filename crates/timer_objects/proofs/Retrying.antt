@@ -2,9 +2,13 @@
 use Rattle.std.proofs.Common.{ap, subst, ◌≡◌, ◌∙◌, ◌+◌, ℕ, List, [], ◌∷◌, ◌++◌, length, ◌<◌}
 use Rattle.std.specs.Prelude.{Option, Some, None}
 use Rattle.ktime.specs.Readings.{ClockReading}
+use Rattle.pass_names.specs.Passes.{Begins}
 use Rattle.pass_names.specs.SharedHistory.{LooksOn}
+use Rattle.pass_names.proofs.Passes.{begins_trans}
 use Rattle.pass_names.proofs.SharedHistory.{looks_trans}
+use Rattle.seq_timer.specs.declared.system.SystemEntry.{SystemEntry}
 use Rattle.base_row.specs.declared.view.Opening.{Opening}
+use Rattle.base_row.specs.Plays.{RisesFrom}
 use Rattle.hr_timers.specs.Known.{KnownOfTimers}
 use Rattle.base_row.specs.declared.log.Receipt.{Receipt}
 use Rattle.counted_row.specs.declared.view.Locked.{Locked}
@@ -18,15 +22,26 @@ use Rattle.timer_objects.specs.Meaning.{object_meaning}
 use Rattle.timer_objects.specs.Known.{IsObjectsPass, ObjectsOf, ObjectsPass, row_of, seen_of}
 use Rattle.timer_objects.specs.declared.object.Object.{Object}
 use Rattle.timer_objects.specs.declared.object.ObjectCall.{ObjectCall}
-use Rattle.timer_objects.specs.Arming.{ArmsFor}
+use Rattle.timer_objects.specs.Arming.{ArmsFor, DisarmsInTurn}
 use Rattle.timer_objects.specs.Calls.{Caller, EntersCall, FindsFull, HasWaited}
-use Rattle.timer_objects.specs.Turns.{HasTurn}
+use Rattle.timer_objects.specs.Turns.{BeginsTurn, HasTurn}
 use Rattle.timer_objects.specs.Waiting.{HasToWait, IsHindered}
 
+-- a rise behind what was seen later
+abbrev pub rises_since : {k from : ℕ} {u v w : List SystemEntry} → Begins u v → RisesFrom k from v w → RisesFrom k from u w
+rises_since first r = record { before = r.before; seen = begins_trans first r.seen; count = r.count; last = r.last }
+
 -- a turn of an object behind looks
+abbrev pub begins_after : {id n : ℕ} {u v w : KnownOfTimers} → LooksOn u v → BeginsTurn id n v w → BeginsTurn id n u w
+begins_after {id} {n} {u} {v} {w} looks b = record { looks = looks_trans u v w looks b.looks; rises = rises_since looks.seen b.rises }
+
+-- a disarming behind looks
+pub disarms_after : {o : Opening} {t n : ℕ} {u v w : KnownOfTimers} {log log' : List Receipt} → LooksOn u v → DisarmsInTurn o v w t n log log'
+    → DisarmsInTurn o u w t n log log'
+disarms_after looks d = record { begun = d.begun; begins = begins_after looks d.begins; disarms = d.disarms }
+
 abbrev pub turn_after : {id n : ℕ} {u v begun worked w : KnownOfTimers} → LooksOn u v → HasTurn id n v begun worked w → HasTurn id n u begun worked w
-turn_after {id} {n} {u} {v} {begun} {worked} {w} looks t =
-    record { looks = looks_trans u v begun looks t.looks; found = t.found; ends = t.ends; enters = t.enters }
+turn_after looks t = record { begins = begins_after looks t.begins; ends = t.ends }
 
 module _ {a b c : Caller} where
   -- an entry of an object behind looks
@@ -80,7 +95,7 @@ waits_held x p m q id h locks here after idle is looks same same_objects =
 -- a turn that left them in between leaves the pass's name and claims
 pub turn_names : {id n : ℕ} {old begun worked new : KnownOfTimers} → HasTurn id n old begun worked new → worked.id ≡ begun.id
     → worked.claims ≡ begun.claims → (new.id ≡ old.id) × (new.claims ≡ old.claims)
-turn_names t same claims = (t.ends.id ∙ (same ∙ t.looks.id), t.ends.claims ∙ (claims ∙ t.looks.claims))
+turn_names t same claims = (t.ends.looks.id ∙ (same ∙ t.begins.looks.id), t.ends.looks.claims ∙ (claims ∙ t.begins.looks.claims))
 
 pub arms_names : (o : Opening) (v w : KnownOfTimers) (t base : ℕ) (reading : ClockReading) (arm : Arm) (log log' : List Receipt) (wanted : Option Wanted)
     → ArmsFor o v w t wanted base reading arm log log' → (w.id ≡ v.id) × (w.claims ≡ v.claims)

@@ -15,6 +15,7 @@ use Rattle.base_row.specs.Logs.{receipts_of}
 use Rattle.timer_setting.specs.declared.arming.Arm.{Arm}
 use Rattle.timer_setting.specs.declared.arming.Arm.TheVariants as arms
 use Rattle.timer_setting.specs.declared.arming.Wanted.{Wanted}
+use Rattle.timer_objects.specs.Turns.{BeginsTurn}
 
 -- what is asked for by a start that an object wants: no slack
 abbrev pub asked_by : Wanted → ℕ → ClockReading → Asked
@@ -46,3 +47,9 @@ pub record Disarms (o : Opening) (v w : KnownOfTimers) (t : ℕ) (log log' : Lis
   pub cancelled : Cancels o v w t answer
   pub ended : (g n : ℕ) → answer ≡ cancels.Running g n → ⊥
   pub receipts : log' ≡ log ++ receipts_of t (timer_then o cancelled.at t).stamp (cancel_entries answer)
+
+-- a turn of an object with so many entries began, and the object's timer was disarmed
+pub record DisarmsInTurn (o : Opening) (v w : KnownOfTimers) (t n : ℕ) (log log' : List Receipt) : Type 0 where
+  pub begun : KnownOfTimers
+  pub begins : BeginsTurn t n v begun
+  pub disarms : Disarms o begun w t log log'

@@ -51,7 +51,7 @@ use Rattle.timer_objects.specs.Steps.{ObjectAllows, object_answer, object_step}
 use Rattle.timer_objects.specs.Meaning.{object_meaning}
 use Rattle.timer_objects.specs.Known.{ObjectsOf, ObjectsPass, decl_at, seen_of}
 use Rattle.timer_objects.specs.Arming.{ArmsFor, Disarms}
-use Rattle.timer_objects.specs.Turns.{HasTurn, entries_told}
+use Rattle.timer_objects.specs.Turns.{HasTurn, turns_told}
 
 -- what a caller's passes know, and what its logs have
 pub record Caller : Type 0 where
@@ -69,13 +69,13 @@ pub record HasWaited (old new : Caller) : Type 0 where
   pub log : new.log ≡ old.log
   pub object_log : new.object_log ≡ old.object_log
 
--- The history of the object is full. Nothing was done but to look at it, and so many entries stood there when the timers were told of just so many.
+-- The history of the object is full. Nothing was done but to look at it, and so many entries stood there at a moment at which no call had its turn.
 pub record FindsFull (x : ObjectsOf) (old new : Caller) (id n : ℕ) : Type 0 where
   pub looks : LooksOn old.timers new.timers
   pub reads : ReadsValue object_meaning old.objects new.objects id
   pub full : x.limit ≤ n
   pub stamp : n ≡ length (seen_of new.objects id)
-  pub told : entries_told id new.timers ≡ n
+  pub told : turns_told id new.timers ≡ n + n
   pub log : new.log ≡ old.log
   pub object_log : new.object_log ≡ old.object_log
 
@@ -226,13 +226,13 @@ ReadsFd x o old new id len reading reads.Again =
 
 -- ---- looks
 
--- an object was looked at when the timers were told of just its entries, and the logs are as before; its state, and so many entries
+-- an object was looked at when no call had its turn, and the logs are as before; its state, and so many entries
 pub record LooksAtObject (old new : Caller) (id : ℕ) (object : Object) (n : ℕ) : Type 0 where
   pub reads : ReadsValue object_meaning old.objects new.objects id
   pub state : object ≡ reads.state
   pub stamp : n ≡ length (seen_of new.objects id)
   pub timers : LooksOn old.timers new.timers
-  pub told : entries_told id new.timers ≡ n
+  pub told : turns_told id new.timers ≡ n + n
   pub log : new.log ≡ old.log
   pub object_log : new.object_log ≡ old.object_log
 

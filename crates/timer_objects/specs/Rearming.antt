@@ -1,5 +1,5 @@
 -- The calls that arm their object's timer again, where that is periodic and has expired: what each wants of an object, and how it ends.
-use Rattle.std.specs.Prelude.{ℕ, ◌≡◌, ◌<◌, length, [], Some}
+use Rattle.std.specs.Prelude.{ℕ, ◌≡◌, ◌+◌, ◌<◌, length, [], Some}
 use Rattle.ktime.specs.Readings.{ClockReading}
 use Rattle.pass_names.specs.SharedHistory.{LooksOn}
 use Rattle.base_row.specs.Logs.{LogOf}
@@ -29,7 +29,7 @@ use Rattle.timer_objects.specs.Meaning.{object_meaning}
 use Rattle.timer_objects.specs.declared.log.ObjectReceipt.{ObjectReceipt}
 use Rattle.timer_objects.specs.Known.{HoldsObject, IsObjectsPass, ObjectsOf, ObjectsPass, Suits, row_of, seen_of}
 use Rattle.timer_objects.specs.Calls.{Caller, FindsFull, RearmingMade}
-use Rattle.timer_objects.specs.Turns.{entries_told}
+use Rattle.timer_objects.specs.Turns.{turns_told}
 use Rattle.base_row.specs.declared.log.Receipt.{Receipt}
 use Rattle.base_row.specs.Calls.{BaseRowOf}
 
@@ -102,7 +102,7 @@ pub record HasLocked (x : ObjectsOf) (first pass : PassOf) (begun now : ObjectsP
   pub is : IsObjectsPass x begun
   pub locks : Locks object_meaning begun now id h
 
--- a caller holds an object whose history has room, when the timers are told of just its entries
+-- a caller holds an object whose history has room, and no call has its turn
 pub record IsHolding (x : ObjectsOf) (timers : BaseRowOf) (pass : PassOf) (objects_pass : ObjectsPass) (id : ℕ) (h : Locked Object) : Type 0 where
   pub of_timers : IsPassOf timers pass
   pub suits : Suits x timers.about
@@ -113,7 +113,7 @@ pub record IsHolding (x : ObjectsOf) (timers : BaseRowOf) (pass : PassOf) (objec
   pub index : h.index ≡ id
   pub holds : HoldsObject x h
   pub room : h.stamp < x.limit
-  pub told : entries_told id pass.known ≡ h.stamp
+  pub told : turns_told id pass.known ≡ h.stamp + h.stamp
 
 -- ---- looks
 

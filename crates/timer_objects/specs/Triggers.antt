@@ -20,7 +20,7 @@ use Rattle.timer_objects.specs.declared.object.ObjectReply.TheVariants as replie
 use Rattle.timer_objects.specs.Steps.{ObjectAllows, object_answer}
 use Rattle.timer_objects.specs.Meaning.{object_meaning}
 use Rattle.timer_objects.specs.Known.{ObjectsOf, ObjectsPass, seen_of}
-use Rattle.timer_objects.specs.Turns.{HasTurn, entries_told}
+use Rattle.timer_objects.specs.Turns.{HasTurn, turns_told}
 
 -- the trigger of an object of this kind by a claim of its timer, at this reading; a timer by itself has none
 abbrev pub trigger_of : Kind → ClaimNumbers → ClockReading → Option ObjectCall
@@ -45,13 +45,13 @@ module _ (x : ObjectsOf) (p q : ObjectsPass) (log log' : List ObjectReceipt) (v 
     pub receipt : log'
         ≡ log ++ record { object = id; number = length commits.adds.before + 1; call = call; reply = object_answer commits.state call } ∷ []
 
-  -- The history of the object is full. Nothing was done but to look at it when the timers were told of just its entries, and a receipt says that the trigger
-  -- was refused, at so many entries.
+  -- The history of the object is full. Nothing was done but to look at it at a moment at which no call had its turn, and a receipt says that the trigger was
+  -- refused, at so many entries.
   pub record SkipsTrigger (id : ℕ) (call : ObjectCall) : Type 0 where
     pub reads : ReadsValue object_meaning p q id
     pub full : x.limit ≤ length (seen_of q id)
     pub looks : LooksOn v w
-    pub told : entries_told id w ≡ length (seen_of q id)
+    pub told : turns_told id w ≡ length (seen_of q id) + length (seen_of q id)
     pub receipt : log'
         ≡ log ++ record { object = id; number = length (seen_of q id); call = call; reply = trigger_refused call (length (seen_of q id)) } ∷ []
 

@@ -1,23 +1,30 @@
--- Where the entries of objects stand among the entries of timers. Counter i + 1 of the timers repeats the number of entries of object i, so the k-th of its
--- rises is the place of the object's k-th entry.
-use Rattle.std.specs.Prelude.{ℕ, ◌≡◌, ◌+◌}
+-- Where calls' turns of objects stand among the entries of timers. Counter i + 1 of the timers rises where a call's turn of object i begins, and again where
+-- the call makes its entry. So it is twice the number of the object's entries, and one more while a call has its turn.
+use Rattle.std.specs.Prelude.{ℕ, ◌+◌}
 use Rattle.pass_names.specs.SharedHistory.{LooksOn}
 use Rattle.seq_timer.specs.Systems.{rises_of}
 use Rattle.base_row.specs.Plays.{RisesFrom}
 use Rattle.hr_timers.specs.Known.{KnownOfTimers}
 
--- the counter of the timers that the entries of an object raise
-abbrev pub entries_counter : ℕ → ℕ
-entries_counter i = i + 1
+-- the counter of the timers that counts the turns of an object
+abbrev pub turns_counter : ℕ → ℕ
+turns_counter i = i + 1
 
--- of how many entries of an object the timers are told, by what a pass has seen of them
-abbrev pub entries_told : ℕ → KnownOfTimers → ℕ
-entries_told i k = rises_of (entries_counter i) k.seen
+-- how often it has risen, by what a pass has seen of the timers
+abbrev pub turns_told : ℕ → KnownOfTimers → ℕ
+turns_told i k = rises_of (turns_counter i) k.seen
 
--- A call's turn: from a moment at which the timers were told of just so many entries of the object to the call's own entry, which is the counter's next
--- rise, behind all that the call did to the timer.
+-- a call's turn of an object with so many entries begins
+pub record BeginsTurn (i n : ℕ) (v w : KnownOfTimers) : Type 0 where
+  pub looks : LooksOn v w
+  pub rises : RisesFrom (turns_counter i) (n + n) v.seen w.seen
+
+-- it ends, where the call's own entry has its place
+pub record EndsTurn (i n : ℕ) (v w : KnownOfTimers) : Type 0 where
+  pub looks : LooksOn v w
+  pub rises : RisesFrom (turns_counter i) (n + n + 1) v.seen w.seen
+
+-- A call's turn: all that the call does to the timer stands between these two rises of the counter, and no other rise of it does.
 pub record HasTurn (i n : ℕ) (old begun worked new : KnownOfTimers) : Type 0 where
-  pub looks : LooksOn old begun
-  pub found : entries_told i begun ≡ n
-  pub ends : LooksOn worked new
-  pub enters : RisesFrom (entries_counter i) n worked.seen new.seen
+  pub begins : BeginsTurn i n old begun
+  pub ends : EndsTurn i n worked new

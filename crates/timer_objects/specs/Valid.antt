@@ -14,6 +14,7 @@ use Rattle.timer_objects.specs.declared.object.ObjectReply.{ObjectReply}
 use Rattle.timer_objects.specs.declared.settime.ValidSettime.{ValidSettime}
 use Rattle.timer_objects.specs.Arming.{ArmsFor, Disarms}
 use Rattle.timer_objects.specs.Calls.{SettimeTells, flags_of}
+use Rattle.timer_objects.specs.Turns.{BeginsTurn}
 use Rattle.timer_fd.specs.declared.answers.SettimeAnswer.{SettimeAnswer}
 
 -- the arguments are valid for an object of this kind
@@ -30,10 +31,12 @@ IsSettimeReply reply = (a : SettimeAnswer) × SettimeTells reply a
 abbrev pub settime_with : ValidSettime → Arm → SettimeCall
 settime_with v arm = record { flags = v.flags; value = v.value; interval = v.interval; reading = v.reading; arm = arm }
 
--- a timer was disarmed, and then started where that was wanted
-pub record SetsAnew (o : Opening) (v w : KnownOfTimers) (t : ℕ) (wanted : Option Wanted) (base : ℕ) (reading : ClockReading) (arm : Arm)
+-- a turn of an object with so many entries began, and the object's timer was disarmed, and then started where that was wanted
+pub record SetsAnew (o : Opening) (v w : KnownOfTimers) (t n : ℕ) (wanted : Option Wanted) (base : ℕ) (reading : ClockReading) (arm : Arm)
     (log log' : List Receipt) : Type 0 where
+  pub begun : KnownOfTimers
+  pub begins : BeginsTurn t n v begun
   pub disarmed : KnownOfTimers
   pub cancel_log : List Receipt
-  pub disarms : Disarms o v disarmed t log cancel_log
+  pub disarms : Disarms o begun disarmed t log cancel_log
   pub arms : ArmsFor o disarmed w t wanted base reading arm cancel_log log'

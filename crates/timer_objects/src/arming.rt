@@ -1,13 +1,15 @@
 //! What calls on objects do to the timers below.
-ghost use Rattle.std.specs.Prelude.{◌≡◌, ◌≤◌, ◌<◌, ◌+◌, length, true, false};
+ghost use Rattle.std.specs.Prelude.{◌≡◌, ◌≢◌, ◌≤◌, ◌<◌, ◌+◌, ◌^◌, length, true, false, Some};
 ghost use Rattle.pass_names.specs.SharedHistory.{LooksOn};
 ghost use Rattle.seq_timer.specs.Tables.{timer_at};
 ghost use Rattle.hr_timers.specs.Known.{IsPassOf};
 ghost use Rattle.hr_timers.specs.Ways.{most_to_start};
 ghost use Rattle.timer_setting.specs.Phases.{IsOutcomeOf};
-ghost use Rattle.timer_objects.specs.Arming.{ArmsFor, Disarms};
+ghost use Rattle.timer_objects.specs.Arming.{ArmsFor, DisarmsInTurn};
+ghost use Rattle.timer_objects.specs.Turns.{turns_counter};
 ghost use Rattle.timer_objects.specs.Waiting.{IsHindered};
 
+use crate::turns::counter_of;
 use expire_pass::Log;
 use hr_timers::{Pass, StartAnswer, Timers};
 use ktime::Reading;
@@ -15,28 +17,61 @@ use seq_timer::{Asked, CancelAnswer};
 use std::sync::Wait;
 use timer_setting::{Arm, Wanted};
 
-/// Tries to disarm a timer. It answers whether it did: not where the timer's function is running.
+/// Tries to begin a turn of an object with so many entries, and to disarm the object's timer. It answers whether it did: not where the timer's function is
+/// running.
 pub(crate) fn disarm<R: Wait>(
     rt: &R,
     timers: &Timers,
     pass: &mut Pass,
     log: &mut Log,
     timer: u32,
+    stamp: u64,
 ) -> bool
     requires pass { IsPassOf timers.now pass.old }
     requires timer { timer < length timers.now.about.timers }
+    requires counter { turns_counter timer < timers.now.about.counters }
+    requires small { stamp + stamp + 2 < 2 ^ 64 }
     requires room { 0 < log.old.spare }
     ensures pass { IsPassOf timers.now pass.new }
-    ensures disarms { result ≡ true → Disarms timers.now.about pass.old.known pass.new.known timer log.old.receipts log.new.receipts }
+    ensures disarms { result ≡ true → DisarmsInTurn timers.now.about pass.old.known pass.new.known timer stamp log.old.receipts log.new.receipts }
     ensures waits { result ≡ false → LooksOn pass.old.known pass.new.known × (log.new ≡ log.old) }
     ensures why { result ≡ false → IsHindered timers.now.about pass.new.known timer }
     ensures room { log.old.spare ≤ log.new.spare + 1 }
 {
-    let answer = timers.try_to_cancel_logged(rt, pass, log, timer);
+    for _ in rt.forever() {
+        if let Some(disarmed) = try_to_disarm(rt, timers, pass, log, timer, stamp) {
+            return disarmed;
+        }
+    }
+    unreachable!()
+}
+
+/// One try of it. It answers nothing, and has done nothing, where another call has its turn, which in fact none has.
+fn try_to_disarm<R: Wait>(
+    rt: &R,
+    timers: &Timers,
+    pass: &mut Pass,
+    log: &mut Log,
+    timer: u32,
+    stamp: u64,
+) -> Option<bool>
+    requires pass { IsPassOf timers.now pass.old }
+    requires timer { timer < length timers.now.about.timers }
+    requires counter { turns_counter timer < timers.now.about.counters }
+    requires small { stamp + stamp + 2 < 2 ^ 64 }
+    requires room { 0 < log.old.spare }
+    ensures pass { IsPassOf timers.now pass.new }
+    ensures disarms { result ≡ Some true → DisarmsInTurn timers.now.about pass.old.known pass.new.known timer stamp log.old.receipts log.new.receipts }
+    ensures looks { result ≢ Some true → LooksOn pass.old.known pass.new.known × (log.new ≡ log.old) }
+    ensures why { result ≡ Some false → IsHindered timers.now.about pass.new.known timer }
+    ensures room { log.old.spare ≤ log.new.spare + 1 }
+{
+    let counter = counter_of(timer)?;
+    let answer = timers.try_to_cancel_behind(rt, pass, log, timer, counter, stamp + stamp)?;
     let CancelAnswer::Running { .. } = answer else {
-        return true;
+        return Some(true);
     };
-    false
+    Some(false)
 }
 
 /// Makes the start that a step wants, if it wants one.

@@ -10,7 +10,7 @@ use crate::arming::arm;
 use crate::log::ObjectLog;
 use crate::object::{Object, ObjectCall, ObjectReply};
 use crate::objects::Objects;
-use crate::turns::raise;
+use crate::turns::{begin, end};
 use crate::wanting::{COUNT_LENGTH, Ended, Rearming, wanted};
 use counted_row::{Held, RowPass};
 use expire_pass::Log;
@@ -177,12 +177,13 @@ impl Objects {
         ensures ends { (first : PassOf) (begun : ObjectsPass) → HasLocked self.now first pass.old begun objects_pass.old id held → EndsAt self.now timers.now.about (caller_of first begun log.old object_log.old) (caller_of pass.new objects_pass.new log.new object_log.new) id call reading result held.state }
         ensures room { (log.old.spare ≤ log.new.spare + most_noted self.now timers.now.about id) × (object_log.old.spare ≤ object_log.new.spare + 1) }
     {
+        let stamp = held.stamp();
+        let number = stamp + 1;
+        begin(rt, timers, pass, id, stamp);
         let wants = wanted(call, held.state(), reading);
         let base = self.decl(id).base;
         let outcome = arm(rt, timers, pass, log, id, wants, base, reading);
-        let stamp = held.stamp();
-        let number = stamp + 1;
-        raise(rt, timers, pass, id, stamp);
+        end(rt, timers, pass, id, stamp);
         let made = call_of(call, reading, outcome);
         let reply = self.enter(objects_pass, held, object_log, id, &made);
         Ended::Made {

@@ -5,7 +5,7 @@ ghost use Rattle.hr_timers.specs.Known.{IsPassOf};
 ghost use Rattle.timer_objects.specs.declared.object.Kind.TheVariants as kinds;
 ghost use Rattle.timer_objects.specs.Known.{IsObjectsPass, Suits, decl_at, most_noted};
 ghost use Rattle.timer_objects.specs.Steps.{IsObjectOf};
-ghost use Rattle.timer_objects.specs.Turns.{entries_told};
+ghost use Rattle.timer_objects.specs.Turns.{turns_told};
 ghost use Rattle.timer_objects.specs.Calls.{Gettimes, LooksOverrun, LooksReadable};
 ghost use Rattle.timer_objects.specs.Rearming.{FindsObject, IsCallerOf, KeepsNames, LeavesPasses, caller_of};
 
@@ -132,7 +132,7 @@ impl Objects {
         ensures objects { IsObjectsPass self.now objects_pass.new }
         ensures finds { FindsObject objects_pass.old objects_pass.new id result.0 result.1 }
         ensures looks { LooksOn pass.old.known pass.new.known }
-        ensures told { entries_told id pass.new.known ≡ result.1 }
+        ensures told { turns_told id pass.new.known ≡ result.1 + result.1 }
         ensures name { objects_pass.new.knows.pass.id ≡ objects_pass.old.knows.pass.id }
         ensures kind { IsObjectOf (decl_at self.now id) self.now.limit result.1 result.0 }
     {

@@ -1,5 +1,5 @@
 //! The settime of an object.
-ghost use Rattle.std.specs.Prelude.{◌≡◌, ◌≢◌, ◌≤◌, ◌<◌, ◌+◌, length, IfNone, IfSome, MatchOption};
+ghost use Rattle.std.specs.Prelude.{◌≡◌, ◌≢◌, ◌≤◌, ◌<◌, ◌+◌, ◌^◌, length, IfNone, IfSome, MatchOption};
 ghost use Rattle.pass_names.specs.SharedHistory.{LooksOn};
 ghost use Rattle.seq_timer.specs.Tables.{timer_at};
 ghost use Rattle.timer_setting.specs.Arguments.{bits_beyond, checked_times, start_by};
@@ -10,6 +10,7 @@ ghost use Rattle.timer_objects.specs.declared.object.Kind.TheVariants as kinds;
 ghost use Rattle.timer_objects.specs.Known.{IsObjectsPass, ObjectsPass, Suits, decl_at, most_noted};
 ghost use Rattle.timer_objects.specs.Calls.{HasWaited, SettimeMade, SettimeTells, Settimes, flags_of, settime_call};
 ghost use Rattle.timer_objects.specs.Rearming.{HasLocked, IsHolding, KeepsNames, LeavesPasses, IsCallerOf, caller_of};
+ghost use Rattle.timer_objects.specs.Turns.{turns_counter};
 ghost use Rattle.timer_objects.specs.Valid.{IsSettimeReply, IsValidSettime, SetsAnew, settime_with};
 ghost use Rattle.timer_objects.specs.Waiting.{HasToWait, IsHindered};
 
@@ -17,7 +18,7 @@ use crate::arming::{arm, disarm};
 use crate::log::ObjectLog;
 use crate::object::{Decl, Kind, Object, ObjectCall, ObjectReply};
 use crate::objects::Objects;
-use crate::turns::raise;
+use crate::turns::end;
 use counted_row::{Held, RowPass};
 use expire_pass::Log;
 use hr_timers::{Pass, Timers};
@@ -182,39 +183,43 @@ impl Objects {
         ensures room { (log.old.spare ≤ log.new.spare + most_noted self.now timers.now.about id) × (object_log.old.spare ≤ object_log.new.spare + 1) }
     {
         let Decl { kind, base, .. } = self.decl(id);
-        let Some(outcome) = set_anew(rt, timers, pass, log, id, valid, base) else {
+        let stamp = held.stamp();
+        let Some(outcome) = set_anew(rt, timers, pass, log, id, stamp, valid, base) else {
             self.release(objects_pass, held);
             return None;
         };
-        let stamp = held.stamp();
-        raise(rt, timers, pass, id, stamp);
+        end(rt, timers, pass, id, stamp);
         let call = call_of(kind, valid.with(outcome));
         let reply = self.enter(objects_pass, held, object_log, id, &call);
         Some(settime_answer(reply))
     }
 }
 
-/// Disarms a timer, and starts it where that is wanted. It answers the outcome of the start, or nothing where the timer's function is running.
+/// Begins a turn of an object with so many entries, disarms the object's timer, and starts it where that is wanted. It answers the outcome of the start, or
+/// nothing where the timer's function is running.
 fn set_anew<R: Wait>(
     rt: &R,
     timers: &Timers,
     pass: &mut Pass,
     log: &mut Log,
     timer: u32,
+    stamp: u64,
     valid: &ValidSettime,
     base: u32,
 ) -> Option<Arm>
     requires pass { IsPassOf timers.now pass.old }
     requires timer { timer < length timers.now.about.timers }
     requires base { base < timers.now.about.bases }
+    requires counter { turns_counter timer < timers.now.about.counters }
+    requires small { stamp + stamp + 2 < 2 ^ 64 }
     requires room { 1 + most_to_start (timer_at timers.now.about.timers timer).terms base ≤ log.old.spare }
     ensures pass { IsPassOf timers.now pass.new }
-    ensures sets { MatchOption result (LooksOn pass.old.known pass.new.known × (log.new ≡ log.old)) (λ arm. SetsAnew timers.now.about pass.old.known pass.new.known timer (start_by valid.now.flags valid.now.value) base valid.now.reading arm log.old.receipts log.new.receipts) }
+    ensures sets { MatchOption result (LooksOn pass.old.known pass.new.known × (log.new ≡ log.old)) (λ arm. SetsAnew timers.now.about pass.old.known pass.new.known timer stamp (start_by valid.now.flags valid.now.value) base valid.now.reading arm log.old.receipts log.new.receipts) }
     ensures outcome { IfSome result (λ arm. IsOutcomeOf arm (start_by valid.now.flags valid.now.value)) }
     ensures why { IfNone result (IsHindered timers.now.about pass.new.known timer) }
     ensures room { log.old.spare ≤ log.new.spare + (1 + most_to_start (timer_at timers.now.about.timers timer).terms base) }
 {
-    if !disarm(rt, timers, pass, log, timer) {
+    if !disarm(rt, timers, pass, log, timer, stamp) {
         return None;
     }
     let wants = wanted_by(valid.flags, valid.value);

@@ -9,7 +9,7 @@ ghost use Rattle.timer_objects.specs.Triggers.{Triggers, trigger_of, trigger_ref
 use crate::log::{ObjectLog, note};
 use crate::object::{Kind, Object, ObjectCall, ObjectReply};
 use crate::objects::Objects;
-use crate::turns::raise;
+use crate::turns::{begin, end};
 use counted_row::{Held, RowPass};
 use hr_timers::{Claim, Pass, Timers};
 use ktime::Reading;
@@ -77,7 +77,8 @@ pub(crate) fn trigger<R: Wait>(
         return skip(objects, objects_pass, held, log, id, &call);
     }
     let stamp = held.stamp();
-    raise(rt, timers, pass, id, stamp);
+    begin(rt, timers, pass, id, stamp);
+    end(rt, timers, pass, id, stamp);
     let reply = objects.enter(objects_pass, held, log, id, &call);
     tell_reader(objects, id, &reply);
 }

@@ -1,12 +1,12 @@
-//! Turns of objects: which of them the timers are told of, and the rise that gives an entry its place among the entries of timers.
-ghost use Rattle.std.specs.Prelude.{◌≡◌, ◌+◌, ◌<◌, ◌^◌, [], None, length, true};
+//! Turns of objects: whether a call has its turn, and the rises that give a turn's beginning and its entry their places among the entries of timers.
+ghost use Rattle.std.specs.Prelude.{◌≡◌, ◌+◌, ◌<◌, ◌^◌, [], None, length, true, IfSome};
 ghost use Rattle.base_row.specs.Plays.{RisesFrom};
 ghost use Rattle.counted_row.specs.Views.{IsPassOfRow, Locks};
 ghost use Rattle.hr_timers.specs.Known.{IsPassOf};
 ghost use Rattle.pass_names.specs.SharedHistory.{LooksOn};
 ghost use Rattle.timer_objects.specs.Meaning.{object_meaning};
 ghost use Rattle.timer_objects.specs.Known.{HoldsObject, row_of};
-ghost use Rattle.timer_objects.specs.Turns.{entries_counter, entries_told};
+ghost use Rattle.timer_objects.specs.Turns.{BeginsTurn, EndsTurn, turns_counter, turns_told};
 
 use crate::object::Object;
 use crate::objects::Objects;
@@ -15,8 +15,7 @@ use hr_timers::{Pass, Timers};
 use std::sync::Wait;
 
 impl Objects {
-    /// Waits until the lock of an object is free, and takes it when the timers are told of just the object's entries. In fact they are as soon as it has the
-    /// lock.
+    /// Waits until the lock of an object is free, and takes it when no call has its turn. In fact none has as soon as it has the lock.
     pub(crate) fn lock_in_turn<R: Wait>(
         &self,
         rt: &R,
@@ -33,14 +32,14 @@ impl Objects {
         requires within { id < length self.now.decls }
         ensures pass { IsPassOf timers.now pass.new }
         ensures looks { LooksOn pass.old.known pass.new.known }
-        ensures told { entries_told id pass.new.known ≡ result.stamp }
+        ensures told { turns_told id pass.new.known ≡ result.stamp + result.stamp }
         ensures row { IsPassOfRow (row_of self.now) objects_pass.new }
         ensures locks { Locks object_meaning objects_pass.old objects_pass.new id result }
         ensures holds { HoldsObject self.now result }
     {
         for _ in rt.forever() {
             let held = self.lock(rt, objects_pass, id);
-            if is_told(timers, pass, id, held.stamp()) {
+            if is_between_turns(timers, pass, id, held.stamp()) {
                 return held;
             }
             self.release(objects_pass, held);
@@ -49,28 +48,60 @@ impl Objects {
     }
 }
 
-/// Whether the timers are told of just so many entries of an object.
-fn is_told(timers: &Timers, pass: &mut Pass, id: u32, stamp: u64) -> bool
-    requires pass { IsPassOf timers.now pass.old }
-    requires counter { entries_counter id < timers.now.about.counters }
-    ensures pass { IsPassOf timers.now pass.new }
-    ensures looks { LooksOn pass.old.known pass.new.known }
-    ensures told { result ≡ true → entries_told id pass.new.known ≡ stamp }
+/// Which counter of the timers counts the turns of an object. There are never so many objects that one has none.
+pub(crate) fn counter_of(id: u32) -> Option<u32>
+    ensures { IfSome result (λ counter. counter ≡ turns_counter id) }
 {
-    let Some(counter) = id.checked_add(1) else {
-        return false;
-    };
-    timers.counter(pass, counter) == stamp
+    id.checked_add(1)
 }
 
-/// Raises the counter of an object's entries by one, from so many. In fact the first try does.
-pub(crate) fn raise<R: Wait>(rt: &R, timers: &Timers, pass: &mut Pass, id: u32, from: u64)
+/// Whether an object with so many entries has no call in its turn.
+fn is_between_turns(timers: &Timers, pass: &mut Pass, id: u32, stamp: u64) -> bool
     requires pass { IsPassOf timers.now pass.old }
-    requires counter { entries_counter id < timers.now.about.counters }
+    requires counter { turns_counter id < timers.now.about.counters }
+    ensures pass { IsPassOf timers.now pass.new }
+    ensures looks { LooksOn pass.old.known pass.new.known }
+    ensures told { result ≡ true → turns_told id pass.new.known ≡ stamp + stamp }
+{
+    let Some(counter) = counter_of(id) else {
+        return false;
+    };
+    let Some(between) = stamp.checked_add(stamp) else {
+        return false;
+    };
+    timers.counter(pass, counter) == between
+}
+
+/// Begins a turn of an object with so many entries.
+pub(crate) fn begin<R: Wait>(rt: &R, timers: &Timers, pass: &mut Pass, id: u32, stamp: u64)
+    requires pass { IsPassOf timers.now pass.old }
+    requires counter { turns_counter id < timers.now.about.counters }
+    requires small { stamp + stamp + 2 < 2 ^ 64 }
+    ensures pass { IsPassOf timers.now pass.new }
+    ensures begins { BeginsTurn id stamp pass.old.known pass.new.known }
+{
+    raise(rt, timers, pass, id, stamp + stamp);
+}
+
+/// Ends it, where the entry has its place.
+pub(crate) fn end<R: Wait>(rt: &R, timers: &Timers, pass: &mut Pass, id: u32, stamp: u64)
+    requires pass { IsPassOf timers.now pass.old }
+    requires counter { turns_counter id < timers.now.about.counters }
+    requires small { stamp + stamp + 2 < 2 ^ 64 }
+    ensures pass { IsPassOf timers.now pass.new }
+    ensures ends { EndsTurn id stamp pass.old.known pass.new.known }
+{
+    raise(rt, timers, pass, id, stamp + stamp + 1);
+}
+
+/// Raises the counter of an object's turns by one, from so many. In fact the first try does.
+fn raise<R: Wait>(rt: &R, timers: &Timers, pass: &mut Pass, id: u32, from: u64)
+    requires pass { IsPassOf timers.now pass.old }
+    requires counter { turns_counter id < timers.now.about.counters }
     requires small { from + 1 < 2 ^ 64 }
     ensures pass { IsPassOf timers.now pass.new }
     ensures looks { LooksOn pass.old.known pass.new.known }
-    ensures enters { RisesFrom (entries_counter id) from pass.old.known.seen pass.new.known.seen }
+    ensures rises { RisesFrom (turns_counter id) from pass.old.known.seen pass.new.known.seen }
 {
     for _ in rt.forever() {
         if try_to_raise(timers, pass, id, from) {
@@ -83,13 +114,13 @@ pub(crate) fn raise<R: Wait>(rt: &R, timers: &Timers, pass: &mut Pass, id: u32, 
 /// One try of it.
 fn try_to_raise(timers: &Timers, pass: &mut Pass, id: u32, from: u64) -> bool
     requires pass { IsPassOf timers.now pass.old }
-    requires counter { entries_counter id < timers.now.about.counters }
+    requires counter { turns_counter id < timers.now.about.counters }
     requires small { from + 1 < 2 ^ 64 }
     ensures pass { IsPassOf timers.now pass.new }
     ensures looks { LooksOn pass.old.known pass.new.known }
-    ensures enters { result ≡ true → RisesFrom (entries_counter id) from pass.old.known.seen pass.new.known.seen }
+    ensures rises { result ≡ true → RisesFrom (turns_counter id) from pass.old.known.seen pass.new.known.seen }
 {
-    let Some(counter) = id.checked_add(1) else {
+    let Some(counter) = counter_of(id) else {
         return false;
     };
     timers.step_counter(pass, counter, from)

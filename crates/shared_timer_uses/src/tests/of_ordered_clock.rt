@@ -1,5 +1,5 @@
 //! Callers of `ordered_clock`, and of the counters under it, proved and run: one thread, and two.
-ghost use Rattle.std.specs.Prelude.{◌≡◌, ◌+◌, ◌<◌, ◌≤◌, IfOk, length, []};
+ghost use Rattle.std.specs.Prelude.{◌≡◌, ◌+◌, ◌<◌, ◌≤◌, ◌^◌, IfOk, length, []};
 ghost use Rattle.clock_cell.specs.Views.{IsPassOfClock};
 ghost use Rattle.hr_timers.specs.Known.{IsPassOf};
 ghost use Rattle.ordered_clock.specs.Moments.{clock_counter};
@@ -7,11 +7,13 @@ ghost use Rattle.pass_names.specs.Names.{IsLast, first_pass_id};
 
 use super::{HARD, assert_equal};
 use crate::start_after;
+use base_row::Unlogged;
 use clock_cell::{ClockPass, SharedClock};
 use clock_model::{ClockFault, Write};
 use hr_timers::{Pass, StartAnswer, Timers};
+use ktime::{Mode, Reading};
 use ordered_clock::{read, settle, write};
-use seq_timer::Terms;
+use seq_timer::{CancelAnswer, Terms};
 use std::alloc::{AllocError, Global};
 use std::sync::Wait;
 use std::test::Fail;
@@ -41,6 +43,33 @@ fn timers_and_clock(alloc: Global) -> Result<(Timers, Pass, SharedClock, ClockPa
         Err(fault) => {
             clock.close(clock_pass);
             Err(fault)
+        }
+    }
+}
+
+/// Tries to cancel the timer behind a rise of counter 1.
+fn cancel_behind<R: Wait>(
+    rt: &R,
+    timers: &Timers,
+    pass: &mut Pass,
+    from: u64,
+) -> Option<CancelAnswer>
+    requires pass { IsPassOf timers.now pass.old }
+    requires size { (length timers.now.about.timers ≡ 1) × (timers.now.about.counters ≡ 2) }
+    requires small { from + 1 < 2 ^ 64 }
+    requires unclaimed { pass.old.known.claims ≡ [] }
+    ensures pass { IsPassOf timers.now pass.new }
+    ensures id { pass.new.known.id ≡ pass.old.known.id }
+    ensures unclaimed { pass.new.known.claims ≡ [] }
+{
+    let answer = timers.try_to_cancel_behind(rt, pass, &mut Unlogged, 0, 1, from)?;
+    match answer {
+        CancelAnswer::Idle { stamp } => Some(CancelAnswer::Idle { stamp }),
+        CancelAnswer::Cancelled { generation, number } => {
+            Some(CancelAnswer::Cancelled { generation, number })
+        }
+        CancelAnswer::Running { generation, stamp } => {
+            Some(CancelAnswer::Running { generation, stamp })
         }
     }
 }
@@ -175,5 +204,25 @@ fn counters_rise_apart(rt: HostRuntime) -> Result<(), Fail> {
     timers.close(pass);
     assert_equal(&rt, (hit, missed), (true, false));
     assert_equal(&rt, counts, (5, 1));
+    Ok(())
+}
+
+#[test]
+fn a_counter_rises_before_a_cancel(rt: HostRuntime) -> Result<(), Fail> {
+    let (timers, mut pass) = counting_timers(rt.alloc())?;
+    timers.start(&rt, &mut pass, 0, Mode::Rel, 7, 0, Reading::at(0));
+    let cancelled = cancel_behind(&rt, &timers, &mut pass, 0);
+    let risen = cancel_behind(&rt, &timers, &mut pass, 0);
+    let idle = cancel_behind(&rt, &timers, &mut pass, 1);
+    let count = timers.counter(&mut pass, 1);
+    timers.close(pass);
+    let entry = CancelAnswer::Cancelled {
+        generation: 1,
+        number: 2,
+    };
+    assert_equal(&rt, cancelled, Some(entry));
+    assert_equal(&rt, risen, None);
+    assert_equal(&rt, idle, Some(CancelAnswer::Idle { stamp: 2 }));
+    assert_equal(&rt, count, 2);
     Ok(())
 }

@@ -1,4 +1,4 @@
-use Rattle.std.proofs.Common.{◌<◌, length, refl, subst}
+use Rattle.std.proofs.Common.{refl, subst}
 use Rattle.hr_timers.specs.Known.{IsPassOf}
 use Rattle.timer_objects.specs.Known.{IsObjectsPass}
 use Rattle.lane_world.specs.Worlds.{WorldOf}

@@ -1,8 +1,8 @@
 use Rattle.std.proofs.Common.{◌<◌, subst, inl}
 use Rattle.counted_row.specs.Views.{Locks}
-use Rattle.base_row.specs.Plays.{RisesFrom}
 use Rattle.timer_objects.specs.Meaning.{object_meaning}
-use Rattle.timer_objects.specs.Turns.{HasTurn, entries_counter}
+use Rattle.timer_objects.specs.Turns.{BeginsTurn, EndsTurn, HasTurn}
+use Rattle.timer_objects.proofs.Retrying.{begins_after}
 use Rattle.timer_objects.proofs.Triggering.{entered}
 use Rattle.timer_objects.proofs.trigger.trigger.Goals as goal
 
@@ -14,15 +14,14 @@ returns-clause-triggers g c =
     let h = c.lock_in_turn-held.result in
     let taken = c.lock_in_turn-held.ensures in
     let v = c.args.pass.now.known in
-    let begun = c.lock_in_turn-held.new.pass.known in
-    let w = c.raise.new.pass.known in
+    let begun = c.begin.new.pass.known in
+    let w = c.end.new.pass.known in
     let mid = c.lock_in_turn-held.new.objects_pass in
     let entry = c.enter-reply.ensures in
     let turn : HasTurn t h.stamp v begun begun w = subst (λ i. HasTurn i h.stamp v begun begun w) c.timer-id.ensures (record {
-      looks = taken.looks;
-      found = taken.told;
-      ends = c.raise.ensures.looks;
-      enters = subst (λ n. RisesFrom (entries_counter c.timer-id.result) n begun.seen w.seen) c.stamp-stamp.ensures c.raise.ensures.enters;
+      begins = begins_after taken.looks
+          (subst (λ n. BeginsTurn c.timer-id.result n c.lock_in_turn-held.new.pass.known begun) c.stamp-stamp.ensures c.begin.ensures.begins);
+      ends = subst (λ n. EndsTurn c.timer-id.result n begun w) c.stamp-stamp.ensures c.end.ensures.ends;
     }) in
     let locks = subst (λ id. Locks object_meaning p mid id h) c.timer-id.ensures taken.locks in
     let room : h.stamp < x.limit = c.if-is_full.ensures in

@@ -1,12 +1,12 @@
 use Rattle.std.proofs.Common.{ap, sym, subst, length, ◌∙◌, ◌+◌, [], ◌∷◌, ◌++◌}
-use Rattle.base_row.specs.Plays.{RisesFrom}
 use Rattle.timer_setting.specs.Phases.{IsOutcomeOf}
 use Rattle.timer_objects.specs.declared.object.Decl.{Decl}
 use Rattle.timer_objects.specs.Arming.{ArmsFor}
 use Rattle.timer_objects.specs.Calls.{wanted_by}
 use Rattle.timer_objects.specs.Known.{Enters, MayEnter, receipt_of, seen_of}
-use Rattle.timer_objects.specs.Turns.{HasTurn, entries_counter}
+use Rattle.timer_objects.specs.Turns.{BeginsTurn, EndsTurn, HasTurn}
 use Rattle.timer_objects.proofs.Asking.{may_rearm, rearms}
+use Rattle.timer_objects.proofs.Retrying.{begins_after}
 use Rattle.timer_objects.proofs.objects.Objects.rearm_held.Goals as goal
 
 pub enter-reply-requires-clause-may : goal.enter-reply-requires-clause-may
@@ -34,18 +34,17 @@ returns-clause-ends g c = λ first begun took.
     let entry = c.enter-reply.ensures in
     let holding = c.requires.holding in
     let log = c.args.object_log.now.receipts in
-    let v = c.args.pass.now.known in
+    let v = c.begin.new.pass.known in
     let w = c.arm-outcome.new.pass.known in
-    let turn : HasTurn c.args.id h.stamp first.known v w c.raise.new.pass.known = record {
-      looks = took.looks;
-      found = holding.told;
-      ends = c.raise.ensures.looks;
-      enters = subst (λ n. RisesFrom (entries_counter c.args.id) n w.seen c.raise.new.pass.known.seen) c.stamp-stamp.ensures c.raise.ensures.enters;
+    let turn : HasTurn c.args.id h.stamp first.known v w c.end.new.pass.known = record {
+      begins = begins_after took.looks
+          (subst (λ n. BeginsTurn c.args.id n c.args.pass.now.known v) c.stamp-stamp.ensures c.begin.ensures.begins);
+      ends = subst (λ n. EndsTurn c.args.id n w c.end.new.pass.known) c.stamp-stamp.ensures c.end.ensures.ends;
     } in
     let armed = subst (λ (d : Decl). ArmsFor c.args.timers.now.about v w c.args.id (wanted_by c.args.call h.state c.args.reading) d.base c.args.reading arm
     c.args.log.now.receipts c.arm-outcome.new.log.receipts) c.decl-base.ensures (subst (λ wanted. ArmsFor c.args.timers.now.about v w c.args.id wanted
     c.decl-base.result.base c.args.reading arm c.args.log.now.receipts c.arm-outcome.new.log.receipts) wants c.arm-outcome.ensures.arms) in
-    let made = rearms x c.args.id h holding.index holding.holds _ first.known v w c.raise.new.pass.known begun c.args.objects_pass.now q arm _ _ log _ _
+    let made = rearms x c.args.id h holding.index holding.holds _ first.known v w c.end.new.pass.known begun c.args.objects_pass.now q arm _ _ log _ _
     holding.room holding.row took.locks entry.pass turn c.args.call c.args.reading c.requires.kind armed
     (subst (λ call. Enters c.args.objects_pass.now q h call c.enter-reply.result) c.call_of-made.ensures entry.enters)
     (entry.receipt ∙ ap (λ call. log ++ receipt_of h call ∷ []) c.call_of-made.ensures) in

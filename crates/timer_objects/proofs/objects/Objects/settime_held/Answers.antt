@@ -1,17 +1,16 @@
 use Rattle.std.proofs.Common.{ap, refl, sym, subst, ◌∙◌, [], ◌∷◌, ◌++◌}
 use Rattle.pass_names.proofs.SharedHistory.{looks_trans}
 use Rattle.base_row.specs.Logs.{LogOf}
-use Rattle.base_row.specs.Plays.{RisesFrom}
 use Rattle.base_row.specs.declared.log.Receipt.{Receipt}
 use Rattle.timer_setting.specs.Arguments.{start_by}
 use Rattle.timer_setting.specs.declared.settime_call.SettimeCall.{SettimeCall}
 use Rattle.timer_objects.specs.declared.object.Decl.{Decl}
 use Rattle.timer_objects.specs.Calls.{settime_call}
 use Rattle.timer_objects.specs.Known.{Enters, MayEnter, receipt_of}
-use Rattle.timer_objects.specs.Turns.{HasTurn, entries_counter}
+use Rattle.timer_objects.specs.Turns.{EndsTurn, HasTurn}
 use Rattle.timer_objects.specs.Valid.{SetsAnew, settime_with}
 use Rattle.timer_objects.proofs.Asking.{may_settime, replies_settime, settimes}
-use Rattle.timer_objects.proofs.Retrying.{held_up, waits_held}
+use Rattle.timer_objects.proofs.Retrying.{begins_after, held_up, waits_held}
 use Rattle.timer_objects.proofs.objects.Objects.settime_held.Goals as goal
 
 pub enter-reply-requires-clause-may : goal.enter-reply-requires-clause-may
@@ -56,21 +55,21 @@ returns-clause-made g c = λ first begun took.
     let entry = c.enter-reply.ensures in
     let holding = c.requires.holding in
     let log = c.args.object_log.now.receipts in
-    let v = c.args.pass.now.known in
     let w = c.set_anew.new.pass.known in
     let named = c.call_of-call.ensures
     ∙ (ap (λ (s : SettimeCall). settime_call c.decl-kind.result.kind s) c.with.ensures
     ∙ ap (λ (d : Decl). settime_call d.kind (settime_with c.args.valid.now arm)) c.decl-kind.ensures) in
-    let turn : HasTurn c.args.id h.stamp first.known v w c.raise.new.pass.known = record {
-      looks = took.looks;
-      found = holding.told;
-      ends = c.raise.ensures.looks;
-      enters = subst (λ n. RisesFrom (entries_counter c.args.id) n w.seen c.raise.new.pass.known.seen) c.stamp-stamp.ensures c.raise.ensures.enters;
+    let sets = subst (λ (d : Decl). SetsAnew o c.args.pass.now.known w c.args.id h.stamp (start_by s.flags s.value) d.base s.reading arm c.args.log.now.receipts
+    c.set_anew.new.log.receipts) c.decl-kind.ensures
+    (subst (λ n. SetsAnew o c.args.pass.now.known w c.args.id n (start_by s.flags s.value) c.decl-kind.result.base s.reading arm c.args.log.now.receipts
+    c.set_anew.new.log.receipts) c.stamp-stamp.ensures c.in-Some.ensures.sets) in
+    let turn : HasTurn c.args.id h.stamp first.known sets.begun w c.end.new.pass.known = record {
+      begins = begins_after took.looks sets.begins;
+      ends = subst (λ n. EndsTurn c.args.id n w c.end.new.pass.known) c.stamp-stamp.ensures c.end.ensures.ends;
     } in
-    settimes x c.args.id h holding.index holding.holds o first.known v w c.raise.new.pass.known begun c.args.objects_pass.now q arm _ _ log _ _ holding.room
-    holding.row took.locks entry.pass turn s c.settime_answer.result holding.suits holding.within c.requires.kind c.requires.valid
-    (subst (λ (d : Decl). SetsAnew o v w c.args.id (start_by s.flags s.value) d.base s.reading arm c.args.log.now.receipts c.set_anew.new.log.receipts)
-    c.decl-kind.ensures c.in-Some.ensures.sets)
+    settimes x c.args.id h holding.index holding.holds o first.known sets.begun w c.end.new.pass.known begun c.args.objects_pass.now q arm _ _ log _ _
+    holding.room holding.row took.locks entry.pass turn s c.settime_answer.result holding.suits holding.within c.requires.kind c.requires.valid sets.disarmed
+    sets.cancel_log sets.disarms sets.arms
     (subst (λ call. Enters c.args.objects_pass.now q h call c.enter-reply.result) named entry.enters)
     (entry.receipt ∙ ap (λ call. log ++ receipt_of h call ∷ []) named) c.settime_answer.ensures
 
