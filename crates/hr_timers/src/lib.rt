@@ -13,8 +13,6 @@ mod logged;
 mod moving;
 mod numbers;
 mod starting;
-#[cfg(test)]
-mod tests;
 mod timers;
 mod tokens;
 mod trying_now;

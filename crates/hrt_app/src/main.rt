@@ -2,18 +2,10 @@
 //! it, and writes a summary.
 #![tactic(auto)]
 
-mod adapters;
-mod command;
-mod engine;
-mod memory;
-mod status;
-mod stream;
 #[cfg(test)]
 mod tests;
-mod top;
-mod transfer;
 
-use adapters::Counted;
+use hrt_top::{Counted, top, words};
 use lane_run::OpenGate;
 use std::env;
 use std::process::ExitCode;
@@ -21,8 +13,8 @@ use std::process::ExitCode;
 fn main(rt: HostRuntime) -> ExitCode {
     let mut source = Counted::new(rt.stdin());
     let mut sink = Counted::new(rt.stdout());
-    let status = match command::words(rt.alloc(), env::args(&rt)) {
-        Ok(words) => top::top(&rt, &words, &mut source, &mut sink, &OpenGate),
+    let status = match words(rt.alloc(), env::args(&rt)) {
+        Ok(words) => top(&rt, &words, &mut source, &mut sink, &OpenGate),
         Err(status) => status,
     };
     if let Some(text) = status.message() {

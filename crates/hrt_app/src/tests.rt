@@ -1,13 +1,15 @@
 //! Whole runs over streams in memory: the points of the gate that a run passes.
+mod adapters;
 mod ends;
 mod generated;
 mod lanes;
 mod many_lanes;
 mod refusals;
 mod streams;
+mod transfer;
+mod words;
 
-use crate::status::Status;
-use crate::top::on_bytes;
+use hrt_top::{Status, on_bytes};
 use lane_run::{Gate, Point};
 use std::alloc::{AllocError, Global};
 use std::sync::Mutex;

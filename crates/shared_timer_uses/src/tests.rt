@@ -11,6 +11,7 @@ mod functions;
 mod greatest;
 mod of_base_row;
 mod of_clock_cell;
+mod of_hr_timers;
 mod of_ordered_clock;
 mod slack;
 mod threads;

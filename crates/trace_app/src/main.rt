@@ -1,27 +1,18 @@
 //! The program `hrt_check`: reads a kernel's trace of its timers, and says whether it is a history that the model gives.
 #![tactic(auto)]
 
-mod adapters;
-mod checking;
-mod command;
-mod status;
-mod stream;
-mod summary;
 #[cfg(test)]
 mod tests;
-mod texts;
-mod top;
-mod writing;
 
-use adapters::Counted;
 use std::env;
 use std::process::ExitCode;
+use trace_top::{Counted, top, words};
 
 fn main(rt: HostRuntime) -> ExitCode {
     let mut source = Counted::new(rt.stdin());
     let mut sink = Counted::new(rt.stdout());
-    let status = match command::words(rt.alloc(), env::args(&rt)) {
-        Ok(words) => top::top(rt.alloc(), &words, &mut source, &mut sink),
+    let status = match words(rt.alloc(), env::args(&rt)) {
+        Ok(words) => top(rt.alloc(), &words, &mut source, &mut sink),
         Err(status) => status,
     };
     if let Some(text) = status.message() {

@@ -1,8 +1,6 @@
 //! Tests of whole traces, of lines, and of streams that fail.
-use crate::adapters::Counted;
-use crate::status::Status;
-use crate::top::top;
 use std::alloc::{AllocError, Global};
+use trace_top::{Counted, Status, top};
 
 mod causes;
 mod lines;
@@ -27,5 +25,6 @@ pub fn answered(
     let mut sink = Counted::new(Vec::new(alloc));
     let words = command(alloc, words)?;
     let status = top(alloc, &words, &mut source, &mut sink);
-    Ok((status, sink.into_inner()))
+    let Counted { inner, .. } = sink;
+    Ok((status, inner))
 }

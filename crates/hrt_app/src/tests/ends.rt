@@ -1,9 +1,7 @@
 //! How a run ends whose source or sink fails or moves few bytes a call: its status, what was written, how often each stream was called, and
 //! its count of faults.
 use super::{ONE_SHOT, ONE_SHOT_RECORD, run_words};
-use crate::memory::{BytesSink, BytesSource};
-use crate::status::Status;
-use crate::top::top;
+use hrt_top::{BytesSink, BytesSource, Status, top};
 use lane_run::OpenGate;
 use std::sync::Wait;
 use std::test::Fail;

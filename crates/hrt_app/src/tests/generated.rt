@@ -1,8 +1,6 @@
 //! Scripts that are made from a number: the summary that is written, and that nothing is read for it.
 use super::command;
-use crate::memory::{BytesSink, BytesSource};
-use crate::status::Status;
-use crate::top::top;
+use hrt_top::{BytesSink, BytesSource, Status, top};
 use lane_run::OpenGate;
 use std::alloc::AllocError;
 use std::sync::Wait;

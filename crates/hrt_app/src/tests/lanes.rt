@@ -1,7 +1,6 @@
 //! Runs of two or three lanes, whose order a gate forces: what calls that meet answer, and that lanes run beside each other.
 use super::run_words;
-use crate::status::Status;
-use crate::top::on_bytes;
+use hrt_top::{Status, on_bytes};
 use lane_run::{Gate, Point};
 use std::sync::Wait;
 use std::sync::atomic::{AtomicBool, AtomicUsize, Ordering};

@@ -1,7 +1,6 @@
 //! Runs of sixteen lanes that all meet: each is held, before its first call or in its callback, until all have come so far.
 use super::run_words;
-use crate::status::Status;
-use crate::top::on_bytes;
+use hrt_top::{Status, on_bytes};
 use lane_run::{Gate, Point};
 use std::alloc::{AllocError, Global};
 use std::sync::Wait;

@@ -1,8 +1,7 @@
 //! Bytes that no script has: each is refused by its first line that isn't read and the first cause against that.
 use super::ends::{first_other, reading, refused};
 use super::run_words;
-use crate::status::Status;
-use crate::top::on_bytes;
+use hrt_top::{Status, on_bytes};
 use lane_run::OpenGate;
 use std::alloc::{AllocError, Global};
 use std::sync::Wait;

@@ -2,10 +2,7 @@
 ghost use Rattle.std.specs.Prelude.{None};
 
 use super::{ONE_SHOT, ONE_SHOT_RECORD, run_words};
-use crate::memory::{BytesSink, BytesSource};
-use crate::status::Status;
-use crate::stream::{Failed, Source};
-use crate::top::top;
+use hrt_top::{BytesSink, BytesSource, Failed, Source, Status, top};
 use lane_run::OpenGate;
 use std::test::Fail;
 

@@ -1,7 +1,7 @@
 //! Each cause, by a short trace; and short traces that fit.
 use super::answered;
-use crate::status::Status;
 use std::test::Fail;
+use trace_top::Status;
 
 /// A trace, how the program ends for it, and what it writes.
 type Case = (&'static str, Status, &'static str);

@@ -1,10 +1,10 @@
 //! Lines as tracefs, `trace-cmd` and `perf` print them, and lines that can't be read.
 use super::answered;
-use crate::status::Status;
 use ktime::ClockId;
 use seq_timer::Context;
 use std::test::Fail;
 use trace_text::{KernelEvent, Site, read_line};
+use trace_top::Status;
 
 const READ: [(&str, Option<KernelEvent>); 10] = [
     (

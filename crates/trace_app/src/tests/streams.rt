@@ -1,10 +1,8 @@
 //! Words that ask for nothing, and streams that fail.
 use super::{answered, command};
-use crate::adapters::Counted;
-use crate::status::Status;
-use crate::top::top;
 use std::io::{self, Read, Write};
 use std::test::Fail;
+use trace_top::{Counted, Status, top};
 
 /// A stream of std whose every call is an error.
 #[derive(Drop)]
@@ -48,7 +46,7 @@ fn streams_that_fail_have_statuses_of_their_own(rt: HostRuntime) -> Result<(), F
     let mut sink = Counted::new(Vec::new(rt.alloc()));
     let status = top(rt.alloc(), &words, &mut Counted::new(Broken), &mut sink);
     assert_eq!(rt; status, Status::ReadFault);
-    assert!(rt; sink.into_inner().is_empty());
+    assert!(rt; sink.inner.is_empty());
     let mut source = Counted::new(b"".as_slice());
     let status = top(rt.alloc(), &words, &mut source, &mut Counted::new(Broken));
     assert_eq!(rt; status, Status::WriteFault);

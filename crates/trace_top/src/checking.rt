@@ -1,0 +1,53 @@
+//! Checks the text of a source.
+ghost use Rattle.std.specs.Prelude.{◌≡◌, ◌≤◌, ◌++◌, List, ℕ, IfOk, OnOk, IsErrOf};
+ghost use Rattle.std.specs.Io.KnownBytes.{Consumes};
+ghost use Rattle.trace_top.specs.Checking.{IsAnswered};
+ghost use Rattle.trace_read.specs.Lines.{verdict_on};
+ghost use Rattle.trace_read.specs.Readers.{Stands};
+ghost use Rattle.trace_top.specs.Streams.{Rose};
+ghost use Rattle.trace_top.specs.declared.checking.CheckFault.TheVariants.{OutOfMemory};
+
+use crate::stream::Source;
+use std::alloc::AllocError;
+use trace_read::{Reader, Verdict};
+
+/// The most bytes that one read of a source asks for.
+const CHUNK: usize = 65536;
+
+/// Why a text wasn't checked.
+#[derive(Clone, Copy, Debug, PartialEq, Eq)]
+pub enum CheckFault {
+    Failed,
+    OutOfMemory,
+}
+
+impl From<AllocError> for CheckFault {
+    ghost from_gives = { λ _ e. e ≡ OutOfMemory };
+
+    fn from(_: AllocError) -> Self {
+        CheckFault::OutOfMemory
+    }
+}
+
+/// Reads a source until its text can be answered: to its end, or to a line that can't be read or with which no history shows the lines so far.
+pub fn check<S: Source>(reader: &mut Reader, source: &mut S) -> Result<Verdict, CheckFault>
+    requires new { Stands reader.old verdict_on }
+    ensures read { IfOk result (λ verdict. IsAnswered (S.left source.old) (S.left source.new) verdict) }
+    ensures ok { OnOk result (S.faults source.new ≡ S.faults source.old) }
+    ensures failed { IsErrOf result CheckFault.Failed → Rose (S.faults source.old) (S.faults source.new) }
+    ensures later { S.faults source.old ≤ S.faults source.new }
+{
+    let mut buf = [0u8; CHUNK];
+    for _ in 0..u64::MAX {
+        match source.read(&mut buf) {
+            Ok(0) => return Ok(reader.end()?),
+            Ok(n) => {
+                if let Some(verdict) = reader.take(&buf[..n])? {
+                    return Ok(verdict);
+                }
+            }
+            Err(_) => return Err(CheckFault::Failed),
+        }
+    }
+    Err(CheckFault::OutOfMemory)
+}

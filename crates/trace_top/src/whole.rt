@@ -1,0 +1,91 @@
+//! All that the program does, over the streams that it is handed.
+ghost use Rattle.std.specs.Prelude.{◌≡◌, ◌≤◌, ◌⊎◌, Some, None, IfOk, IfSome, string_bytes};
+ghost use Rattle.trace_top.specs.Checking.{HasAnswered, HasFitted, HasRefused, IsAnswer, MayEnd, MustAnswer};
+ghost use Rattle.trace_top.specs.Command.{asked_by};
+ghost use Rattle.trace_top.specs.Streams.{Rose};
+
+use crate::checking::{CheckFault, check};
+use crate::command::{Asked, asks};
+use crate::status::Status;
+use crate::stream::{Failed, Sink, Source};
+use crate::summary::{line, table};
+use crate::texts::text_of;
+use crate::writing::write_all;
+use std::alloc::{AllocError, Global};
+use trace_read::{Reader, Verdict};
+
+/// Does what the words ask for, the program's name first: checks the trace of the source, and writes to the sink that it fits, or the first line that
+/// can't be read or with which no history shows the lines so far.
+#[tactic(auto, using(crate::proofs::Endings::must_answer))]
+pub fn top<S: Source, K: Sink>(
+    alloc: Global,
+    words: &[String],
+    source: &mut S,
+    sink: &mut K,
+) -> Status
+    ensures usage { result ≡ Status.Usage → asked_by words.now ≡ None }
+    ensures untouched { asked_by words.now ≡ None → (result ≡ Status.Usage) × (source.new ≡ source.old) × (sink.new ≡ sink.old) }
+    ensures fits { result ≡ Status.Fits → HasAnswered (S.left source.old) (S.left source.new) result }
+    ensures told { result ≡ Status.Fits → asked_by words.now ≡ Some Asked.Line → HasFitted (S.left source.old) (S.left source.new) (K.taken sink.old) (K.taken sink.new) }
+    ensures refused { (result ≡ Status.Refused) ⊎ (result ≡ Status.Unreadable) → HasRefused (S.left source.old) (S.left source.new) (K.taken sink.old) (K.taken sink.new) result }
+    ensures read_fault { result ≡ Status.ReadFault → Rose (S.faults source.old) (S.faults source.new) }
+    ensures write_fault { result ≡ Status.WriteFault → Rose (K.faults sink.old) (K.faults sink.new) }
+    ensures unwritten { (result ≡ Status.ReadFault) ⊎ (result ≡ Status.OutOfMemory) → sink.new ≡ sink.old }
+    ensures complete { (asked_by words.now ≡ None → ⊥) → (Rose (S.faults source.old) (S.faults source.new) → ⊥) → (Rose (K.faults sink.old) (K.faults sink.new) → ⊥) → IfSome (S.left source.old) (λ bytes. MustAnswer bytes result) }
+    ensures source_later { S.faults source.old ≤ S.faults source.new }
+    ensures sink_later { K.faults sink.old ≤ K.faults sink.new }
+{
+    match asks(words) {
+        Some(asked) => run(alloc, asked, source, sink),
+        None => Status::Usage,
+    }
+}
+
+/// Checks the trace of the source, and writes the answer to the sink.
+fn run<S: Source, K: Sink>(alloc: Global, asked: Asked, source: &mut S, sink: &mut K) -> Status
+    ensures used { result ≡ Status.Usage → ⊥ }
+    ensures fits { result ≡ Status.Fits → HasAnswered (S.left source.old) (S.left source.new) result }
+    ensures told { result ≡ Status.Fits → asked ≡ Asked.Line → HasFitted (S.left source.old) (S.left source.new) (K.taken sink.old) (K.taken sink.new) }
+    ensures refused { (result ≡ Status.Refused) ⊎ (result ≡ Status.Unreadable) → HasRefused (S.left source.old) (S.left source.new) (K.taken sink.old) (K.taken sink.new) result }
+    ensures read_fault { result ≡ Status.ReadFault → Rose (S.faults source.old) (S.faults source.new) }
+    ensures write_fault { result ≡ Status.WriteFault → Rose (K.faults sink.old) (K.faults sink.new) }
+    ensures unwritten { (result ≡ Status.ReadFault) ⊎ (result ≡ Status.OutOfMemory) → sink.new ≡ sink.old }
+    ensures complete { (Rose (S.faults source.old) (S.faults source.new) → ⊥) → (Rose (K.faults sink.old) (K.faults sink.new) → ⊥) → IfSome (S.left source.old) (λ bytes. MayEnd bytes result) }
+    ensures source_later { S.faults source.old ≤ S.faults source.new }
+    ensures sink_later { K.faults sink.old ≤ K.faults sink.new }
+{
+    let mut reader = Reader::new(alloc);
+    let verdict = match check(&mut reader, source) {
+        Ok(verdict) => verdict,
+        Err(CheckFault::Failed) => return Status::ReadFault,
+        Err(CheckFault::OutOfMemory) => return Status::OutOfMemory,
+    };
+    let Ok(text) = answer(alloc, asked, verdict, &reader) else {
+        return Status::OutOfMemory;
+    };
+    match write_all(sink, text.as_bytes()) {
+        Ok(()) => Status::of(verdict),
+        Err(Failed) => Status::WriteFault,
+    }
+}
+
+/// What is written for a verdict.
+fn answer(
+    alloc: Global,
+    asked: Asked,
+    verdict: Verdict,
+    reader: &Reader,
+) -> Result<String, AllocError>
+    ensures { IfOk result (λ t. IsAnswer asked verdict (string_bytes t)) }
+{
+    match verdict {
+        Verdict::Fits { events } => {
+            let mut text = line(alloc, events, reader.tally())?;
+            if asked == Asked::Summary {
+                table(alloc, reader.tally(), &mut text)?;
+            }
+            Ok(text)
+        }
+        _ => text_of(alloc, verdict),
+    }
+}
