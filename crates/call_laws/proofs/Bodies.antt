@@ -46,11 +46,11 @@ use Rattle.script_text.specs.declared.script.Callback.{Callback}
 use Rattle.script_text.specs.declared.script.Kind.TheVariants as kinds
 use Rattle.script_text.specs.declared.script.Script.{Script}
 use Rattle.lane_notes.specs.Entries.{look_noted}
-use Rattle.run_history.specs.Calls.{IsBody}
+use Rattle.run_history.specs.Deeds.{IsBody}
+use Rattle.run_history.specs.Truths.{WasOffLine}
 use Rattle.run_history.specs.Receipts.{count}
 use Rattle.run_history.specs.Promises.{GoesOn}
 use Rattle.run_history.specs.Runs.{witness_of, Ending, IsJoined}
-use Rattle.run_history.specs.Truths.{WasOffLine}
 use Rattle.run_history.specs.Witnesses.{TimersList}
 use Rattle.lane_world.proofs.SeenMore.{begins_same, count_begins}
 use Rattle.lane_world.specs.Worlds.{callback_of, opening_for}

@@ -43,12 +43,12 @@ use Rattle.hr_timers.proofs.Moments.{timer_own}
 use Rattle.script_text.specs.Declarations.{declared_of, declareds_of, terms_of}
 use Rattle.script_text.specs.declared.script.Call.{Call}
 use Rattle.script_text.specs.declared.script.Script.{Script}
-use Rattle.run_history.specs.Calls.{KeepsExpiries, evacuates}
+use Rattle.run_history.specs.Deeds.{KeepsExpiries, evacuates}
+use Rattle.run_history.specs.Truths.{IsFront, WasFront}
 use Rattle.run_history.specs.Histories.{history_of, lines_of_timer, timer_after}
 use Rattle.run_history.specs.Promises.{GoesOn}
 use Rattle.run_history.specs.Receipts.{PlacedEntry}
 use Rattle.run_history.specs.Runs.{Ending, IsJoined, witness_of}
-use Rattle.run_history.specs.Truths.{IsFront, WasFront}
 use Rattle.run_history.specs.Witnesses.{Evacuation, TimersList, Witness}
 use Rattle.run_history.proofs.OwnHistories.{entries_on, history_shown, own_entry}
 use Rattle.lane_world.specs.Called.{LaneOf}

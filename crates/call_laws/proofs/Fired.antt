@@ -40,11 +40,11 @@ use Rattle.run_history.specs.Objects.{present}
 use Rattle.script_text.specs.declared.script.Kind.{Kind}
 use Rattle.script_text.specs.declared.script.Script.{Script}
 use Rattle.lane_notes.specs.Entries.{entry_notes, look_notes, entry_note, look_note}
-use Rattle.run_history.specs.Calls.{fires}
+use Rattle.run_history.specs.Deeds.{fires}
+use Rattle.run_history.specs.Truths.{WasOffLine}
 use Rattle.run_history.specs.Witnesses.{Fired, OfTimer, TimersList}
 use Rattle.run_history.specs.Receipts.{PlacedEntry}
 use Rattle.run_history.specs.Runs.{witness_of, Ending, IsJoined}
-use Rattle.run_history.specs.Truths.{WasOffLine}
 use Rattle.run_history.proofs.Expires.{claim_of, finish_of, HaveRun, run_push}
 use Rattle.run_history.proofs.Known.{made_goes_on}
 use Rattle.run_history.proofs.Reached.{body_wider, was_wider}

@@ -26,3 +26,4 @@ pub mod Starts
 pub mod SeenOff
 pub mod Evacuated
 pub mod OffLine
+pub mod EachCall

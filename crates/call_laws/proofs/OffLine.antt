@@ -47,10 +47,11 @@ use Rattle.script_text.specs.declared.script.Call.TheVariants as calls
 use Rattle.script_text.specs.declared.script.Script.{Script}
 use Rattle.run_history.specs.Actions.{Shifted}
 use Rattle.run_history.specs.Receipts.{PlacedEntry}
-use Rattle.run_history.specs.Calls.{Does, evacuates}
+use Rattle.run_history.specs.Calls.{Does, AnswerHolds}
+use Rattle.run_history.specs.Deeds.{evacuates}
+use Rattle.run_history.specs.Truths.{MayGo, RunsNone, WasOffLine}
 use Rattle.run_history.specs.Runs.{Ending, IsJoined, witness_of}
 use Rattle.run_history.specs.Promises.{GoesOn}
-use Rattle.run_history.specs.Truths.{AnswerHolds, MayGo, RunsNone, WasOffLine}
 use Rattle.run_history.specs.Witnesses.{Evacuation, Trace, standing_along, timer_along}
 use Rattle.run_history.proofs.OffLineMade.{evacuating, offline_made, online_made, shift_by}
 use Rattle.run_history.proofs.OthersMade.{plain}

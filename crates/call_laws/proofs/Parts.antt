@@ -57,11 +57,11 @@ use Rattle.seq_timer.specs.declared.event.Reply.TheVariants as replies
 use Rattle.script_text.specs.Declarations.{kind_of}
 use Rattle.script_text.specs.declared.script.Script.{Script}
 use Rattle.lane_notes.specs.Entries.{look_noted}
-use Rattle.run_history.specs.Calls.{IsBody}
+use Rattle.run_history.specs.Deeds.{IsBody}
+use Rattle.run_history.specs.Truths.{WasOffLine}
 use Rattle.run_history.specs.Witnesses.{Fired, OfTimer, Shown, TimersList}
 use Rattle.run_history.specs.Promises as promises
 use Rattle.run_history.specs.Runs.{witness_of, Ending, IsJoined}
-use Rattle.run_history.specs.Truths.{WasOffLine}
 use Rattle.run_history.proofs.Expires.{ReplyHolds}
 use Rattle.lane_world.proofs.PartLists.{rises_none}
 

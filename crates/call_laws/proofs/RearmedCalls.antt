@@ -33,7 +33,7 @@ use Rattle.record_text.specs.declared.record.ReadReply.TheVariants as reads
 use Rattle.record_text.specs.declared.record.ReadReply.{ReadReply}
 use Rattle.run_history.specs.FdHistories.{fd_arm, read_answer_of}
 use Rattle.run_history.specs.Histories.{reading_at}
-use Rattle.run_history.specs.ObjectCalls.{DoesGettime}
+use Rattle.run_history.specs.Calls.{IsFd}
 use Rattle.script_text.specs.Declarations.{base_of, kind_of}
 use Rattle.run_history.specs.PosixHistories.{accept_answer_of, posix_arm}
 use Rattle.script_text.specs.declared.script.Call.TheVariants as calls
@@ -195,9 +195,7 @@ pub keeps_gettime-fd : {s : Script} {x : WorldOf} {l m : LaneOf} {a : Answer} {t
 keeps_gettime-fd {s = s} {l = l} {m = m} {timer = timer} next kind (gettimes.Spent n) c =
     subst (λ b. KeepsCall s l (calls.Gettime timer) b m) (sym c.does.1)
     (keeps_full next (answers.Spent n) timer n c.does.0 (clock_left c.reads.same) c.notes
-    (λ e. let last = length m.pass.timers.known.seen in
-    subst (λ k. DoesGettime (WasOffLine (witness_of s e) last last) s.limit k timer (length (writes m.pass.clock.knows)) (answers.Spent n) [])
-    (sym kind) refl) (λ e saw. saw))
+    (λ e. (refl, subst IsFd (sym kind) tt)) (λ e saw. saw))
 keeps_gettime-fd {s = s} {l = l} {m = m} {timer = timer} {base = base} next kind (gettimes.Left left interval stamp) c =
     subst (λ b. KeepsCall s l (calls.Gettime timer) b m) (sym c.does.1)
     (keeps_rearming next c c.does.0.0 (λ arm. object_entries.Gettime c.reading.stamp arm left interval) refl refl

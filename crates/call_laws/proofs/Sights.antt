@@ -11,11 +11,11 @@ use Rattle.timer_objects.specs.declared.log.ObjectReceipt.{ObjectReceipt}
 use Rattle.record_text.specs.declared.record.Answer.{Answer}
 use Rattle.script_text.specs.declared.script.Call.{Call}
 use Rattle.script_text.specs.declared.script.Script.{Script}
-use Rattle.run_history.specs.Calls.{Does}
+use Rattle.run_history.specs.Calls.{Does, AnswerHolds}
+use Rattle.run_history.specs.Truths.{SawFull, WasOffLine}
 use Rattle.run_history.specs.Witnesses.{Trace}
 use Rattle.run_history.specs.Promises.{HasLog}
 use Rattle.run_history.specs.Runs.{witness_of, Ending, IsJoined}
-use Rattle.run_history.specs.Truths.{AnswerHolds, SawFull, WasOffLine}
 use Rattle.call_laws.proofs.ObjectTurns.{entries_had}
 use Rattle.run_history.proofs.OthersMade.{plain, quiet_made}
 use Rattle.lane_world.specs.Called.{lane_caller, LaneOf, with_done}

@@ -33,7 +33,7 @@ use Rattle.run_history.specs.Histories.{reading_at}
 use Rattle.script_text.specs.Declarations.{kind_of}
 use Rattle.script_text.specs.declared.script.Script.{Script}
 use Rattle.lane_notes.specs.Objects.{object_entry_noted, skip_generation}
-use Rattle.run_history.specs.Calls.{IsBody, IsTrigger}
+use Rattle.run_history.specs.Deeds.{IsBody, IsTrigger}
 use Rattle.run_history.specs.Witnesses.{Fired}
 use Rattle.run_history.specs.Witnesses.{TimersList}
 use Rattle.lane_world.specs.Runs.{ObjectMove}

@@ -31,7 +31,7 @@ use Rattle.record_text.specs.declared.record.Armed.TheVariants as armings
 use Rattle.run_history.specs.Actions.{Action, Began, Entered, Looked, Made, Shifted, Skipped, Wrote, also, entered, own}
 use Rattle.run_history.specs.Histories.{answers_of, history_from, history_of, lines_of_timer, reading_at}
 use Rattle.script_text.specs.Declarations.{declared_of, terms_of, kind_of, asked_slack, without_slack}
-use Rattle.run_history.specs.ObjectCalls.{Arms, DoesAccept, DoesGettime, DoesRead, DoesSettime, MakesRearming, MakesSettime, cancels}
+use Rattle.run_history.specs.ObjectCalls.{Arms, MakesRearming, MakesSettime, cancels}
 use Rattle.run_history.specs.Order.{CallInRound, IsLabel, calls_from, calls_of, is_label}
 use Rattle.script_text.specs.Scripts.{IsInRange, all_calls}
 use Rattle.script_text.specs.VersionOne.{IsHardCall}
@@ -49,7 +49,8 @@ use Rattle.script_text.specs.declared.script.LaneCall.{LaneCall}
 use Rattle.script_text.specs.declared.script.Round.{Round}
 use Rattle.script_text.specs.declared.script.Script.{Script}
 use Rattle.script_text.specs.declared.script.StartRequest.{StartRequest}
-use Rattle.run_history.specs.Calls.{Does, IsBody, IsExpiryRun, fires}
+use Rattle.run_history.specs.Calls.{call_row}
+use Rattle.run_history.specs.Deeds.{Cancels, Deed, Did, Evacuates, IsBody, IsExpiryRun, Never, Nothing, Rearms, Runs, Sets, Shifts, Starts, Where, Writes, fires}
 use Rattle.run_history.specs.Witnesses.{Evacuation, Fired}
 use Rattle.fit_laws.specs.EachTimer.{FitsTimers, HasTimers}
 use Rattle.run_history.specs.Fits.{Fits}
@@ -146,6 +147,29 @@ CallAsksNone (calls.Start timer request) = asked_slack request ≡ 0
 CallAsksNone (calls.Offline base heir budget) = ⊥
 CallAsksNone other = Unit {0}
 
+-- so what a call did asks for none
+abbrev DeedAsksNone : Deed → Type 0
+DeedAsksNone (Starts timer request generation on was_armed) = asked_slack request ≡ 0
+DeedAsksNone (Evacuates heir count end IsCount) = ⊥
+DeedAsksNone (Where did IsSo) = DeedAsksNone did
+DeedAsksNone did = Unit {0}
+
+row_none : (s : Script) (reading : ℕ) (call : Call) (answer : Answer) → CallAsksNone call → DeedAsksNone (call_row s reading call answer).did
+row_none s reading (calls.Start timer request) (answers.Started generation on was_armed) none = none
+row_none s reading (calls.Offline base heir budget) answer none = absurd none
+row_none s reading (calls.Cancel timer) (answers.Idle stamp) none = tt
+row_none s reading (calls.Peek timer) (answers.Idle stamp) none = tt
+row_none s reading (calls.Expire context base budget) (answers.Idle stamp) none = tt
+row_none s reading (calls.Clock write) (answers.Idle stamp) none = tt
+row_none s reading (calls.Settime timer flags value interval) (answers.Idle stamp) none = tt
+row_none s reading (calls.Gettime timer) (answers.Idle stamp) none = tt
+row_none s reading (calls.Accept timer) (answers.Idle stamp) none = tt
+row_none s reading (calls.Overrun timer) (answers.Idle stamp) none = tt
+row_none s reading (calls.Read timer len) (answers.Idle stamp) none = tt
+row_none s reading (calls.Readable timer) (answers.Idle stamp) none = tt
+row_none s reading (calls.Online base) (answers.Idle stamp) none = tt
+row_none s reading call answer none = tt
+
 -- what the calls of a script did, by what they saw of bases off line
 module _ (Reached : ℕ → ℕ → Type 0) (s : Script) where
   arms_none : (timer ns reading base : ℕ) (mode : Mode) (arm : Armed) (start : List Action) → Arms Reached s.limit timer mode ns reading base arm start
@@ -174,38 +198,6 @@ module _ (Reached : ℕ → ℕ → Type 0) (s : Script) where
   rearming_made_none makes =
       subst AllNone (sym makes.done) (tt, none-append makes.start _ (arms_none _ _ _ _ _ makes.arm makes.start makes.arms) (tt, tt))
 
-  settime_none : (kind : Kind) (timer flags : ℕ) (value interval : TimeSpec) (reading : ℕ) (answer : Answer) (actions : List Action)
-      → DoesSettime Reached s.limit kind timer flags value interval reading answer actions → AllNone actions
-  settime_none kind timer flags value interval reading answers.Invalid actions does = nothing_none actions does.0
-  settime_none kind timer flags value interval reading (answers.Spent stamp) actions does = nothing_none actions does.0
-  settime_none kind timer flags value interval reading (answers.Old left old) actions does = settime_made_none does
-  settime_none kind timer flags value interval reading answers.Canceled actions does = settime_made_none does
-  settime_none kind timer flags value interval reading (answers.Unarmed stamp) actions does = settime_made_none does
-  settime_none kind timer flags value interval reading answer actions does = absurd does
-
-  gettime_none : (kind : Kind) (timer reading : ℕ) (answer : Answer) (actions : List Action)
-      → DoesGettime Reached s.limit kind timer reading answer actions → AllNone actions
-  gettime_none (kinds.Posix base) timer reading (answers.LeftAt left interval shown stamp) actions does = nothing_none actions does.0
-  gettime_none (kinds.Fd base) timer reading (answers.Left left interval) actions does = rearming_made_none does
-  gettime_none (kinds.Fd base) timer reading (answers.Spent stamp) actions does = nothing_none actions does
-  gettime_none kind timer reading answer actions does = absurd does
-
-  accept_none : (kind : Kind) (timer reading : ℕ) (answer : Answer) (actions : List Action) → DoesAccept Reached s.limit kind timer reading answer actions
-      → AllNone actions
-  accept_none kind timer reading (answers.Accepted overrun) actions does = rearming_made_none does
-  accept_none kind timer reading answers.NoSignal actions does = rearming_made_none does
-  accept_none kind timer reading (answers.Spent stamp) actions does = nothing_none actions does
-  accept_none kind timer reading answer actions does = absurd does
-
-  read_none : (kind : Kind) (timer len reading : ℕ) (answer : Answer) (actions : List Action)
-      → DoesRead Reached s.limit kind timer len reading answer actions → AllNone actions
-  read_none kind timer len reading answers.Invalid actions does = nothing_none actions does.0
-  read_none kind timer len reading (answers.Spent stamp) actions does = nothing_none actions does.0
-  read_none kind timer len reading (answers.Count total) actions does = rearming_made_none does.1
-  read_none kind timer len reading answers.Again actions does = rearming_made_none does.1
-  read_none kind timer len reading answers.Canceled actions does = rearming_made_none does.1
-  read_none kind timer len reading answer actions does = absurd does
-
   -- a callback that starts its timer asks for no slack
   body_none : (kind : Kind) (reading : ℕ) (f : Fired) → IsBody Reached s.limit kind reading f → AllNone f.body
   body_none (kinds.Raw context callbacks.Once) reading f is = nothing_none f.body is.0
@@ -232,31 +224,20 @@ module _ (Reached : ℕ → ℕ → Type 0) (s : Script) where
       → IsExpiryRun Reached s context reading base fired shown timers actions → AllNone actions
   run_none {reading = reading} {base = base} {fired = fired} run = subst AllNone (sym run.done) (fired_none base reading fired run.bodies)
 
-  pub does_none : (reading : ℕ) (call : Call) (answer : Answer) (fired : List Fired) (moved : List Evacuation) (actions : List Action) → CallAsksNone call
-      → Does Reached s reading call answer fired moved actions → AllNone actions
-  does_none reading (calls.Start timer request) (answers.Started generation on was) fired moved actions none does =
-      subst AllNone (sym does.1) (start_none timer reading request does.0 none)
-  does_none reading (calls.Start timer request) (answers.Spent stamp) fired moved actions none does = nothing_none actions does
-  does_none reading (calls.Cancel timer) (answers.Cancelled generation) fired moved actions none does = subst AllNone (sym does.1) (tt, tt)
-  does_none reading (calls.Cancel timer) (answers.Running generation stamp) fired moved actions none does = nothing_none actions does
-  does_none reading (calls.Cancel timer) (answers.Idle stamp) fired moved actions none does = nothing_none actions does
-  does_none reading (calls.Peek timer) (answers.Peek stamp base enqueued running moving) fired moved actions none does = nothing_none actions does
-  does_none reading (calls.Expire context base budget) (answers.Done shown timers) fired moved actions none does = run_none does.0
-  does_none reading (calls.Expire context base budget) (answers.More shown timers) fired moved actions none does = run_none does.0
-  does_none reading (calls.Expire context base budget) (answers.Busy shown timers timer generation) fired moved actions none does = run_none does.0
-  does_none reading (calls.Clock write) (answers.Clock stamp) fired moved actions none does = subst AllNone (sym does) (tt, tt)
-  does_none reading (calls.Clock write) (answers.Range would_be) fired moved actions none does = nothing_none actions does
-  does_none reading (calls.Settime timer flags value interval) answer fired moved actions none does =
-      settime_none (kind_of s timer) timer flags value interval reading answer actions does
-  does_none reading (calls.Gettime timer) answer fired moved actions none does = gettime_none (kind_of s timer) timer reading answer actions does
-  does_none reading (calls.Accept timer) answer fired moved actions none does = accept_none (kind_of s timer) timer reading answer actions does
-  does_none reading (calls.Overrun timer) (answers.Overrun overrun stamp) fired moved actions none does = nothing_none actions does
-  does_none reading (calls.Read timer len) answer fired moved actions none does = read_none (kind_of s timer) timer len reading answer actions does
-  does_none reading (calls.Readable timer) (answers.Readable ready shown stamp) fired moved actions none does = nothing_none actions does.0
-  does_none reading (calls.Offline base heir budget) answer fired moved actions none does = absurd none
-  does_none reading (calls.Online base) (answers.Online stamp) fired moved actions none does = subst AllNone (sym does) (tt, tt)
-  does_none reading (calls.Online base) (answers.Already stamp) fired moved actions none does = nothing_none actions does
-  does_none reading call answer fired moved actions none does = absurd does
+  did_none : (reading : ℕ) (did : Deed) (fired : List Fired) (moved : List Evacuation) (actions : List Action) → DeedAsksNone did
+      → Did Reached s reading did fired moved actions → AllNone actions
+  did_none reading Never fired moved actions none did = absurd did
+  did_none reading Nothing fired moved actions none did = nothing_none actions did
+  did_none reading (Starts timer request generation on was_armed) fired moved actions none did =
+      subst AllNone (sym did.1) (start_none timer reading request did.0 none)
+  did_none reading (Cancels timer generation) fired moved actions none did = subst AllNone (sym did.1) (tt, tt)
+  did_none reading (Writes stamp write) fired moved actions none did = subst AllNone (sym did) (tt, tt)
+  did_none reading (Runs context base shown timers IsCount) fired moved actions none did = run_none did.0
+  did_none reading (Sets timer flags value interval reply) fired moved actions none did = settime_made_none did
+  did_none reading (Rearms timer entry) fired moved actions none did = rearming_made_none did
+  did_none reading (Evacuates heir count end IsCount) fired moved actions none did = absurd none
+  did_none reading (Shifts base stamp event) fired moved actions none did = subst AllNone (sym did) (tt, tt)
+  did_none reading (Where rest IsSo) fired moved actions none did = did_none reading rest fired moved actions none did.0
 
 -- ---- the record
 
@@ -300,8 +281,8 @@ timer_none s r has none t =
         let a = found (answers_of r c.lane) c.call (subst (λ n. c.call < n) (sym (has.answered c.lane)) is) in
         let fits : FitsTimers s r c p.0.call a.0 = has.calls c.lane c.call p.0 a.0 p.1 a.1 in
         subst (λ xs. AllByRecursion (λ (x : ℕ × Entry). AsksNone x.1) xs) (sym (fits.entered t))
-        (entered_none t fits.actions (does_none (λ base heir. Unit {0}) s fits.at p.0.call a.0 fits.fired fits.moved fits.actions
-        (none c.lane c.call p.0 p.1) fits.does))
+        (entered_none t fits.actions (did_none (λ base heir. Unit {0}) s fits.at (call_row s fits.at p.0.call a.0).did fits.fired fits.moved fits.actions
+        (row_none s fits.at p.0.call a.0 (none c.lane c.call p.0 p.1)) fits.does))
 
 -- law: the record of a script whose calls ask for no slack has none
 pub none_recorded : (s : Script) (r : RunRecord) → HasTimers s r → NoneAsked s → HasNoSlack r
@@ -311,18 +292,8 @@ none_recorded s r has none = all_lists HaveNoSlack r.timers (λ t. timer_none s 
 
 hard_none : (call : Call) → IsHardCall call → CallAsksNone call
 hard_none (calls.Start timer request) hard = ap (λ slack. unwrap_or slack 0) hard
-hard_none (calls.Cancel timer) hard = tt
-hard_none (calls.Peek timer) hard = tt
-hard_none (calls.Expire context base budget) hard = tt
-hard_none (calls.Clock write) hard = tt
-hard_none (calls.Settime timer flags value interval) hard = tt
-hard_none (calls.Gettime timer) hard = tt
-hard_none (calls.Accept timer) hard = tt
-hard_none (calls.Overrun timer) hard = tt
-hard_none (calls.Read timer len) hard = tt
-hard_none (calls.Readable timer) hard = tt
 hard_none (calls.Offline base heir budget) hard = absurd hard
-hard_none (calls.Online base) hard = absurd hard
+hard_none call hard = tt
 
 -- these calls, in a round
 abbrev in_round : ℕ → List LaneCall → List CallInRound

@@ -23,7 +23,8 @@ use Rattle.run_history.specs.Told.{observed}
 use Rattle.run_history.specs.Histories.{answers_of, clock_labels, history_of, lines_of_timer, reading_at, timer_after, timer_labels}
 use Rattle.script_text.specs.Declarations.{declared_of, terms_of}
 use Rattle.run_history.specs.Order.{CallInRound, calls_of, IsInOrder, IsLabel, IsPoint}
-use Rattle.run_history.specs.Calls.{AllKeepExpiries, Does}
+use Rattle.run_history.specs.Calls.{Does}
+use Rattle.run_history.specs.Deeds.{AllKeepExpiries}
 use Rattle.run_history.specs.Witnesses.{Evacuation, Fired}
 
 -- a number of a timer's entries is one that the call, having done so much, may have seen

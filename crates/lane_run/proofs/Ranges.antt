@@ -18,8 +18,10 @@ use Rattle.script_text.specs.declared.script.Kind.TheVariants as kinds
 use Rattle.script_text.specs.declared.script.LaneCall.{LaneCall}
 use Rattle.script_text.specs.declared.script.Round.{Round}
 use Rattle.script_text.specs.declared.script.Script.{Script}
-use Rattle.script_text.specs.Scripts.{IsCallInRange, IsInRange, HasTimerFor, all_calls}
-use Rattle.lane_world.specs.Worlds.{CanCall, IsWorldOf, WorldOf, decl_of}
+use Rattle.script_text.specs.Scripts.{IsInRange, all_calls}
+use Rattle.script_text.specs.CallLines.{IsCallInRange, HasTimerFor}
+use Rattle.lane_world.specs.Called.{CanCall}
+use Rattle.lane_world.specs.Worlds.{IsWorldOf, WorldOf, decl_of}
 use Rattle.lane_run.proofs.Making.{whole_of}
 use Rattle.lane_world.proofs.Declared.{declared_over, over_of}
 use Rattle.hr_timers.specs.Known.{IsEvacuable}

@@ -1,7 +1,7 @@
 //! The calls that take bases off line and on line again. The first lane makes them, by the first passes.
 ghost use Rattle.std.specs.Prelude.{◌≡◌, ◌≤◌, ◌<◌, [], IfOk, OnOk};
 ghost use Rattle.hr_timers.specs.Known.{IsEvacuable};
-ghost use Rattle.script_text.specs.Scripts.{most_budget};
+ghost use Rattle.script_text.specs.CallLines.{most_budget};
 ghost use Rattle.lane_world.specs.Called.{CallsOffline, CallsOnline, LeavesLane, LeavesRest, ReadsClock, lane_of, offline_told, online_told, with_shift};
 ghost use Rattle.lane_world.specs.Worlds.{ArePassesOf};
 

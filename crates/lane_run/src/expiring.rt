@@ -5,7 +5,7 @@ ghost use Rattle.expire_pass.specs.Handlers.{KeepsPass};
 ghost use Rattle.expire_pass.specs.Handlers.{CanServe};
 ghost use Rattle.timer_objects.specs.Firings.{firing as firing_meaning, ready_of};
 ghost use Rattle.timer_objects.specs.Known.{IsObjectsPass};
-ghost use Rattle.script_text.specs.Scripts.{most_budget};
+ghost use Rattle.script_text.specs.CallLines.{most_budget};
 ghost use Rattle.lane_world.specs.Called.{CallsExpire, LeavesLane, ReadsClock, claimed_in, expire_told, is_claim_event, lane_of};
 ghost use Rattle.lane_world.specs.Expiries.{KeepsName, RunsGated, RunsWith};
 ghost use Rattle.lane_world.specs.Worlds.{ArePassesOf};

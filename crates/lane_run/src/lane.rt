@@ -1,9 +1,9 @@
 //! A lane in a round: its calls in their order, each with its answer and with notes of what it did.
 ghost use Rattle.std.specs.Prelude.{◌≡◌, ◌≤◌, ◌<◌, ◌∷◌, [], false, IfOk, OnOk};
 ghost use Rattle.std.specs.List.{AllByRecursion};
-ghost use Rattle.lane_world.specs.Called.{Called, CalledThen, CallsReading, LeavesLane, ReadsClock, TakesReading, lane_of};
+ghost use Rattle.lane_world.specs.Called.{Called, CalledThen, CallsReading, LeavesLane, ReadsClock, TakesReading, lane_of, CanCall};
 ghost use Rattle.lane_world.specs.Rounds.{AnswersCall, MakesCalls, lane_calls};
-ghost use Rattle.lane_world.specs.Worlds.{ArePassesOf, CanCall, KeepPasses, LeadsByName};
+ghost use Rattle.lane_world.specs.Worlds.{ArePassesOf, KeepPasses, LeadsByName};
 
 use crate::base_calls::{offline, online};
 use crate::expiring::expire;

@@ -9,8 +9,8 @@ ghost use Rattle.timer_fd.specs.declared.answers.SettimeAnswer.{SettimeAnswer};
 ghost use Rattle.timer_objects.specs.declared.answers.Gettime.{Gettime};
 ghost use Rattle.timer_objects.specs.declared.answers.Readable.{Readable};
 ghost use Rattle.record_text.specs.declared.record.Answer.TheVariants as answers;
-ghost use Rattle.lane_world.specs.Called.{CallsObject, CallsOverrun, LeavesLane, LeavesRest, ReadsClock, accept_told, gettime_told, lane_of, read_told, settime_told, with_done};
-ghost use Rattle.lane_world.specs.Worlds.{ArePassesOf, IsObject, IsOfKind};
+ghost use Rattle.lane_world.specs.Called.{CallsObject, CallsOverrun, LeavesLane, LeavesRest, ReadsClock, accept_told, gettime_told, lane_of, read_told, settime_told, with_done, IsObject, IsOfKind};
+ghost use Rattle.lane_world.specs.Worlds.{ArePassesOf};
 
 use crate::world::World;
 use expire_pass::Log;

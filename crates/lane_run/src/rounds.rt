@@ -4,7 +4,8 @@ ghost use Rattle.std.specs.List.{AllByRecursion};
 ghost use Rattle.lane_notes.specs.Notes.{no_notes};
 ghost use Rattle.lane_world.specs.declared.Lane.{Lane};
 ghost use Rattle.lane_world.specs.Rounds.{BeginsRound, CanRun, HasSplit, IsLaneOf, IsMain, MakesRound, RunsLane, TakesInLanes, TakesInPass, as_index, calling_from, has_calls, with_lane, with_left};
-ghost use Rattle.lane_world.specs.Worlds.{AnswerFor, ArePassesOf, CanCall};
+ghost use Rattle.lane_world.specs.Called.{CanCall};
+ghost use Rattle.lane_world.specs.Worlds.{AnswerFor, ArePassesOf};
 
 use crate::gate::Gate;
 use crate::lane::make_calls;

@@ -1,5 +1,5 @@
 -- What each call of a lane does and answers: what its passes know before and after it, and what it notes.
-use Rattle.std.specs.Prelude.{ℕ, ◌≡◌, Bool, true, false, List, [], ◌∷◌, ◌++◌, length, MatchBool, Result, Ok, Err}
+use Rattle.std.specs.Prelude.{ℕ, ◌≡◌, ◌≢◌, ◌≤◌, ◌<◌, Bool, true, false, List, [], ◌∷◌, ◌++◌, length, MatchBool, Result, Ok, Err}
 use Rattle.ktime.specs.Readings.{ClockReading}
 use Rattle.clock_model.specs.declared.write.ClockFault.TheVariants as faults
 use Rattle.clock_model.specs.declared.write.Write.{Write}
@@ -23,7 +23,7 @@ use Rattle.seq_timer.specs.declared.standing.BaseEvent.TheVariants as shifts
 use Rattle.hr_timers.specs.declared.answer.StartAnswer.{StartAnswer}
 use Rattle.hr_timers.specs.declared.answer.StartAnswer.TheVariants as starts
 use Rattle.base_row.specs.Logs.{LogOf, kept, receipts_of}
-use Rattle.hr_timers.specs.Known.{timer_then}
+use Rattle.hr_timers.specs.Known.{IsEvacuable, timer_then}
 use Rattle.hr_timers.specs.Calls.{Cancels, Peeks, StartsTimer, cancel_entries, start_entries}
 use Rattle.expire_pass.specs.declared.expiry.ExpireAnswer.{ExpireAnswer}
 use Rattle.expire_pass.specs.declared.expiry.ExpireAnswer.TheVariants as expiries
@@ -50,6 +50,7 @@ use Rattle.timer_objects.specs.declared.object.Kind.TheVariants as over
 use Rattle.timer_objects.specs.Known.{decl_at}
 use Rattle.record_text.specs.declared.record.ClockLine.{ClockLine}
 use Rattle.script_text.specs.Declarations.{asked_slack}
+use Rattle.script_text.specs.CallLines.{most_budget}
 use Rattle.script_text.specs.declared.script.StartRequest.{StartRequest}
 use Rattle.seq_timer.specs.declared.context.Context.{Context}
 use Rattle.run_history.specs.Actions.{also}
@@ -313,6 +314,34 @@ module _ (x : WorldOf) (l m : LaneOf) (a : Answer) where
     pub looks : LooksOverrun (lane_caller l.pass [] []) (lane_caller m.pass [] []) timer found
     pub notes : m.notes ≡ l.notes
     pub told : a ≡ answers.Overrun found.overrun found.stamp
+
+-- ---- each call
+
+-- there is an object of this number, and it is no timer by itself
+abbrev pub IsObject : WorldOf → ℕ → Type 0
+IsObject x id = (id < length x.objects.decls) × ((decl_at x.objects id).kind ≢ over.Raw)
+
+-- there is an object of this number and kind
+abbrev pub IsOfKind : WorldOf → Kind → ℕ → Type 0
+IsOfKind x kind id = (id < length x.objects.decls) × ((decl_at x.objects id).kind ≡ kind)
+
+-- the lane's call is of a timer, an object and a base that are there, and of the object's kind; only the first lane takes a base off line and on line
+-- again, where bases may go off line at all
+abbrev pub CanCall : WorldOf → ℕ → Call → Type 0
+CanCall x lane (calls.Start timer request) = (timer < length x.timers.about.timers) × (request.base < x.timers.about.bases)
+CanCall x lane (calls.Cancel timer) = timer < length x.timers.about.timers
+CanCall x lane (calls.Peek timer) = timer < length x.timers.about.timers
+CanCall x lane (calls.Expire context base budget) = (base < x.timers.about.bases) × (budget ≤ most_budget)
+CanCall x lane (calls.Clock write) = Unit
+CanCall x lane (calls.Settime timer flags value interval) = IsObject x timer
+CanCall x lane (calls.Gettime timer) = IsObject x timer
+CanCall x lane (calls.Accept timer) = IsOfKind x over.Posix timer
+CanCall x lane (calls.Overrun timer) = IsOfKind x over.Posix timer
+CanCall x lane (calls.Read timer len) = IsOfKind x over.Fd timer
+CanCall x lane (calls.Readable timer) = IsOfKind x over.Fd timer
+CanCall x lane (calls.Offline base heir budget) =
+    (lane ≡ 0) × (base < x.timers.about.bases) × (heir < base) × (budget ≤ most_budget) × IsEvacuable x.timers.about
+CanCall x lane (calls.Online base) = (lane ≡ 0) × (base < x.timers.about.bases) × IsEvacuable x.timers.about
 
 -- what a call does and answers, by a reading that was taken where it takes one
 abbrev pub CalledThen : WorldOf → LaneOf → Call → Answer → LaneOf → Type 0

@@ -1,5 +1,5 @@
 -- A script's world, and what passes of it know.
-use Rattle.std.specs.Prelude.{ℕ, ◌≡◌, ◌≤◌, ◌<◌, ◌≢◌, ◌+◌, ◌^◌, List, [], length, map}
+use Rattle.std.specs.Prelude.{ℕ, ◌≡◌, ◌≤◌, ◌<◌, ◌+◌, ◌^◌, List, [], length, map}
 use Rattle.ktime.specs.declared.clock_id.ClockId.{ClockId}
 use Rattle.atomic_table.specs.Seated.{TableId}
 use Rattle.pass_names.specs.Names.{AnswersFor, IsLast}
@@ -8,19 +8,15 @@ use Rattle.counted_row.specs.Views.{first_view, new_view, split_view}
 use Rattle.clock_cell.specs.Views.{IsPassOfClock, KnowsClock, first_clock_view, new_clock_view, split_clock_view}
 use Rattle.base_row.specs.Calls as rows
 use Rattle.base_row.specs.declared.view.Opening.{Opening}
-use Rattle.hr_timers.specs.Known.{IsEvacuable, IsPassOf}
+use Rattle.hr_timers.specs.Known.{IsPassOf}
 use Rattle.timer_objects.specs.declared.callback.Callback.{Callback}
 use Rattle.timer_objects.specs.declared.callback.Callback.TheVariants as runs
 use Rattle.timer_objects.specs.declared.object.Decl.{Decl}
-use Rattle.timer_objects.specs.declared.object.Kind as object_kind
 use Rattle.timer_objects.specs.declared.object.Kind.TheVariants as over
 use Rattle.timer_objects.specs.Callbacks.{bases_of}
 use Rattle.timer_objects.specs.Meaning.{opened_objects}
-use Rattle.timer_objects.specs.Known.{IsObjectsPass, ObjectsOf, Suits, decl_at}
+use Rattle.timer_objects.specs.Known.{IsObjectsPass, ObjectsOf, Suits}
 use Rattle.script_text.specs.Declarations.{declareds_of, terms_of}
-use Rattle.script_text.specs.Scripts.{most_budget}
-use Rattle.script_text.specs.declared.script.Call.{Call}
-use Rattle.script_text.specs.declared.script.Call.TheVariants as calls
 use Rattle.script_text.specs.declared.script.Callback.TheVariants as callbacks
 use Rattle.script_text.specs.declared.script.Declaration.{Declaration}
 use Rattle.script_text.specs.declared.script.Kind.{Kind}
@@ -123,32 +119,6 @@ pub record SplitsPass (p q new : WorldPass) : Type 0 where
 
 -- ---- calls
 
--- there is an object of this number, and it is no timer by itself
-abbrev pub IsObject : WorldOf → ℕ → Type 0
-IsObject x id = (id < length x.objects.decls) × ((decl_at x.objects id).kind ≢ over.Raw)
-
--- there is an object of this number and kind
-abbrev pub IsOfKind : WorldOf → object_kind.Kind → ℕ → Type 0
-IsOfKind x kind id = (id < length x.objects.decls) × ((decl_at x.objects id).kind ≡ kind)
-
 -- the first lane's pass of timers is the first one, which takes bases off line and on line again
 abbrev pub LeadsByName : ℕ → WorldPass → Type 0
 LeadsByName lane p = lane ≡ 0 → p.timers.known.id.name ≡ []
-
--- the lane's call is of a timer, an object and a base that are there, and of the object's kind; only the first lane takes a base off line and on line
--- again, where bases may go off line at all
-abbrev pub CanCall : WorldOf → ℕ → Call → Type 0
-CanCall x lane (calls.Start timer request) = (timer < length x.timers.about.timers) × (request.base < x.timers.about.bases)
-CanCall x lane (calls.Cancel timer) = timer < length x.timers.about.timers
-CanCall x lane (calls.Peek timer) = timer < length x.timers.about.timers
-CanCall x lane (calls.Expire context base budget) = (base < x.timers.about.bases) × (budget ≤ most_budget)
-CanCall x lane (calls.Clock write) = Unit
-CanCall x lane (calls.Settime timer flags value interval) = IsObject x timer
-CanCall x lane (calls.Gettime timer) = IsObject x timer
-CanCall x lane (calls.Accept timer) = IsOfKind x over.Posix timer
-CanCall x lane (calls.Overrun timer) = IsOfKind x over.Posix timer
-CanCall x lane (calls.Read timer len) = IsOfKind x over.Fd timer
-CanCall x lane (calls.Readable timer) = IsOfKind x over.Fd timer
-CanCall x lane (calls.Offline base heir budget) =
-    (lane ≡ 0) × (base < x.timers.about.bases) × (heir < base) × (budget ≤ most_budget) × IsEvacuable x.timers.about
-CanCall x lane (calls.Online base) = (lane ≡ 0) × (base < x.timers.about.bases) × IsEvacuable x.timers.about

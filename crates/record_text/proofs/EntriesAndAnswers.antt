@@ -25,8 +25,9 @@ use Rattle.record_text.specs.declared.record.ObjectEntry.TheVariants as object_e
 use Rattle.record_text.specs.declared.record.Answer.{Answer}
 use Rattle.record_text.specs.declared.record.Answer.TheVariants as answers
 use Rattle.record_text.specs.Replies.{answer_of_settime, answer_of_accept, answer_of_read}
-use Rattle.record_text.specs.Text.{entry_numbers, entry_words, shift_words, told_words, answer_words, object_entry_words}
-use Rattle.record_text.specs.Numbers.{AreMachineNumbers, EntryHasNoSlack, IsReplyTo, shift_numbers, told_numbers, answer_numbers, object_entry_numbers}
+use Rattle.record_text.specs.Text.{entry_numbers, entry_words, shift_words, told_words, object_entry_words}
+use Rattle.record_text.specs.Answers.{answer_words, answer_numbers}
+use Rattle.record_text.specs.Numbers.{AreMachineNumbers, EntryHasNoSlack, IsReplyTo, shift_numbers, told_numbers, object_entry_numbers}
 use Rattle.record_text.proofs.Words.{are_words}
 use Rattle.record_text.proofs.Spelling.{value, value_again, word_decimal, words_decimals, values_again, nth, number, after, is_key, flag_of, flag_read, clock_of, clock_read, mode_of, mode_read, restart_of, restart_read, restarted_of, restarted_read, armed_of, armed_read, counted_of, counted_read}
 

@@ -19,8 +19,8 @@ use Rattle.record_text.specs.declared.record.Armed.{Armed}
 use Rattle.record_text.specs.declared.record.Armed.TheVariants as arms
 use Rattle.record_text.specs.declared.version.Version.{Version}
 use Rattle.record_text.specs.declared.version.Version.TheVariants as versions
-use Rattle.record_text.specs.Words.{clock_word, mode_word, version_word}
-use Rattle.record_text.specs.Text.{flag, write_name, write_ns, restart_word, restarted_numbers, restarted_word, armed_word, counted_word}
+use Rattle.record_text.specs.Words.{clock_word, mode_word, version_word, flag}
+use Rattle.record_text.specs.Text.{write_name, write_ns, restart_word, restarted_numbers, restarted_word, armed_word, counted_word}
 use Rattle.record_text.specs.Numbers.{AreMachineNumbers, armed_number}
 use Rattle.record_text.proofs.Words.{is_word, are_words}
 

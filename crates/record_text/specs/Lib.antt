@@ -1,4 +1,5 @@
 pub mod Words
 pub mod Replies
+pub mod Answers
 pub mod Text
 pub mod Numbers

@@ -1,5 +1,5 @@
 -- The numbers of a record's lines, and that a program can hold them.
-use Rattle.std.specs.Prelude.{ℕ, ◌≡◌, ◌<◌, ◌^◌, List, [], ◌∷◌, length}
+use Rattle.std.specs.Prelude.{ℕ, ◌≡◌, ◌<◌, ◌^◌, List, [], ◌∷◌}
 use Rattle.std.specs.List.{AllByRecursion}
 use Rattle.seq_timer.specs.declared.standing.BaseEvent.{BaseEvent}
 use Rattle.seq_timer.specs.declared.standing.BaseEvent.TheVariants as shifts
@@ -14,11 +14,10 @@ use Rattle.record_text.specs.declared.record.Armed.{Armed}
 use Rattle.record_text.specs.declared.record.Armed.TheVariants as arms
 use Rattle.record_text.specs.declared.record.ObjectEntry.{ObjectEntry}
 use Rattle.record_text.specs.declared.record.ObjectEntry.TheVariants as object_entries
-use Rattle.record_text.specs.declared.record.Answer.{Answer}
-use Rattle.record_text.specs.declared.record.Answer.TheVariants as answers
 use Rattle.record_text.specs.declared.record.TimerLine.{TimerLine}
 use Rattle.record_text.specs.declared.record.RunRecord.{RunRecord}
 use Rattle.record_text.specs.Replies.{answer_of_accept, answer_of_read, answer_of_settime}
+use Rattle.record_text.specs.Answers.{answer_numbers}
 use Rattle.record_text.specs.Text.{RecordLine, Heading, OfClock, OfBase, OfTimer, OfLook, OfObject, OfSkip, OfCall, End, entry_numbers, write_ns, record_lines}
 
 -- the numbers of what happened to a base
@@ -31,50 +30,6 @@ abbrev pub told_numbers : CallbackReply → List ℕ
 told_numbers (told.Running generation) = generation ∷ []
 told_numbers (told.Armed generation) = generation ∷ []
 told_numbers told.Spent = []
-
--- the numbers of what an object's call alone is answered, and none for another answer
-abbrev pub object_answer_numbers : Answer → List ℕ
-object_answer_numbers (answers.Old left interval) = left ∷ interval ∷ []
-object_answer_numbers answers.Canceled = []
-object_answer_numbers (answers.Unarmed stamp) = stamp ∷ []
-object_answer_numbers answers.Invalid = []
-object_answer_numbers (answers.LeftAt left interval reading stamp) = left ∷ interval ∷ reading ∷ stamp ∷ []
-object_answer_numbers (answers.Left left interval) = left ∷ interval ∷ []
-object_answer_numbers (answers.Accepted overrun) = overrun ∷ []
-object_answer_numbers answers.NoSignal = []
-object_answer_numbers (answers.Overrun overrun stamp) = overrun ∷ stamp ∷ []
-object_answer_numbers (answers.Count total) = total ∷ []
-object_answer_numbers answers.Again = []
-object_answer_numbers (answers.Readable ready reading stamp) = reading ∷ stamp ∷ []
-object_answer_numbers other = []
-
--- the numbers of an answer to a call that takes a base off line or on line again, and of another those of an object's call
-abbrev pub shift_answer_numbers : Answer → List ℕ
-shift_answer_numbers (answers.Offline moved stamp) = moved ∷ stamp ∷ []
-shift_answer_numbers (answers.OfflineBusy moved timer generation) = moved ∷ timer ∷ generation ∷ []
-shift_answer_numbers (answers.OfflineMore moved) = moved ∷ []
-shift_answer_numbers (answers.OfflineSpent moved timer stamp) = moved ∷ timer ∷ stamp ∷ []
-shift_answer_numbers (answers.Already stamp) = stamp ∷ []
-shift_answer_numbers (answers.HeirOffline stamp) = stamp ∷ []
-shift_answer_numbers (answers.BaseSpent stamp) = stamp ∷ []
-shift_answer_numbers (answers.Online stamp) = stamp ∷ []
-shift_answer_numbers other = object_answer_numbers other
-
--- the numbers of an answer
-abbrev pub answer_numbers : Answer → List ℕ
-answer_numbers (answers.Started generation base was_armed) = generation ∷ base ∷ []
-answer_numbers (answers.Spent stamp) = stamp ∷ []
-answer_numbers (answers.Cancelled generation) = generation ∷ []
-answer_numbers (answers.Running generation stamp) = generation ∷ stamp ∷ []
-answer_numbers (answers.Idle stamp) = stamp ∷ []
-answer_numbers (answers.Peek stamp base enqueued running moving) = stamp ∷ base ∷ []
-answer_numbers (answers.Done reading fired) = length fired ∷ reading ∷ fired
-answer_numbers (answers.More reading fired) = length fired ∷ reading ∷ fired
-answer_numbers (answers.Busy reading fired timer generation) = length fired ∷ reading ∷ timer ∷ generation ∷ fired
-answer_numbers (answers.Clock stamp) = stamp ∷ []
-answer_numbers (answers.Range would_be) = would_be ∷ []
-answer_numbers answers.ClockSpent = []
-answer_numbers other = shift_answer_numbers other
 
 -- the generation that a call armed, or 0
 abbrev pub armed_number : Armed → ℕ

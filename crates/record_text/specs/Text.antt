@@ -1,5 +1,5 @@
 -- The text of a record: its lines in their order, the words of each line, and their bytes.
-use Rattle.std.specs.Prelude.{ℕ, ◌+◌, List, [], ◌∷◌, ◌++◌, map, flat_map, length, Bool, if◌then◌else◌, codes}
+use Rattle.std.specs.Prelude.{ℕ, ◌+◌, List, [], ◌∷◌, ◌++◌, map, flat_map, Bool, if◌then◌else◌, codes}
 use Rattle.std.specs.Fmt.{decimal}
 use Rattle.clock_model.specs.declared.write.Write.{Write}
 use Rattle.clock_model.specs.declared.write.Write.TheVariants as writes
@@ -26,12 +26,12 @@ use Rattle.record_text.specs.declared.record.ObjectEntry.TheVariants as object_e
 use Rattle.record_text.specs.declared.record.Skip.{Skip}
 use Rattle.record_text.specs.declared.record.ObjectLine.{ObjectLine}
 use Rattle.record_text.specs.declared.record.Answer.{Answer}
-use Rattle.record_text.specs.declared.record.Answer.TheVariants as answers
 use Rattle.record_text.specs.declared.record.RunRecord.{RunRecord}
 use Rattle.record_text.specs.declared.version.Version.{Version}
 use Rattle.record_text.specs.declared.version.Version.TheVariants as versions
 use Rattle.record_text.specs.Replies.{answer_of_accept, answer_of_read, answer_of_settime}
-use Rattle.record_text.specs.Words.{clock_word, mode_word, version_word}
+use Rattle.record_text.specs.Words.{clock_word, flag, mode_word, version_word}
+use Rattle.record_text.specs.Answers.{answer_words}
 
 -- a line of a record's text, with the numbers that it begins with: of a write; of a base, a timer or an object, and its entry; of a lane and
 -- its call
@@ -90,10 +90,6 @@ lines_from_timers r = timer_lines 0 r.timers ++ (object_lines 0 r.objects ++ (la
 -- the lines of a record
 abbrev pub record_lines : RunRecord → List RecordLine
 record_lines r = Heading ∷ (clock_lines 1 r.clock ++ (base_lines 0 r.bases ++ lines_from_timers r))
-
--- 1 where a test holds, else 0
-abbrev pub flag : Bool → List ℕ
-flag b = decimal (if b then 1 else 0)
 
 -- the kind of a write
 abbrev pub write_name : Write → List ℕ
@@ -199,53 +195,6 @@ abbrev pub told_words : CallbackReply → List (List ℕ)
 told_words (told.Running generation) = codes "running" ∷ decimal generation ∷ []
 told_words (told.Armed generation) = codes "armed" ∷ decimal generation ∷ []
 told_words told.Spent = codes "spent" ∷ []
-
--- the words of what an object's call alone is answered, and none for another answer
-abbrev pub object_answer_words : Answer → List (List ℕ)
-object_answer_words (answers.Old left interval) = codes "old" ∷ decimal left ∷ decimal interval ∷ []
-object_answer_words answers.Canceled = codes "canceled" ∷ []
-object_answer_words (answers.Unarmed stamp) = codes "unarmed" ∷ decimal stamp ∷ []
-object_answer_words answers.Invalid = codes "einval" ∷ []
-object_answer_words (answers.LeftAt left interval reading stamp) =
-    codes "left" ∷ decimal left ∷ decimal interval ∷ decimal reading ∷ decimal stamp ∷ []
-object_answer_words (answers.Left left interval) = codes "left" ∷ decimal left ∷ decimal interval ∷ []
-object_answer_words (answers.Accepted overrun) = codes "accepted" ∷ decimal overrun ∷ []
-object_answer_words answers.NoSignal = codes "nosignal" ∷ []
-object_answer_words (answers.Overrun overrun stamp) = codes "overrun" ∷ decimal overrun ∷ decimal stamp ∷ []
-object_answer_words (answers.Count total) = codes "count" ∷ decimal total ∷ []
-object_answer_words answers.Again = codes "again" ∷ []
-object_answer_words (answers.Readable ready reading stamp) = codes "readable" ∷ flag ready ∷ decimal reading ∷ decimal stamp ∷ []
-object_answer_words other = []
-
--- the words of an answer to a call that takes a base off line or on line again, and of another those of an object's call
-abbrev pub shift_answer_words : Answer → List (List ℕ)
-shift_answer_words (answers.Offline moved stamp) = codes "off" ∷ decimal moved ∷ decimal stamp ∷ []
-shift_answer_words (answers.OfflineBusy moved timer generation) = codes "busy" ∷ decimal moved ∷ decimal timer ∷ decimal generation ∷ []
-shift_answer_words (answers.OfflineMore moved) = codes "more" ∷ decimal moved ∷ []
-shift_answer_words (answers.OfflineSpent moved timer stamp) = codes "spent" ∷ decimal moved ∷ decimal timer ∷ decimal stamp ∷ []
-shift_answer_words (answers.Already stamp) = codes "already" ∷ decimal stamp ∷ []
-shift_answer_words (answers.HeirOffline stamp) = codes "heiroff" ∷ decimal stamp ∷ []
-shift_answer_words (answers.BaseSpent stamp) = codes "basespent" ∷ decimal stamp ∷ []
-shift_answer_words (answers.Online stamp) = codes "on" ∷ decimal stamp ∷ []
-shift_answer_words other = object_answer_words other
-
--- the words of an answer
-abbrev pub answer_words : Answer → List (List ℕ)
-answer_words (answers.Started generation base was_armed) = codes "started" ∷ decimal generation ∷ decimal base ∷ flag was_armed ∷ []
-answer_words (answers.Spent stamp) = codes "spent" ∷ decimal stamp ∷ []
-answer_words (answers.Cancelled generation) = codes "cancelled" ∷ decimal generation ∷ []
-answer_words (answers.Running generation stamp) = codes "running" ∷ decimal generation ∷ decimal stamp ∷ []
-answer_words (answers.Idle stamp) = codes "idle" ∷ decimal stamp ∷ []
-answer_words (answers.Peek stamp base enqueued running moving) =
-    codes "peek" ∷ decimal stamp ∷ decimal base ∷ flag enqueued ∷ flag running ∷ flag moving ∷ []
-answer_words (answers.Done reading fired) = codes "done" ∷ decimal (length fired) ∷ decimal reading ∷ map decimal fired
-answer_words (answers.More reading fired) = codes "more" ∷ decimal (length fired) ∷ decimal reading ∷ map decimal fired
-answer_words (answers.Busy reading fired timer generation) =
-    codes "busy" ∷ decimal (length fired) ∷ decimal reading ∷ decimal timer ∷ decimal generation ∷ map decimal fired
-answer_words (answers.Clock stamp) = codes "clock" ∷ decimal stamp ∷ []
-answer_words (answers.Range would_be) = codes "range" ∷ decimal would_be ∷ []
-answer_words answers.ClockSpent = codes "clockspent" ∷ []
-answer_words other = shift_answer_words other
 
 -- the words of an entry of a call that arms an expired timer again, and none of another
 abbrev pub rearming_words : ObjectEntry → List (List ℕ)

@@ -1,5 +1,6 @@
--- The words that scripts and records share.
-use Rattle.std.specs.Prelude.{ℕ, List, codes}
+-- The words that scripts and records share, and the word of a test.
+use Rattle.std.specs.Prelude.{ℕ, List, Bool, if◌then◌else◌, codes}
+use Rattle.std.specs.Fmt.{decimal}
 use Rattle.ktime.specs.declared.clock_id.ClockId.{ClockId}
 use Rattle.ktime.specs.declared.clock_id.ClockId.TheVariants as clocks
 use Rattle.ktime.specs.declared.mode.Mode.{Mode}
@@ -23,3 +24,7 @@ abbrev pub mode_word : Mode → List ℕ
 mode_word modes.Abs = codes "abs"
 mode_word modes.Rel = codes "rel"
 mode_word modes.Keep = codes "keep"
+
+-- 1 where a test holds, else 0
+abbrev pub flag : Bool → List ℕ
+flag b = decimal (if b then 1 else 0)

@@ -9,10 +9,10 @@ use Rattle.seq_timer.specs.Halves.{running_on}
 use Rattle.seq_timer.specs.Systems.{after_entry, changed}
 use Rattle.seq_timer.specs.Tables.{runs_on}
 use Rattle.run_history.specs.Actions.{Entered}
-use Rattle.run_history.specs.Calls.{evacuates}
+use Rattle.run_history.specs.Deeds.{evacuates}
+use Rattle.run_history.specs.Truths.{RunsNone, WasFront}
 use Rattle.run_history.specs.Fits.{Fits}
 use Rattle.run_history.specs.Histories.{timer_after}
-use Rattle.run_history.specs.Truths.{RunsNone, WasFront}
 use Rattle.run_history.specs.Witnesses.{Evacuation, TimersList, Trace, Witness, witness_with}
 use Rattle.fit_laws.proofs.OwnPoints.{same_then, seen, seen_rises, stamp_then}
 use Rattle.run_cases.specs.Fitting.{busy_record, busy_script}

@@ -12,11 +12,12 @@ use Rattle.run_history.specs.Actions.{own, looked, made, own_looks, own_skips, s
 use Rattle.run_history.specs.Histories.{clock_labels, lines_of_timer}
 use Rattle.run_history.specs.Objects.{lines_of_object}
 use Rattle.run_history.specs.Order.{CallInRound}
-use Rattle.run_history.specs.Calls.{AllKeepExpiries, AllMoved, Does}
+use Rattle.run_history.specs.Calls.{Does, AnswerHolds}
+use Rattle.run_history.specs.Deeds.{AllKeepExpiries, AllMoved}
+use Rattle.run_history.specs.Truths.{AreTrue, WasFront, WasOffLine}
 use Rattle.run_history.specs.Witnesses.{Witness, labels, writes_along}
 use Rattle.run_history.specs.Fits.{FitsLane, HasRead, ReadsInTurn}
 use Rattle.run_history.specs.Traces.{all_entered, HasTraced, own_moves}
-use Rattle.run_history.specs.Truths.{AnswerHolds, AreTrue, WasFront, WasOffLine}
 use Rattle.run_history.proofs.OthersMade.{none_moved}
 use Rattle.run_cases.proofs.Witnesses.{Along, everywhere}
 use Rattle.run_cases.proofs.Tests.{are_made, are_timed, AreTold, is_point, never_fall, IsPast, made_past, point_passes, steps_pass, told_pass, upto}

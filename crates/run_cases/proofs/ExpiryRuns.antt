@@ -11,10 +11,10 @@ use Rattle.record_text.specs.declared.record.ObjectEntry.{ObjectEntry}
 use Rattle.script_text.specs.Declarations.{kind_of}
 use Rattle.script_text.specs.declared.script.Script.{Script}
 use Rattle.run_history.specs.Actions.{Action, also, Entered, entered, made, Skipped}
-use Rattle.run_history.specs.Calls.{IsBody, IsExpiryRun, IsTrigger, fires}
+use Rattle.run_history.specs.Deeds.{IsBody, IsExpiryRun, IsTrigger, fires}
+use Rattle.run_history.specs.Truths.{AreTrue}
 use Rattle.run_history.specs.Order.{made_by}
 use Rattle.run_history.specs.Traces.{all_entered, own_moves}
-use Rattle.run_history.specs.Truths.{AreTrue}
 use Rattle.run_history.specs.Witnesses.{Fired, IsOneHistory, Move, OfTimer, TimersList, Witness, moves_on, timer_along, turns_along}
 use Rattle.run_history.proofs.Actions.{all_entered-append}
 use Rattle.run_history.proofs.Expires.{claim_of, finish_of}

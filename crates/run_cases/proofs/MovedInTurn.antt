@@ -3,10 +3,10 @@ use Rattle.std.proofs.Common.{◌≡◌, ℕ, zero, suc, List, [], ◌∷◌, �
 use Rattle.std.specs.List.{AllByRecursion}
 use Rattle.seq_timer.specs.Systems.{after_entry, after_shift, changed, shifted}
 use Rattle.record_text.specs.declared.record.Label.{Label}
-use Rattle.run_history.specs.Calls.{evacuates}
+use Rattle.run_history.specs.Deeds.{evacuates}
+use Rattle.run_history.specs.Truths.{IsFront, WasFront}
 use Rattle.run_history.specs.Fits.{Fits}
 use Rattle.run_history.specs.Traces.{all_entered}
-use Rattle.run_history.specs.Truths.{IsFront, WasFront}
 use Rattle.run_history.specs.Witnesses.{Evacuation, Move, OfBase, OfRise, OfTimer, Shown, TimersList, Trace, Witness, timer_along, witness_with}
 use Rattle.fit_laws.proofs.EachTimer.{heads}
 use Rattle.run_cases.specs.Wrong.{turns_record, turns_script}

@@ -22,12 +22,12 @@ use Rattle.run_history.specs.Actions.{Entered, Skipped, Wrote}
 use Rattle.run_history.specs.Fits.{Fits}
 use Rattle.run_history.specs.ObjectCalls.{MakesRearming, MakesSettime}
 use Rattle.run_history.specs.Witnesses.{CountersList, TimersList, Trace, Witness}
-use Rattle.run_cases.specs.Fitting.{accepts_record, accepts_script, armed_record, armed_script, cancelable_entry, canceled_entry, canceled_record, canceled_script, disarmed_entry, nothing_accepted, real_start, seen_record, seen_script, set_record, set_script, skipped_record, skipped_script, twice_record, twice_script, unreadable_record, unreadable_script}
+use Rattle.run_cases.specs.Fitting.{accepts_record, accepts_script, armed_record, armed_script, cancelable_entry, canceled_entry, canceled_record, canceled_script, disarmed_entry, nothing_accepted, real_start, seen_record, seen_script, set_record, set_script, skipped_record, skipped_script, two_expiries_record, two_expiries_script, unreadable_record, unreadable_script}
 use Rattle.run_cases.specs.Lines.{at, by, case_object_line, case_script, line, object_record, set_entry_of, set_start, settime_to}
 use Rattle.run_cases.proofs.Calls.{IsRight, right}
 use Rattle.run_cases.proofs.Small.{fits_by}
 use Rattle.run_cases.proofs.Tests.{le, lt, point_passes}
-use Rattle.run_cases.proofs.Witnesses.{armed_by, did, done_by, fired, ran, stays, step, three, turn_of, two, witness_along}
+use Rattle.run_cases.proofs.Witnesses.{armed_anew, armed_by, did, done_by, fired, ran, stays, step, three, turn_of, two, witness_along}
 
 -- ---- calls that make an entry of an object
 
@@ -77,15 +77,8 @@ unreadable_fits = fits_by unreadable_witness (record {
   placed = (refl, (refl, tt));
   calls = two (
       two (right refl refl refl (refl, tt) (refl, tt) (refl, tt) refl (refl, tt) tt)
-      (two (right refl refl refl (refl, tt) (refl, tt) (refl, tt) (record {
-        taken = record { known = refl; good_value = lt refl; good_interval = lt refl };
-        cancel = None;
-        arm = armings.Generation 1;
-        start = Entered 0 1 (set_start 5 1 false) ∷ [];
-        stamp = 0;
-        arms = (armed_by 1 5, refl, refl, stays refl refl refl);
-        done = refl;
-      }) (refl, ((refl, (refl, refl, λ e. refl)), tt))
+      (two (right refl refl refl (refl, tt) (refl, tt) (refl, tt) (armed_anew 0 1 (record { known = refl; good_value = lt refl; good_interval = lt refl })
+      (armed_by 1 5, refl, refl, stays refl refl refl)) (refl, ((refl, (refl, refl, λ e. refl)), tt))
       (2, le refl, le refl, point_passes _ _ _ _ _ refl, record { armed = refl; running = refl; moving = refl }))
       (two (right refl refl refl (refl, tt) (refl, tt) (refl, tt)
       (record { one_reading = refl; claimed = refl; done = refl; contexts = (refl, tt); bodies = ((inl (1, true, refl), refl), tt) }, lt refl)
@@ -194,15 +187,8 @@ skipped_fits = fits_by skipped_witness (record {
   placed = (refl, (refl, tt));
   calls = two (
       two (right refl refl refl (refl, tt) (refl, tt) (refl, tt) refl (refl, tt) tt)
-      (two (right refl refl refl (refl, tt) (refl, tt) (refl, tt) (record {
-        taken = record { known = refl; good_value = lt refl; good_interval = lt refl };
-        cancel = None;
-        arm = armings.Generation 1;
-        start = Entered 0 1 (set_start 5 1 false) ∷ [];
-        stamp = 0;
-        arms = (armed_by 1 5, refl, refl, stays refl refl refl);
-        done = refl;
-      }) (refl, ((refl, (refl, refl, λ e. refl)), tt))
+      (two (right refl refl refl (refl, tt) (refl, tt) (refl, tt) (armed_anew 0 1 (record { known = refl; good_value = lt refl; good_interval = lt refl })
+      (armed_by 1 5, refl, refl, stays refl refl refl)) (refl, ((refl, (refl, refl, λ e. refl)), tt))
       (2, le refl, le refl, point_passes _ _ _ _ _ refl, record { armed = refl; running = refl; moving = refl }))
       (two (right refl refl refl (refl, tt) (refl, tt) (refl, tt)
       (record { one_reading = refl; claimed = refl; done = refl; contexts = (refl, tt); bodies = ((inr (2, refl), refl), tt) }, lt refl)
@@ -217,8 +203,8 @@ skipped_fits = fits_by skipped_witness (record {
 -- ---- a lane looks at a timer and reads its descriptor, beside another lane that sets the descriptor twice, each time with an expiry
 
 -- its witness
-abbrev twice_witness : Witness
-twice_witness = witness_along twice_script twice_record
+abbrev two_expiries_witness : Witness
+two_expiries_witness = witness_along two_expiries_script two_expiries_record
     (CountersList 0 ∷ CountersList 1 ∷ TimersList 0 ∷ CountersList 1 ∷ TimersList 0 ∷ CountersList 1 ∷ CountersList 1 ∷ TimersList 0
     ∷ CountersList 1 ∷ TimersList 0 ∷ CountersList 1 ∷ TimersList 0 ∷ CountersList 1 ∷ CountersList 1 ∷ CountersList 1 ∷ CountersList 1 ∷ TimersList 0 ∷ [])
     ((did 0 (Wrote 1 (writes.Advance 10) ∷ []) 0 1 ∷ did 1 (turn_of 0 0 (Entered 0 1 (set_start 5 1 false) ∷ []) (set_entry_of 5 1 1 0)) 1 4
@@ -228,9 +214,9 @@ twice_witness = witness_along twice_script twice_record
     ∷ (did 1 [] 12 12 ∷ did 1 (turn_of 0 3 [] (object_entries.Read 1 armings.None reads.Again)) 12 14 ∷ []) ∷ [])
 
 -- law: it fits
-pub twice_fits : Fits twice_script twice_record
+pub two_expiries_fit : Fits two_expiries_script two_expiries_record
 unfolding after_entry changed passed
-twice_fits = fits_by twice_witness (record {
+two_expiries_fit = fits_by two_expiries_witness (record {
   version = refl;
   passed = refl;
   writes = (record { counted = lt refl; timely = le refl }, record { mono = refl; real = refl; boot = refl; changes = refl }, tt);
@@ -249,35 +235,21 @@ twice_fits = fits_by twice_witness (record {
   placed = (refl, (refl, tt));
   calls = two (
       two (right refl refl refl (refl, tt) (refl, tt) (refl, tt) refl (refl, tt) tt)
-      (two (right refl refl refl (refl, tt) (refl, tt) (refl, tt) (record {
-        taken = record { known = refl; good_value = lt refl; good_interval = lt refl };
-        cancel = None;
-        arm = armings.Generation 1;
-        start = Entered 0 1 (set_start 5 1 false) ∷ [];
-        stamp = 0;
-        arms = (armed_by 1 5, refl, refl, stays refl refl refl);
-        done = refl;
-      }) (refl, ((refl, (refl, refl, λ e. refl)), tt))
+      (two (right refl refl refl (refl, tt) (refl, tt) (refl, tt) (armed_anew 0 1 (record { known = refl; good_value = lt refl; good_interval = lt refl })
+      (armed_by 1 5, refl, refl, stays refl refl refl)) (refl, ((refl, (refl, refl, λ e. refl)), tt))
       (2, le refl, le refl, point_passes _ _ _ _ _ refl, record { armed = refl; running = refl; moving = refl }))
       (two (right refl refl refl (refl, tt) (refl, tt) (refl, tt)
       (record { one_reading = refl; claimed = refl; done = refl; contexts = (refl, tt); bodies = ((inl (1, true, refl), refl), tt) }, lt refl)
-      (refl, (tt, tt)) (done_by twice_witness contexts.Hard 1 0 8 refl refl (refl, tt) (λ clock. (refl, tt))))
-      (two (right refl refl refl (refl, tt) (refl, tt) (refl, tt) (record {
-        taken = record { known = refl; good_value = lt refl; good_interval = lt refl };
-        cancel = None;
-        arm = armings.Generation 4;
-        start = Entered 0 4 (set_start 6 1 false) ∷ [];
-        stamp = 2;
-        arms = (armed_by 4 6, refl, refl, stays refl refl refl);
-        done = refl;
-      }) (refl, ((refl, (refl, refl, λ e. refl)), tt))
+      (refl, (tt, tt)) (done_by two_expiries_witness contexts.Hard 1 0 8 refl refl (refl, tt) (λ clock. (refl, tt))))
+      (two (right refl refl refl (refl, tt) (refl, tt) (refl, tt) (armed_anew 2 4 (record { known = refl; good_value = lt refl; good_interval = lt refl })
+      (armed_by 4 6, refl, refl, stays refl refl refl)) (refl, ((refl, (refl, refl, λ e. refl)), tt))
       (9, le refl, le refl, point_passes _ _ _ _ _ refl, record { armed = refl; running = refl; moving = refl }))
       (two (right refl refl refl (refl, tt) (refl, tt) (refl, tt)
       (record { one_reading = refl; claimed = refl; done = refl; contexts = (refl, tt); bodies = ((inl (4, true, refl), refl), tt) }, lt refl)
-      (refl, (tt, tt)) (done_by twice_witness contexts.Hard 1 0 17 refl refl (refl, tt) (λ clock. (refl, tt)))) tt))))
+      (refl, (tt, tt)) (done_by two_expiries_witness contexts.Hard 1 0 17 refl refl (refl, tt) (λ clock. (refl, tt)))) tt))))
       ) (two (
       two (right refl refl refl (refl, tt) (refl, tt) (refl, tt) refl (refl, tt) (record { stamp = refl; holds = refl }))
-      (two (right refl refl refl (refl, tt) (refl, tt) (refl, tt) (le refl, none_armed 3) (refl, (tt, tt)) tt) tt)
+      (two (right refl refl refl (refl, tt) (refl, tt) (refl, tt) (none_armed 3, le refl) (refl, (tt, tt)) tt) tt)
       ) tt);
 })
 
@@ -306,18 +278,11 @@ canceled_fits = fits_by canceled_witness (record {
       (three (lt refl, (λ e. refl, λ e. refl)) refl tt))) tt;
   placed = (refl, (refl, tt));
   calls = two (
-      two (right refl refl refl (refl, tt) (refl, tt) (refl, tt) (record {
-        taken = record { known = refl; good_value = lt refl; good_interval = lt refl };
-        cancel = None;
-        arm = armings.Generation 1;
-        start = Entered 0 1 real_start ∷ [];
-        stamp = 0;
-        arms = (record (armed_by 1 50) { placement = record { base = 0; clock = clocks.Realtime; soft = 50; expires = 50 } }, refl, refl, stays refl refl refl);
-        done = refl;
-      }) (refl, ((refl, (refl, refl, λ e. refl)), tt))
+      two (right refl refl refl (refl, tt) (refl, tt) (refl, tt) (armed_anew 0 1 (record { known = refl; good_value = lt refl; good_interval = lt refl })
+      (record (armed_by 1 50) { placement = record { base = 0; clock = clocks.Realtime; soft = 50; expires = 50 } }, refl, refl, stays refl refl refl)) (refl, ((refl, (refl, refl, λ e. refl)), tt))
       (1, le refl, le refl, point_passes _ _ _ _ _ refl, record { armed = refl; running = refl; moving = refl }))
       (two (right refl refl refl (refl, tt) (refl, tt) (refl, tt)
-      (le refl, none_armed 1) (refl, (tt, tt)) tt) tt)
+      (none_armed 1, le refl) (refl, (tt, tt)) tt) tt)
       ) (two (
       two (right refl refl refl (refl, tt) (refl, tt) (refl, tt) (refl, refl) (refl, tt) (refl, refl))
       (two (right refl refl refl (refl, tt) (refl, tt) (refl, tt) refl (refl, tt) tt) tt)
@@ -337,15 +302,8 @@ set_beside looks told times = witness_along (case_script 1 2 (kinds.Posix 0 ∷ 
 set_right : (looks : List LaneCall) (told : List Answer) (times : List Trace) → IsRight (set_beside looks told times) (at 0 0) (settime_to 50) (answers.Old 0 0)
 unfolding after_entry changed passed
 set_right looks told times =
-    right refl refl refl (refl, tt) (refl, tt) (refl, tt) (record {
-      taken = record { known = refl; good_value = lt refl; good_interval = lt refl };
-      cancel = None;
-      arm = armings.Generation 1;
-      start = Entered 0 1 (set_start 50 0 false) ∷ [];
-      stamp = 0;
-      arms = (armed_by 1 50, refl, refl, stays refl refl refl);
-      done = refl;
-    }) (refl, ((refl, (refl, refl, λ e. refl)), tt))
+    right refl refl refl (refl, tt) (refl, tt) (refl, tt) (armed_anew 0 1 (record { known = refl; good_value = lt refl; good_interval = lt refl })
+    (armed_by 1 50, refl, refl, stays refl refl refl)) (refl, ((refl, (refl, refl, λ e. refl)), tt))
     (1, le refl, le refl, point_passes _ _ _ _ _ refl, record { armed = refl; running = refl; moving = refl })
 
 -- ---- a lane looks how an object is set, and then at its timer, beside another lane's settime
@@ -372,7 +330,7 @@ armed_fits = fits_by armed_witness (record {
   calls = two (
       two (set_right _ _ _) tt
       ) (two (
-      two (right refl refl refl (refl, tt) (refl, tt) (refl, tt) (refl, refl) (refl, tt) (refl, refl))
+      two (right refl refl refl (refl, tt) (refl, tt) (refl, tt) (refl, (tt, refl)) (refl, tt) (refl, refl))
       (two (right refl refl refl (refl, tt) (refl, tt) (refl, tt) refl (refl, tt) (record { stamp = refl; holds = refl })) tt)
       ) tt);
 })
@@ -402,6 +360,6 @@ set_fits = fits_by set_witness (record {
       two (set_right _ _ _) tt
       ) (two (
       two (right refl refl refl (refl, tt) (refl, tt) (refl, tt) refl (refl, tt) (record { stamp = refl; holds = refl }))
-      (two (right refl refl refl (refl, tt) (refl, tt) (refl, tt) (refl, refl) (refl, tt) (refl, refl)) tt)
+      (two (right refl refl refl (refl, tt) (refl, tt) (refl, tt) (refl, (tt, refl)) (refl, tt) (refl, refl)) tt)
       ) tt);
 })

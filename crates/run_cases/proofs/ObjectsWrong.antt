@@ -14,7 +14,7 @@ use Rattle.record_text.specs.declared.record.Label.{Label}
 use Rattle.run_history.specs.Witnesses.{Move, Trace, Witness, timer_along, witness_with}
 use Rattle.run_history.proofs.Actions.{made-append}
 use Rattle.fit_laws.proofs.OwnPoints.{entered_then, same_then, seen, stamp_then}
-use Rattle.run_cases.specs.Fitting.{accepts_script, armed_script, canceled_entry, canceled_script, seen_script, set_script, skipped_script, twice_script, unreadable_script}
+use Rattle.run_cases.specs.Fitting.{accepts_script, armed_script, canceled_entry, canceled_script, seen_script, set_script, skipped_script, two_expiries_script, unreadable_script}
 use Rattle.run_cases.specs.Lines.{at, claim_entry, finish_entry, set_entry_of, set_start}
 use Rattle.run_cases.specs.Wrong.{crossed_accepts_record, crossed_record, crossed_script, early_read_record, foreseen_set_record, hasty_skip_record, missed_expiry_record, settimes_record, settimes_script, uncancelled_record, uncancelled_script, unseen_record, unset_record, unstarted_record}
 use Rattle.run_cases.proofs.ExpiryRuns.{all_by_finish, fired_one, skipped_before_finish}
@@ -132,9 +132,9 @@ missed_expiry_doesnt_fit o =
 -- ---- a read stands before the first of two expiries, and its lane saw the function of the second
 
 -- law: it does not fit
-pub early_read_doesnt_fit : Fits twice_script early_read_record → ⊥
+pub early_read_doesnt_fit : Fits two_expiries_script early_read_record → ⊥
 early_read_doesnt_fit o =
-    let w = witness_with twice_script early_read_record o.0 o.1 in
+    let w = witness_with two_expiries_script early_read_record o.0 o.1 in
     let f = o.2 in
     let settime = (f.calls 0).2.2.2.1.0 in
     let peek = (f.calls 1).1.0 in
@@ -256,7 +256,7 @@ foreseen_set_doesnt_fit o =
     (λ (more : seen_at ≤ first). absurd (omega (arith, few, look.holds.0, turns_rise w 0 seen_at first more)))
     (cases_lt first seen_at) in
     let none = reads_no_later w f.history (at 0 1) (at 1 1) _ 0 read.1 refl set.begins (omega (arith, order, look.move_steps.1, set.move_steps.0)) in
-    let m = read.0.does.1 in
+    let m = read.0.does.0 in
     let one : 1 ≡ (o.1 (at 0 1)).at =
     canceled_reading m.start (o.1 (at 0 1)).at 2 (m.stamp + 1) m.arm canceled_entry (read.0.traced.objects 0 ∙ ap (made 0) m.done) in
     omega (arith, none, one)

@@ -14,7 +14,7 @@ use Rattle.seq_timer.specs.declared.event.Reply.TheVariants as replies
 use Rattle.record_text.specs.declared.record.Answer.TheVariants as answers
 use Rattle.record_text.specs.declared.record.Entry.{Entry}
 use Rattle.run_history.specs.Actions.{also, Entered, entered, Shifted}
-use Rattle.run_history.specs.Calls.{evacuates, KeepsExpiries}
+use Rattle.run_history.specs.Deeds.{evacuates, KeepsExpiries}
 use Rattle.run_history.specs.Fits.{Fits}
 use Rattle.run_history.specs.Histories.{timer_after}
 use Rattle.run_history.specs.Traces.{all_entered}

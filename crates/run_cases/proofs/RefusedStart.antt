@@ -14,7 +14,7 @@ use Rattle.run_cases.specs.Wrong.{early_refusal_record}
 use Rattle.run_cases.proofs.Calls.{right}
 use Rattle.run_cases.proofs.Small.{fits_by}
 use Rattle.run_cases.proofs.Tests.{le, lt, point_passes}
-use Rattle.run_cases.proofs.Witnesses.{armed_by, did, stays, step, three, turn_of, two, witness_along}
+use Rattle.run_cases.proofs.Witnesses.{armed_anew, armed_by, did, stays, step, three, turn_of, two, witness_along}
 
 -- ---- it is told of the timer with the cancel
 
@@ -46,15 +46,8 @@ full_fits = fits_by full_witness (record {
       (three (lt refl, refl, le refl, le refl, (λ e. absurd (cc), λ e. absurd (cc))) refl tt)))) tt;
   placed = (refl, tt);
   calls = two (
-      two (right refl refl refl (refl, tt) (refl, tt) (refl, tt) (record {
-        taken = record { known = refl; good_value = lt refl; good_interval = lt refl };
-        cancel = None;
-        arm = armings.Generation 1;
-        start = Entered 0 1 (set_start 50 0 false) ∷ [];
-        stamp = 0;
-        arms = (armed_by 1 50, refl, refl, stays refl refl refl);
-        done = refl;
-      }) (refl, ((refl, (refl, refl, λ e. refl)), tt))
+      two (right refl refl refl (refl, tt) (refl, tt) (refl, tt) (armed_anew 0 1 (record { known = refl; good_value = lt refl; good_interval = lt refl })
+      (armed_by 1 50, refl, refl, stays refl refl refl)) (refl, ((refl, (refl, refl, λ e. refl)), tt))
       (1, le refl, le refl, point_passes _ _ _ _ _ refl, record { armed = refl; running = refl; moving = refl }))
       (two (right refl refl refl (refl, tt) (refl, tt) (refl, tt) (record {
         taken = record { known = refl; good_value = lt refl; good_interval = lt refl };

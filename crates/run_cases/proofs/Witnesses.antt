@@ -3,6 +3,7 @@ use Rattle.std.proofs.Common.{◌≡◌, ◌≤◌, ℕ, ◌+◌, zero, suc, Boo
 use Rattle.std.specs.List.{AllByRecursion, list_all}
 use Rattle.std.proofs.lemmas.Bool.{and_parts, true≢false}
 use Rattle.std.proofs.lemmas.List.{get_or_past, length-map, take-map}
+use Rattle.ktime.specs.declared.timespec.TimeSpec.{TimeSpec}
 use Rattle.ktime.specs.declared.clock_id.ClockId.{ClockId}
 use Rattle.ktime.specs.declared.clock_id.ClockId.TheVariants as clocks
 use Rattle.seq_timer.specs.declared.context.Context.{Context}
@@ -16,20 +17,26 @@ use Rattle.seq_timer.specs.declared.system.TimerEntry.{TimerEntry}
 use Rattle.seq_timer.proofs.Systems.{after_entries-entries_of}
 use Rattle.record_text.specs.declared.record.ClockLine.{ClockLine}
 use Rattle.seq_timer.specs.declared.event.Restarted.TheVariants as restarts
+use Rattle.record_text.specs.declared.record.Armed.TheVariants as armings
+use Rattle.record_text.specs.declared.record.Entry.{Entry}
 use Rattle.record_text.specs.declared.record.ObjectEntry.{ObjectEntry}
+use Rattle.record_text.specs.declared.record.ObjectEntry.TheVariants as object_entries
+use Rattle.record_text.specs.declared.record.SettimeReply.TheVariants as settings
 use Rattle.record_text.specs.declared.record.RunRecord.{RunRecord}
+use Rattle.script_text.specs.declared.script.Kind.{Kind}
 use Rattle.script_text.specs.declared.script.LaneCall.{LaneCall}
 use Rattle.script_text.specs.declared.script.Round.{Round}
 use Rattle.script_text.specs.declared.script.Script.{Script}
-use Rattle.run_history.specs.Actions.{Action, also, Began, Made}
+use Rattle.run_history.specs.Actions.{Action, also, Began, Entered, Made}
 use Rattle.run_history.specs.Histories.{reading_at}
-use Rattle.script_text.specs.Declarations.{declared_as, declareds_of, terms_of}
+use Rattle.script_text.specs.Declarations.{base_of, declared_as, declareds_of, terms_of}
 use Rattle.run_history.specs.Order.{calls_from}
 use Rattle.run_history.specs.Starts.{Arming, IsArming, IsJustBefore, IsSentBy, first_number}
-use Rattle.run_history.specs.Calls.{fires}
+use Rattle.run_history.specs.Deeds.{fires}
+use Rattle.run_history.specs.ObjectCalls.{AreValidFor, Arms, MakesSettime, nanoseconds_of, start_mode}
+use Rattle.run_history.specs.Truths.{IsDone}
 use Rattle.run_history.specs.Witnesses.{Witness, entries_in, entry_of_move, Fired, is_owner, Move, moves_on, OfBase, OfRise, OfTimer, Owner, owner_of, Shown, system_along, timer_along, TimersList, Trace}
 use Rattle.run_history.specs.Receipts.{move_at}
-use Rattle.run_history.specs.Truths.{IsDone}
 use Rattle.run_history.proofs.OwnHistories.{entries_on, own_entry}
 use Rattle.run_cases.proofs.Tests.{all_true, le, lt, other}
 
@@ -106,6 +113,23 @@ stays {Reached} {limit} {base} {a} below none same = record {
   below = subst (λ outs. first_number outs a.number ≤ limit) (sym none) (le below);
   next = subst (λ outs. IsJustBefore outs a.number) (sym none) tt;
   way = subst (λ outs. IsSentBy Reached base (map (λ out. out.base) outs) a.asked) (sym none) ([], same);
+}
+
+-- a settime that found its timer idle, and starts it by this entry
+pub armed_anew : {Reached : ℕ → ℕ → Type 0} {limit flags reading : ℕ} {kind : Kind} {value interval : TimeSpec} {entry : Entry} (stamp number : ℕ)
+    → AreValidFor kind flags value interval
+    → Arms Reached limit 0 (start_mode kind flags) (nanoseconds_of value) reading (base_of kind) (armings.Generation number) (Entered 0 number entry ∷ [])
+    → MakesSettime Reached limit kind 0 flags value interval reading (settings.Old 0 0)
+    (turn_of 0 stamp (Entered 0 number entry ∷ [])
+    (object_entries.Settime flags (nanoseconds_of value) (nanoseconds_of interval) reading (armings.Generation number) (settings.Old 0 0)))
+armed_anew {entry = entry} stamp number valid arms = record {
+  taken = valid;
+  cancel = None;
+  arm = armings.Generation number;
+  start = Entered 0 number entry ∷ [];
+  stamp = stamp;
+  arms = arms;
+  done = refl;
 }
 
 -- whether a start, if it is one, finds its base on line

@@ -287,8 +287,8 @@ skipped_record = skipped_by (answers.Peek 1 0 true false false)
 -- ---- a lane looks at a timer and reads its descriptor, beside another lane that sets the descriptor twice, each time with an expiry
 
 -- the script
-abbrev pub twice_script : Script
-twice_script = case_script 1 2 (kinds.Fd 0 ∷ []) ((by 0 (calls.Clock (writes.Advance 10)) ∷ [])
+abbrev pub two_expiries_script : Script
+two_expiries_script = case_script 1 2 (kinds.Fd 0 ∷ []) ((by 0 (calls.Clock (writes.Advance 10)) ∷ [])
     ∷ (by 0 (settime_to 5) ∷ by 0 (hard_expire 0 4) ∷ by 0 (settime_to 6) ∷ by 0 (hard_expire 0 4) ∷ by 1 (calls.Peek 0) ∷ by 1 (calls.Read 0 8) ∷ []) ∷ [])
 
 -- the lines of the first expiry, of the second settime and of the read
@@ -302,8 +302,8 @@ abbrev pub read_again : ObjectLine
 read_again = case_object_line 1 1 (object_entries.Read 1 armings.None reads.Again)
 
 -- the order of these three, and all else: the look found the second function running, and the read found no expiry
-abbrev pub twice_by : List ObjectLine → RunRecord
-twice_by lines = object_record (advance_line 0 0 10 ∷ [])
+abbrev pub two_expiries_by : List ObjectLine → RunRecord
+two_expiries_by lines = object_record (advance_line 0 0 10 ∷ [])
     ((line 0 1 (set_start 5 1 false) ∷ line 0 2 (claim_entry 0 1 1) ∷ line 0 2 (finish_entry false 1) ∷ line 0 3 (set_start 6 1 false)
     ∷ line 0 4 (claim_entry 0 1 4) ∷ line 0 4 (finish_entry false 4) ∷ []) ∷ [])
     ((case_object_line 0 1 (set_entry_of 5 1 1 0) ∷ lines ++ case_object_line 0 4 (object_entries.Trigger 4 1 true) ∷ []) ∷ [])
@@ -311,8 +311,8 @@ twice_by lines = object_record (advance_line 0 0 10 ∷ [])
     ∷ (answers.Peek 5 0 false true false ∷ answers.Again ∷ []) ∷ [])
 
 -- its record: the read was behind the second settime
-abbrev pub twice_record : RunRecord
-twice_record = twice_by (first_expiry ∷ second_set ∷ read_again ∷ [])
+abbrev pub two_expiries_record : RunRecord
+two_expiries_record = two_expiries_by (first_expiry ∷ second_set ∷ read_again ∷ [])
 
 -- ---- a lane looks at a descriptor and then sets the clock, which cancels another lane's read
 

@@ -16,7 +16,7 @@ use Rattle.script_text.specs.declared.script.Callback.TheVariants as callbacks
 use Rattle.script_text.specs.declared.script.Kind.TheVariants as kinds
 use Rattle.script_text.specs.declared.script.Kind.{Kind}
 use Rattle.script_text.specs.declared.script.Script.{Script}
-use Rattle.run_cases.specs.Fitting.{accepts_by, armed_seen_by, awaited_by, busy_by, canceled_by, first_expiry, full_by, nothing_by, read_again, refused_by, second_set, seen_by, set_seen_by, skipped_by, started_by, twice_by, unreadable_by}
+use Rattle.run_cases.specs.Fitting.{accepts_by, armed_seen_by, awaited_by, busy_by, canceled_by, first_expiry, full_by, nothing_by, read_again, refused_by, second_set, seen_by, set_seen_by, skipped_by, started_by, two_expiries_by, unreadable_by}
 use Rattle.run_cases.specs.Lines.{advance_line, at, object_record, set_entry_of, set_start, settime_to, base_line, by, case_object_line, case_script, case_start, claim_lines, hard_expire, hard_raw, line, off_line_record, out_entry, case_start_entry, raw_record, case_record_in, case_script_in, slack_entry, slack_start, start, cancel_entry, claim_entry, finish_entry}
 
 -- two timers whose callbacks do nothing
@@ -135,7 +135,7 @@ missed_expiry_record = unreadable_by (answers.Peek 3 0 false false false)
 
 -- a record that breaks it
 abbrev pub early_read_record : RunRecord
-early_read_record = twice_by (read_again ∷ first_expiry ∷ second_set ∷ [])
+early_read_record = two_expiries_by (read_again ∷ first_expiry ∷ second_set ∷ [])
 
 -- ---- of two lanes each sets its descriptor, and sees the other's as it was before: the script of these settimes and looks
 

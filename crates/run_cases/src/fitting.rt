@@ -71,9 +71,9 @@ pub fn a_full_object_skips_an_expiry()
 {}
 
 /// A lane sees a timer's function run a second time, and its read finds no expiry: it stands behind the second settime, before the second expiry's entry.
-#[tactic(auto, using(crate::proofs::ObjectsFitting::twice_fits))]
+#[tactic(auto, using(crate::proofs::ObjectsFitting::two_expiries_fit))]
 pub fn a_read_between_two_expiries()
-    ensures { Fits fitting.twice_script fitting.twice_record }
+    ensures { Fits fitting.two_expiries_script fitting.two_expiries_record }
 {}
 
 /// A read is canceled by another lane's set of the clock.

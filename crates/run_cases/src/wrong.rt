@@ -61,7 +61,7 @@ pub fn no_look_misses_an_expiry_that_was_over()
 /// A read doesn't stand before the first of two expiries, when its lane has seen the function of the second.
 #[tactic(auto, using(crate::proofs::ObjectsWrong::early_read_doesnt_fit))]
 pub fn no_read_misses_the_first_of_two_expiries()
-    ensures { Fits fitting.twice_script wrong.early_read_record → ⊥ }
+    ensures { Fits fitting.two_expiries_script wrong.early_read_record → ⊥ }
 {}
 
 /// Of two lanes that each make an entry of one object and then look at the other's, not both see none.

@@ -28,13 +28,14 @@ use Rattle.script_text.specs.declared.script.Callback.TheVariants as callbacks
 use Rattle.script_text.specs.declared.script.Callback.{Callback}
 use Rattle.script_text.specs.declared.script.Kind.TheVariants as kinds
 use Rattle.script_text.specs.declared.script.Kind.{Kind}
-use Rattle.run_history.specs.Calls.{Does, fires, IsBody, IsCallback, IsExpiryRun, IsTrigger}
+use Rattle.run_history.specs.Calls.{Does, AnswerHolds}
+use Rattle.run_history.specs.Deeds.{fires, IsBody, IsCallback, IsExpiryRun, IsTrigger}
+use Rattle.run_history.specs.Truths.{AreTrue, IsDone, IsMoment, Saw, SawFull, WasOffLine}
 use Rattle.run_history.specs.Witnesses.{Fired, OfRise, OfTimer, Trace, Witness, timer_along}
 use Rattle.run_history.specs.Fits.{FitsCall, Seen}
 use Rattle.run_history.specs.Receipts.{PlacedEntry, receipt}
 use Rattle.run_history.specs.Rounds.{Spans}
 use Rattle.run_history.specs.Traces.{all_entered}
-use Rattle.run_history.specs.Truths.{AnswerHolds, AreTrue, IsDone, IsMoment, Saw, SawFull, WasOffLine}
 use Rattle.run_history.proofs.Actions.{all_entered-append}
 use Rattle.run_history.proofs.Kept.{call_made_whole, IsKept, moment_of, Stops}
 use Rattle.run_history.proofs.Known.{AreMade, first_note, made-append, made_wider, no_notes, none_made, one_note, stops_between}

@@ -10,13 +10,14 @@ use Rattle.run_history.specs.Histories.{clock_labels, lines_of_timer}
 use Rattle.run_history.specs.Objects.{lines_of_object}
 use Rattle.run_history.specs.Order.{is_label, IsLabel, IsPoint, NeverFall}
 use Rattle.script_text.specs.declared.script.Call.{Call}
-use Rattle.run_history.specs.Calls.{AllKeepExpiries, AllMoved, Does}
+use Rattle.run_history.specs.Calls.{Does, AnswerHolds}
+use Rattle.run_history.specs.Deeds.{AllKeepExpiries, AllMoved}
+use Rattle.run_history.specs.Truths.{AreTrue, IsMoment, WasFront, WasOffLine}
 use Rattle.run_history.specs.Witnesses.{Witness, labels, Move, Trace}
 use Rattle.run_history.specs.Fits.{FitsCall, FitsTrace, Seen}
 use Rattle.run_history.specs.Receipts.{AreAll, at_place, PlacedEntry, receipt, shape}
 use Rattle.run_history.specs.Rounds.{IsLaid, Spans}
 use Rattle.run_history.specs.Traces.{all_entered, own_moves}
-use Rattle.run_history.specs.Truths.{AreTrue, IsMoment, AnswerHolds, WasFront, WasOffLine}
 use Rattle.run_history.proofs.Points.{point_among}
 
 -- a call that had made these entries, and no others, when it had seen so many of all

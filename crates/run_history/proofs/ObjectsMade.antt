@@ -23,18 +23,18 @@ use Rattle.record_text.specs.declared.record.ReadReply.{ReadReply}
 use Rattle.record_text.specs.declared.record.SettimeReply.TheVariants as settings
 use Rattle.record_text.specs.declared.record.SettimeReply.{SettimeReply}
 use Rattle.run_history.specs.Actions.{Action, Began, Made}
-use Rattle.run_history.specs.ObjectCalls.{AreValidFor, Arms, cancels, DoesGettime, MakesRearming, MakesSettime, nanoseconds_of, start_mode}
+use Rattle.run_history.specs.ObjectCalls.{AreValidFor, Arms, cancels, MakesRearming, MakesSettime, nanoseconds_of, start_mode}
 use Rattle.script_text.specs.Declarations.{base_of, kind_of, without_slack}
 use Rattle.run_history.specs.Starts.{SentTo, arming_actions}
 use Rattle.script_text.specs.declared.script.Call.TheVariants as calls
 use Rattle.script_text.specs.declared.script.Call.{Call}
 use Rattle.script_text.specs.declared.script.Kind.TheVariants as kinds
-use Rattle.run_history.specs.Calls.{Does}
+use Rattle.run_history.specs.Calls.{AnswerHolds, Does, IsFd}
+use Rattle.run_history.specs.Truths.{DisarmedFirst, IsMoment, IsTrueEntry, IsTrueStart, SawRefusal, WasIdle, WasOffLine}
 use Rattle.run_history.specs.Witnesses.{Witness, timer_along}
 use Rattle.run_history.specs.Fits.{FitsCall, Seen}
 use Rattle.run_history.specs.Receipts.{PlacedEntry}
 use Rattle.run_history.specs.Rounds.{Spans}
-use Rattle.run_history.specs.Truths.{AnswerHolds, DisarmedFirst, IsMoment, IsTrueEntry, IsTrueStart, SawRefusal, WasIdle, WasOffLine}
 use Rattle.run_history.proofs.Kept.{call_made, IsKept, moment_of, Stops}
 use Rattle.run_history.proofs.OthersMade.{none_moved, plain}
 use Rattle.run_history.proofs.Plain.{IsPlain, plain_arms, plain_then}
@@ -231,11 +231,11 @@ module _ {w : Witness} {moves : Spans} {c : Label} {at begin last timer : ℕ} {
       → moves.first c ≤ begin → IsRearmed w c notes at begin last timer arm start stamp → count_length ≤ len
       → FitsCall w c (calls.Read timer len) (answer_of_read reply) before after
   read_made len (reads.Count total) kept low rearmed room =
-      rearming_made (λ arm. object_entries.Read at arm (reads.Count total)) kept low rearmed (λ is. is) (λ makes. (room, makes)) tt
+      rearming_made (λ arm. object_entries.Read at arm (reads.Count total)) kept low rearmed (λ is. is) (λ makes. (makes, room)) tt
   read_made len reads.Again kept low rearmed room =
-      rearming_made (λ arm. object_entries.Read at arm reads.Again) kept low rearmed (λ is. is) (λ makes. (room, makes)) tt
+      rearming_made (λ arm. object_entries.Read at arm reads.Again) kept low rearmed (λ is. is) (λ makes. (makes, room)) tt
   read_made len reads.Canceled kept low rearmed room =
-      rearming_made (λ arm. object_entries.Read at arm reads.Canceled) kept low rearmed (λ is. is) (λ makes. (room, makes)) tt
+      rearming_made (λ arm. object_entries.Read at arm reads.Canceled) kept low rearmed (λ is. is) (λ makes. (makes, room)) tt
 
   -- law: a gettime of a descriptor that makes an entry fits
   pub gettime_made : (base left interval : ℕ)
@@ -244,8 +244,5 @@ module _ {w : Witness} {moves : Spans} {c : Label} {at begin last timer : ℕ} {
       → moves.first c ≤ begin → IsRearmed w c notes at begin last timer arm start stamp → kind_of w.script timer ≡ kinds.Fd base
       → FitsCall w c (calls.Gettime timer) (answers.Left left interval) before after
   gettime_made base left interval kept low rearmed kind =
-      let actions = rearming_actions timer start stamp (object_entries.Gettime at arm left interval) in
       rearming_made (λ arm. object_entries.Gettime at arm left interval) kept low rearmed (λ is. is)
-      (λ makes. subst (λ k. DoesGettime (WasOffLine w begin last) w.script.limit k timer at (answers.Left left interval) actions) (sym kind)
-      (subst (λ k. MakesRearming (WasOffLine w begin last) w.script.limit k timer at
-      (λ arm. object_entries.Gettime at arm left interval) actions) kind makes)) tt
+      (λ makes. (makes, subst IsFd (sym kind) tt)) tt

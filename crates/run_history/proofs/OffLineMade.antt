@@ -8,11 +8,12 @@ use Rattle.record_text.specs.declared.record.Answer.{Answer}
 use Rattle.record_text.specs.declared.record.Label.{Label}
 use Rattle.script_text.specs.declared.script.Call.TheVariants as calls
 use Rattle.run_history.specs.Actions.{Action, Shifted}
-use Rattle.run_history.specs.Calls.{AllKeepExpiries, AllMoved, Does, evacuates}
+use Rattle.run_history.specs.Calls.{Does, AnswerHolds}
+use Rattle.run_history.specs.Deeds.{AllKeepExpiries, AllMoved, evacuates}
+use Rattle.run_history.specs.Truths.{WasFront, WasOffLine}
 use Rattle.run_history.specs.Fits.{FitsCall, Seen}
 use Rattle.run_history.specs.Receipts.{PlacedEntry}
 use Rattle.run_history.specs.Rounds.{Spans}
-use Rattle.run_history.specs.Truths.{AnswerHolds, WasFront, WasOffLine}
 use Rattle.run_history.specs.Witnesses.{Evacuation, Trace, Witness}
 use Rattle.run_history.proofs.Kept.{call_made_whole, IsKept}
 use Rattle.run_history.proofs.OthersMade.{plain}

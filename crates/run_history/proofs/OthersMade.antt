@@ -12,12 +12,13 @@ use Rattle.run_history.specs.Starts.{Arming, arming_actions, IsArming, was_armed
 use Rattle.script_text.specs.declared.script.StartRequest.{StartRequest}
 use Rattle.script_text.specs.declared.script.Call.TheVariants as calls
 use Rattle.script_text.specs.declared.script.Call.{Call}
-use Rattle.run_history.specs.Calls.{AllMoved, Does}
+use Rattle.run_history.specs.Calls.{Does, AnswerHolds}
+use Rattle.run_history.specs.Deeds.{AllMoved}
+use Rattle.run_history.specs.Truths.{AreTrue, WasOffLine}
 use Rattle.run_history.specs.Witnesses.{Evacuation, Witness, Trace}
 use Rattle.run_history.specs.Fits.{FitsCall, Seen}
 use Rattle.run_history.specs.Receipts.{PlacedEntry}
 use Rattle.run_history.specs.Rounds.{Spans}
-use Rattle.run_history.specs.Truths.{AreTrue, AnswerHolds, WasOffLine}
 use Rattle.run_history.proofs.Kept.{call_made, call_made_whole, IsKept}
 use Rattle.run_history.proofs.Known.{no_notes}
 use Rattle.run_history.proofs.Plain.{plain_arms, plain_true}
@@ -29,18 +30,7 @@ plain at first last actions = record { at = at; fired = []; moved = []; actions 
 -- what is asked of the timers that a call moved is so where it moved none
 pub none_moved : (IsSo : ℕ → Evacuation → Type 0) (call : Call) → AllMoved IsSo call []
 none_moved IsSo (calls.Offline base heir budget) = tt
-none_moved IsSo (calls.Start timer request) = tt
-none_moved IsSo (calls.Cancel timer) = tt
-none_moved IsSo (calls.Peek timer) = tt
-none_moved IsSo (calls.Expire context base budget) = tt
-none_moved IsSo (calls.Clock write) = tt
-none_moved IsSo (calls.Settime timer flags value interval) = tt
-none_moved IsSo (calls.Gettime timer) = tt
-none_moved IsSo (calls.Accept timer) = tt
-none_moved IsSo (calls.Overrun timer) = tt
-none_moved IsSo (calls.Read timer len) = tt
-none_moved IsSo (calls.Readable timer) = tt
-none_moved IsSo (calls.Online base) = tt
+none_moved IsSo call = tt
 
 -- a call that makes no entry, of a timer, an object or the clock: what it was told held at one moment
 pub quiet_made : {w : Witness} {moves : Spans} {c : Label} {at last : ℕ} {notes : List PlacedEntry} {call : Call} {answer : Answer} {before after : Seen}

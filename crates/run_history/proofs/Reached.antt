@@ -5,25 +5,21 @@ use Rattle.std.proofs.Math.Logic.{⊎_elim}
 use Rattle.ktime.specs.declared.mode.Mode.{Mode}
 use Rattle.ktime.specs.declared.timespec.TimeSpec.{TimeSpec}
 use Rattle.seq_timer.specs.declared.context.Context.{Context}
-use Rattle.record_text.specs.declared.record.Answer.{Answer}
-use Rattle.record_text.specs.declared.record.Answer.TheVariants as answers
 use Rattle.record_text.specs.declared.record.Armed.{Armed}
 use Rattle.record_text.specs.declared.record.Armed.TheVariants as armings
 use Rattle.record_text.specs.declared.record.ObjectEntry.{ObjectEntry}
 use Rattle.record_text.specs.declared.record.SettimeReply.{SettimeReply}
 use Rattle.script_text.specs.Declarations.{kind_of}
-use Rattle.script_text.specs.declared.script.Call.{Call}
-use Rattle.script_text.specs.declared.script.Call.TheVariants as calls
 use Rattle.script_text.specs.declared.script.Callback.{Callback}
 use Rattle.script_text.specs.declared.script.Callback.TheVariants as callbacks
 use Rattle.script_text.specs.declared.script.Kind.{Kind}
 use Rattle.script_text.specs.declared.script.Kind.TheVariants as kinds
 use Rattle.script_text.specs.declared.script.Script.{Script}
 use Rattle.run_history.specs.Actions.{Action}
-use Rattle.run_history.specs.Calls.{Does, IsBody, IsCallback, IsExpiryRun}
-use Rattle.run_history.specs.ObjectCalls.{Arms, DoesAccept, DoesGettime, DoesRead, DoesSettime, MakesRearming, MakesSettime}
-use Rattle.run_history.specs.Starts.{Arming, IsArming, IsSentBy, IsWay}
+use Rattle.run_history.specs.Deeds.{Deed, Did, IsBody, IsCallback, IsExpiryRun, Rearms, Runs, Sets, Starts, Where}
 use Rattle.run_history.specs.Truths.{WasOffLine}
+use Rattle.run_history.specs.ObjectCalls.{Arms, MakesRearming, MakesSettime}
+use Rattle.run_history.specs.Starts.{Arming, IsArming, IsSentBy, IsWay}
 use Rattle.run_history.specs.Witnesses.{Evacuation, Fired, Witness}
 
 -- law: what was off line between two moments was so between earlier and later ones
@@ -78,39 +74,6 @@ module _ (Fewer More : ℕ → ℕ → Type 0) (to : (base heir : ℕ) → Fewer
     done = makes.done;
   }
 
-  does_settime_wider : (limit : ℕ) (kind : Kind) (timer flags : ℕ) (value interval : TimeSpec) (reading : ℕ) (answer : Answer) (actions : List Action)
-      → DoesSettime Fewer limit kind timer flags value interval reading answer actions
-      → DoesSettime More limit kind timer flags value interval reading answer actions
-  does_settime_wider limit kind timer flags value interval reading answers.Invalid actions does = does
-  does_settime_wider limit kind timer flags value interval reading (answers.Spent stamp) actions does = does
-  does_settime_wider limit kind timer flags value interval reading (answers.Old left old) actions does = settime_wider does
-  does_settime_wider limit kind timer flags value interval reading answers.Canceled actions does = settime_wider does
-  does_settime_wider limit kind timer flags value interval reading (answers.Unarmed stamp) actions does = settime_wider does
-  does_settime_wider limit kind timer flags value interval reading answer actions does = absurd does
-
-  does_gettime_wider : (limit : ℕ) (kind : Kind) (timer reading : ℕ) (answer : Answer) (actions : List Action)
-      → DoesGettime Fewer limit kind timer reading answer actions → DoesGettime More limit kind timer reading answer actions
-  does_gettime_wider limit (kinds.Posix base) timer reading (answers.LeftAt left interval shown stamp) actions does = does
-  does_gettime_wider limit (kinds.Fd base) timer reading (answers.Left left interval) actions does = rearming_wider does
-  does_gettime_wider limit (kinds.Fd base) timer reading (answers.Spent stamp) actions does = does
-  does_gettime_wider limit kind timer reading answer actions does = absurd does
-
-  does_accept_wider : (limit : ℕ) (kind : Kind) (timer reading : ℕ) (answer : Answer) (actions : List Action)
-      → DoesAccept Fewer limit kind timer reading answer actions → DoesAccept More limit kind timer reading answer actions
-  does_accept_wider limit kind timer reading (answers.Accepted overrun) actions does = rearming_wider does
-  does_accept_wider limit kind timer reading answers.NoSignal actions does = rearming_wider does
-  does_accept_wider limit kind timer reading (answers.Spent stamp) actions does = does
-  does_accept_wider limit kind timer reading answer actions does = absurd does
-
-  does_read_wider : (limit : ℕ) (kind : Kind) (timer len reading : ℕ) (answer : Answer) (actions : List Action)
-      → DoesRead Fewer limit kind timer len reading answer actions → DoesRead More limit kind timer len reading answer actions
-  does_read_wider limit kind timer len reading answers.Invalid actions does = does
-  does_read_wider limit kind timer len reading (answers.Spent stamp) actions does = does
-  does_read_wider limit kind timer len reading (answers.Count total) actions does = (does.0, rearming_wider does.1)
-  does_read_wider limit kind timer len reading answers.Again actions does = (does.0, rearming_wider does.1)
-  does_read_wider limit kind timer len reading answers.Canceled actions does = (does.0, rearming_wider does.1)
-  does_read_wider limit kind timer len reading answer actions does = absurd does
-
   -- ---- expiry runs
 
   callback_wider : (limit : ℕ) (callback : Callback) (reading : ℕ) (f : Fired) → IsCallback Fewer limit callback reading f
@@ -142,34 +105,12 @@ module _ (Fewer More : ℕ → ℕ → Type 0) (to : (base heir : ℕ) → Fewer
   }
 
   -- law: what a call did by what it saw, it did by more
-  pub does_wider : (s : Script) (reading : ℕ) (call : Call) (answer : Answer) (fired : List Fired) (moved : List Evacuation) (actions : List Action)
-      → Does Fewer s reading call answer fired moved actions → Does More s reading call answer fired moved actions
-  does_wider s reading (calls.Start timer request) (answers.Started generation on was) fired moved actions does =
-      (does.0, does.1, does.2, does.3, does.4, arming_wider does.5)
-  does_wider s reading (calls.Start timer request) (answers.Spent stamp) fired moved actions does = does
-  does_wider s reading (calls.Cancel timer) (answers.Cancelled generation) fired moved actions does = does
-  does_wider s reading (calls.Cancel timer) (answers.Running generation stamp) fired moved actions does = does
-  does_wider s reading (calls.Cancel timer) (answers.Idle stamp) fired moved actions does = does
-  does_wider s reading (calls.Peek timer) (answers.Peek stamp base enqueued running moving) fired moved actions does = does
-  does_wider s reading (calls.Expire context base budget) (answers.Done shown timers) fired moved actions does = (run_wider does.0, does.1)
-  does_wider s reading (calls.Expire context base budget) (answers.More shown timers) fired moved actions does = (run_wider does.0, does.1)
-  does_wider s reading (calls.Expire context base budget) (answers.Busy shown timers timer generation) fired moved actions does = (run_wider does.0, does.1)
-  does_wider s reading (calls.Clock write) (answers.Clock stamp) fired moved actions does = does
-  does_wider s reading (calls.Clock write) (answers.Range would_be) fired moved actions does = does
-  does_wider s reading (calls.Settime timer flags value interval) answer fired moved actions does =
-      does_settime_wider s.limit (kind_of s timer) timer flags value interval reading answer actions does
-  does_wider s reading (calls.Gettime timer) answer fired moved actions does = does_gettime_wider s.limit (kind_of s timer) timer reading answer actions does
-  does_wider s reading (calls.Accept timer) answer fired moved actions does = does_accept_wider s.limit (kind_of s timer) timer reading answer actions does
-  does_wider s reading (calls.Overrun timer) (answers.Overrun overrun stamp) fired moved actions does = does
-  does_wider s reading (calls.Read timer len) answer fired moved actions does = does_read_wider s.limit (kind_of s timer) timer len reading answer actions does
-  does_wider s reading (calls.Readable timer) (answers.Readable ready shown stamp) fired moved actions does = does
-  does_wider s reading (calls.Offline base heir budget) (answers.Offline count stamp) fired moved actions does = does
-  does_wider s reading (calls.Offline base heir budget) (answers.OfflineBusy count timer generation) fired moved actions does = does
-  does_wider s reading (calls.Offline base heir budget) (answers.OfflineMore count) fired moved actions does = does
-  does_wider s reading (calls.Offline base heir budget) (answers.OfflineSpent count timer stamp) fired moved actions does = does
-  does_wider s reading (calls.Offline base heir budget) (answers.Already stamp) fired moved actions does = does
-  does_wider s reading (calls.Offline base heir budget) (answers.HeirOffline stamp) fired moved actions does = does
-  does_wider s reading (calls.Offline base heir budget) (answers.BaseSpent stamp) fired moved actions does = does
-  does_wider s reading (calls.Online base) (answers.Online stamp) fired moved actions does = does
-  does_wider s reading (calls.Online base) (answers.Already stamp) fired moved actions does = does
-  does_wider s reading call answer fired moved actions does = absurd does
+  pub did_wider : (s : Script) (reading : ℕ) (did : Deed) (fired : List Fired) (moved : List Evacuation) (actions : List Action)
+      → Did Fewer s reading did fired moved actions → Did More s reading did fired moved actions
+  did_wider s reading (Starts timer request generation on was_armed) fired moved actions did =
+      (did.0, did.1, did.2, did.3, did.4, arming_wider did.5)
+  did_wider s reading (Runs context base shown timers IsCount) fired moved actions did = (run_wider did.0, did.1)
+  did_wider s reading (Sets timer flags value interval reply) fired moved actions did = settime_wider did
+  did_wider s reading (Rearms timer entry) fired moved actions did = rearming_wider did
+  did_wider s reading (Where rest IsSo) fired moved actions did = (did_wider s reading rest fired moved actions did.0, did.1)
+  did_wider s reading rest fired moved actions did = did

@@ -1,147 +1,172 @@
--- What each call may do and answer: its entries in their order, with the call's own arguments and one reading, and the answer that they give.
-use Rattle.std.specs.Prelude.{ℕ, ◌≡◌, ◌<◌, ◌≤◌, ◌+◌, ◌-◌, Bool, true, false, ◌⊎◌, List, [], ◌∷◌, ◌++◌, length, map, flat_map}
-use Rattle.std.specs.List.{AllByRecursion}
-use Rattle.ktime.specs.declared.mode.Mode.TheVariants as modes
-use Rattle.script_text.specs.declared.script.Callback.{Callback}
-use Rattle.script_text.specs.declared.script.Callback.TheVariants as callbacks
+-- The table of calls: for each call and each answer that it may have, what the call then did, and what the answer tells.
+use Rattle.std.specs.Prelude.{ℕ, ◌≡◌, ◌≤◌, ◌<◌, true, Some, None, IsSome, List, [], ◌∷◌}
+use Rattle.clock_model.specs.Clocks.{after_write, greatest}
+use Rattle.timer_fd.specs.Steps.{count_length}
+use Rattle.posix_timer.specs.States.{setting_of}
+use Rattle.timer_fd.specs.States.{is_readable}
+use Rattle.seq_timer.specs.declared.observation.Observation.TheVariants as observations
+use Rattle.seq_timer.specs.declared.standing.BaseEvent.TheVariants as shifts
+use Rattle.seq_timer.specs.Halves.{running_on}
+use Rattle.seq_timer.specs.Standings.{last_standing}
+use Rattle.seq_timer.specs.Tables.{IsUnused, in_context, is_armed_on}
 use Rattle.script_text.specs.declared.script.Kind.{Kind}
 use Rattle.script_text.specs.declared.script.Kind.TheVariants as kinds
 use Rattle.script_text.specs.declared.script.Call.{Call}
 use Rattle.script_text.specs.declared.script.Call.TheVariants as calls
 use Rattle.script_text.specs.declared.script.Script.{Script}
-use Rattle.seq_timer.specs.declared.context.Context.{Context}
-use Rattle.seq_timer.specs.declared.event.EventBy.TheVariants as events
-use Rattle.seq_timer.specs.declared.event.Moved.{Moved}
-use Rattle.seq_timer.specs.declared.event.Reply.TheVariants as replies
-use Rattle.seq_timer.specs.declared.standing.BaseEvent.TheVariants as shifts
-use Rattle.seq_timer.specs.Steps.{Timer}
-use Rattle.seq_timer.specs.Tables.{is_armed_on}
-use Rattle.record_text.specs.declared.record.RunRecord.{RunRecord}
-use Rattle.record_text.specs.declared.record.CallbackReply.TheVariants as told
+use Rattle.script_text.specs.Declarations.{base_of, kind_of}
+use Rattle.record_text.specs.declared.record.Label.{Label}
 use Rattle.record_text.specs.declared.record.Answer.{Answer}
 use Rattle.record_text.specs.declared.record.Answer.TheVariants as answers
+use Rattle.record_text.specs.declared.record.AcceptReply.TheVariants as acceptances
 use Rattle.record_text.specs.declared.record.ObjectEntry.TheVariants as object_entries
-use Rattle.script_text.specs.Declarations.{declared_of, without_slack, kind_of}
-use Rattle.run_history.specs.Histories.{timer_after}
-use Rattle.run_history.specs.Starts.{Arming, IsArming, arming_actions, was_armed_before}
-use Rattle.run_history.specs.ObjectCalls.{DoesSettime, DoesGettime, DoesAccept, DoesRead}
-use Rattle.run_history.specs.Actions.{Action, Began, Wrote, Entered, Looked, Made, Shifted, Skipped}
-use Rattle.run_history.specs.Witnesses.{Evacuation, Fired}
+use Rattle.record_text.specs.declared.record.ReadReply.TheVariants as reads
+use Rattle.record_text.specs.declared.record.SettimeReply.TheVariants as settings
+use Rattle.run_history.specs.Actions.{Action, Shifted}
+use Rattle.run_history.specs.Histories.{reading_at}
+use Rattle.run_history.specs.ObjectCalls.{AreValidFor}
+use Rattle.run_history.specs.Objects.{fd_after, posix_after}
+use Rattle.run_history.specs.Told.{IsOutOfRange}
+use Rattle.run_history.specs.Witnesses.{Evacuation, Fired, Witness, standing_along, timer_along}
+use Rattle.run_history.specs.Truths.{DisarmedFirst, HadEntries, IsDone, MayGo, NothingTold, RefusedBefore, RunsFirst, RunsNone}
+use Rattle.run_history.specs.Truths.{Saw, SawFull, SawFullOn, SawRefusal, StandsAt}
+use Rattle.run_history.specs.Deeds.{Cancels, Deed, Did, Evacuates, Never, Nothing, Rearms, Runs, Sets, Shifts, Starts, Where, Writes}
 
--- all that an expiry run did for one callback
-abbrev pub fires : ℕ → ℕ → Fired → List Action
-fires base reading f =
-    Entered f.timer f.claim (record { event = events.Claim base reading; reply = replies.Claim f.generation })
-    ∷ f.body ++ Entered f.timer f.finish (record { event = events.Finish f.restart; reply = replies.Finish f.generation f.restarted }) ∷ []
+-- a call in the one order: its label, its first and its last moment, and what it did
+pub record CallSpan : Type 0 where
+  pub w : Witness
+  pub label : Label
+  pub first : ℕ
+  pub last : ℕ
+  pub actions : List Action
 
--- what a claim of an object's timer does: a turn of the object with an entry that tells the expiry, or none where its history is full; it never asks for a
--- restart
-abbrev pub IsTrigger : ℕ → Fired → Type 0
-IsTrigger reading f =
-    (((stamp : ℕ) × (counted : Bool)
-    × (f.body ≡ Began f.timer stamp ∷ Made f.timer (stamp + 1) (object_entries.Trigger f.generation reading counted) ∷ []))
-    ⊎ ((number : ℕ) × (f.body ≡ Skipped f.timer number f.generation ∷ [])))
-    × (f.restart ≡ false)
+-- a row of the table: what a call did, and what its answer tells of its span
+pub record CallRow : Type 1 where
+  pub did : Deed
+  pub tells : CallSpan → Type 0
 
--- the entries of one move of a timer to an heir, which keeps its expiries
-abbrev pub evacuates : ℕ → ℕ → Evacuation → List Action
-evacuates heir reading e =
-    Entered e.timer (e.before + 1) (record { event = events.Out heir; reply = replies.Out true })
-    ∷ Entered e.timer (e.before + 2) (record {
-      event = events.Start (record { mode = modes.Keep; ns = e.ns; slack = e.slack; reading = reading; base = heir });
-      reply = replies.Start e.placement false;
-    }) ∷ []
+-- the call did so, and its answer tells nothing more
+abbrev pub only : Deed → CallRow
+only did = record { did = did; tells = λ c. NothingTold }
 
--- what a call did that took a base off line, or tried to: it moved so many timers to the heir, one after the other, and ended so
-pub record IsEvacuation (heir reading count : ℕ) (moved : List Evacuation) (end actions : List Action) : Type 0 where
-  pub counted : count ≡ length moved
-  pub done : actions ≡ flat_map (evacuates heir reading) moved ++ end
+-- the call did nothing, and its answer tells this
+abbrev pub looked : (CallSpan → Type 0) → CallRow
+looked tells = record { did = Nothing; tells = tells }
 
--- a timer was armed on the base before it was moved, and its start asks for the expiries that it had
-pub record KeepsExpiries (base : ℕ) (t : Timer) (e : Evacuation) : Type 0 where
-  pub armed : is_armed_on base t ≡ true
-  pub soft : e.ns ≡ t.soft
-  pub slack : e.slack ≡ t.expires - t.soft
+-- the call did nothing, since an object's history was full, and this holds besides
+abbrev pub full : ℕ → ℕ → Type 0 → CallRow
+full timer stamp IsSo = record { did = Where Nothing IsSo; tells = λ c. SawFull c.w timer stamp c.last }
 
--- so each timer that a call moved off a base
-abbrev pub AllMoved : (ℕ → Evacuation → Type 0) → Call → List Evacuation → Type 0
-AllMoved IsSo (calls.Offline base heir budget) moved = AllByRecursion (IsSo base) moved
-AllMoved IsSo call moved = Unit
+-- a settime made an entry, and had disarmed its timer first
+abbrev pub only_set : ℕ → Deed → CallRow
+only_set timer did = record { did = did; tells = λ c. DisarmedFirst c.w c.label c.first c.last timer c.actions }
 
--- they keep their expiries, by each one's own history
-abbrev pub AllKeepExpiries : Script → RunRecord → Call → List Evacuation → Type 0
-AllKeepExpiries s r call moved = AllMoved (λ base e. KeepsExpiries base (timer_after s r e.timer e.before) e) call moved
+-- a POSIX timer
+abbrev pub IsPosix : Kind → Type 0
+IsPosix (kinds.Posix base) = Unit
+IsPosix kind = ⊥
 
--- by what the call saw of bases off line
-module _ (Reached : ℕ → ℕ → Type 0) where
-  -- what a raw timer's callback may do, and whether it asks for a restart, by its declaration
-  abbrev pub IsCallback : ℕ → Callback → ℕ → Fired → Type 0
-  IsCallback limit callbacks.Once reading f = (f.body ≡ []) × (f.restart ≡ false)
-  IsCallback limit (callbacks.Every interval) reading f =
-      (((number : ℕ) × (moved : Moved)
-      × (f.body ≡ Entered f.timer number (record { event = events.Forward reading interval; reply = replies.Forward moved }) ∷ []))
-      ⊎ (((number : ℕ) × (generation : ℕ) × (f.body ≡ Looked f.timer number (told.Armed generation) ∷ []))
-      ⊎ ((number : ℕ) × (f.body ≡ Looked f.timer number told.Spent ∷ []))))
-      × (f.restart ≡ true)
-  IsCallback limit callbacks.Cancels reading f = ((number : ℕ) × (f.body ≡ Looked f.timer number (told.Running f.generation) ∷ [])) × (f.restart ≡ false)
-  IsCallback limit (callbacks.Starts ns base) reading f =
-      (((a : Arming) × (f.body ≡ arming_actions f.timer (without_slack modes.Rel ns base) reading a) × IsArming Reached limit base a)
-      ⊎ ((number : ℕ) × (f.body ≡ Looked f.timer number told.Spent ∷ [])))
-      × (f.restart ≡ true)
+-- a timer descriptor
+abbrev pub IsFd : Kind → Type 0
+IsFd (kinds.Fd base) = Unit
+IsFd kind = ⊥
 
-  -- what runs when a timer is claimed, by its kind
-  abbrev pub IsBody : ℕ → Kind → ℕ → Fired → Type 0
-  IsBody limit (kinds.Raw context callback) reading f = IsCallback limit callback reading f
-  IsBody limit (kinds.Posix base) reading f = IsTrigger reading f
-  IsBody limit (kinds.Fd base) reading f = IsTrigger reading f
+-- The table, by the script and the call's reading. What an answer tells of timers, bases and objects held at the call's last moment; that a base might go off
+-- line held at its first. A settime that cancelled nothing found an idle timer when it had begun its turn; one whose start was refused
+-- tells of the moment before its object's entry. A write is refused only while the clock may take more of them, and where one of its times would be past the
+-- latest; the answer is the greatest of these. That the clock has taken too many writes is never answered.
+abbrev pub call_row : Script → ℕ → Call → Answer → CallRow
+call_row s reading (calls.Start timer request) (answers.Started generation on was_armed) = only (Starts timer request generation on was_armed)
+call_row s reading (calls.Start timer request) (answers.Spent stamp) = looked (λ c. SawRefusal c.w timer stamp c.last)
+call_row s reading (calls.Cancel timer) (answers.Cancelled generation) = only (Cancels timer generation)
+call_row s reading (calls.Cancel timer) (answers.Running generation stamp) = looked (λ c. Saw c.w timer stamp (observations.Running generation) c.last)
+call_row s reading (calls.Cancel timer) (answers.Idle stamp) = looked (λ c. Saw c.w timer stamp observations.Idle c.last)
+call_row s reading (calls.Peek timer) (answers.Peek stamp base enqueued running moving) =
+    looked (λ c. Saw c.w timer stamp
+    (observations.Peek (record { stamp = stamp; base = base; enqueued = enqueued; running = running; moving = moving })) c.last)
+call_row s reading (calls.Expire context base budget) (answers.Done shown timers) =
+    record { did = Runs context base shown timers (λ number. number < budget); tells = λ c. IsDone c.w context reading base c.last }
+call_row s reading (calls.Expire context base budget) (answers.More shown timers) = only (Runs context base shown timers (λ number. number ≡ budget))
+call_row s reading (calls.Expire context base budget) (answers.Busy shown timers timer generation) = record {
+  did = Runs context base shown timers (λ number. number < budget);
+  tells = λ c. running_on base (in_context context (timer_along c.w c.last) timer) ≡ Some generation;
+}
+call_row s reading (calls.Clock write) (answers.Clock stamp) = only (Writes stamp write)
+call_row s reading (calls.Clock write) (answers.Range would_be) =
+    looked (λ c. IsOutOfRange reading would_be (greatest (after_write (reading_at c.w.run.clock reading) write)))
+call_row s reading (calls.Settime timer flags value interval) answers.Invalid =
+    only (Where Nothing (AreValidFor (kind_of s timer) flags value interval → ⊥))
+call_row s reading (calls.Settime timer flags value interval) (answers.Spent stamp) = full timer stamp (AreValidFor (kind_of s timer) flags value interval)
+call_row s reading (calls.Settime timer flags value interval) (answers.Old left old) =
+    only_set timer (Sets timer flags value interval (settings.Old left old))
+call_row s reading (calls.Settime timer flags value interval) answers.Canceled = only_set timer (Sets timer flags value interval settings.Canceled)
+call_row s reading (calls.Settime timer flags value interval) (answers.Unarmed stamp) = record {
+  did = Sets timer flags value interval (settings.Unarmed stamp);
+  tells = λ c. DisarmedFirst c.w c.label c.first c.last timer c.actions × RefusedBefore c.w c.label c.first c.last c.actions timer stamp;
+}
+call_row s reading (calls.Gettime timer) (answers.LeftAt left interval shown stamp) = record {
+  did = Where Nothing (IsPosix (kind_of s timer) × (shown ≡ reading));
+  tells = λ c. HadEntries c.w timer stamp c.last
+      × (setting_of (posix_after s c.w.run timer (base_of (kind_of s timer)) stamp) (reading_at c.w.run.clock reading)
+      ≡ record { left = left; interval = interval });
+}
+call_row s reading (calls.Gettime timer) (answers.Left left interval) =
+    only (Where (Rearms timer (λ arm. object_entries.Gettime reading arm left interval)) (IsFd (kind_of s timer)))
+call_row s reading (calls.Gettime timer) (answers.Spent stamp) = full timer stamp (IsFd (kind_of s timer))
+call_row s reading (calls.Accept timer) (answers.Accepted overrun) =
+    only (Rearms timer (λ arm. object_entries.Accept reading arm (acceptances.Accepted overrun)))
+call_row s reading (calls.Accept timer) answers.NoSignal = only (Rearms timer (λ arm. object_entries.Accept reading arm acceptances.NoSignal))
+call_row s reading (calls.Accept timer) (answers.Spent stamp) = looked (λ c. SawFull c.w timer stamp c.last)
+call_row s reading (calls.Overrun timer) (answers.Overrun overrun stamp) =
+    looked (λ c. HadEntries c.w timer stamp c.last × ((posix_after s c.w.run timer (base_of (kind_of s timer)) stamp).overrun ≡ overrun))
+call_row s reading (calls.Read timer len) answers.Invalid = only (Where Nothing (len < count_length))
+call_row s reading (calls.Read timer len) (answers.Spent stamp) = full timer stamp (count_length ≤ len)
+call_row s reading (calls.Read timer len) (answers.Count total) =
+    only (Where (Rearms timer (λ arm. object_entries.Read reading arm (reads.Count total))) (count_length ≤ len))
+call_row s reading (calls.Read timer len) answers.Again =
+    only (Where (Rearms timer (λ arm. object_entries.Read reading arm reads.Again)) (count_length ≤ len))
+call_row s reading (calls.Read timer len) answers.Canceled =
+    only (Where (Rearms timer (λ arm. object_entries.Read reading arm reads.Canceled)) (count_length ≤ len))
+call_row s reading (calls.Readable timer) (answers.Readable ready shown stamp) = record {
+  did = Where Nothing (shown ≡ reading);
+  tells = λ c. HadEntries c.w timer stamp c.last
+      × (is_readable (fd_after s c.w.run timer (base_of (kind_of s timer)) stamp) (reading_at c.w.run.clock reading) ≡ ready);
+}
+call_row s reading (calls.Offline base heir budget) (answers.Offline moved stamp) = record {
+  did = Evacuates heir moved (Shifted base stamp (shifts.Offline heir) ∷ []) (λ number. number ≤ budget);
+  tells = λ c. MayGo c.w base heir c.first × IsUnused (timer_along c.w c.last) base;
+}
+call_row s reading (calls.Offline base heir budget) (answers.OfflineBusy moved timer generation) = record {
+  did = Evacuates heir moved [] (λ number. number ≤ budget);
+  tells = λ c. MayGo c.w base heir c.first × RunsFirst c.w base timer generation c.last;
+}
+call_row s reading (calls.Offline base heir budget) (answers.OfflineMore moved) = record {
+  did = Evacuates heir moved [] (λ number. number ≡ budget);
+  tells = λ c. MayGo c.w base heir c.first × RunsNone c.w base c.last × ((t : ℕ) × (is_armed_on base (timer_along c.w c.last t) ≡ true));
+}
+call_row s reading (calls.Offline base heir budget) (answers.OfflineSpent moved timer stamp) = record {
+  did = Evacuates heir moved [] (λ number. number < budget);
+  tells = λ c. MayGo c.w base heir c.first × RunsNone c.w base c.last × SawFullOn c.w base timer stamp c.last;
+}
+call_row s reading (calls.Offline base heir budget) (answers.Already stamp) =
+    looked (λ c. StandsAt c.w base stamp c.last × IsSome (standing_along c.w c.last base).heir)
+call_row s reading (calls.Offline base heir budget) (answers.HeirOffline stamp) =
+    looked (λ c. StandsAt c.w heir stamp c.last × IsSome (standing_along c.w c.last heir).heir × ((standing_along c.w c.last base).heir ≡ None))
+call_row s reading (calls.Offline base heir budget) (answers.BaseSpent stamp) =
+    looked (λ c. StandsAt c.w base stamp c.last × ((standing_along c.w c.last base).heir ≡ None) × (last_standing ≤ stamp)
+    × ((standing_along c.w c.last heir).heir ≡ None))
+call_row s reading (calls.Online base) (answers.Online stamp) = only (Shifts base stamp shifts.Online)
+call_row s reading (calls.Online base) (answers.Already stamp) =
+    looked (λ c. StandsAt c.w base stamp c.last × ((standing_along c.w c.last base).heir ≡ None))
+call_row s reading call answer = only Never
 
-  -- what an expiry run did: each callback as its timer declares it, of the run's context, all by one reading, and the timers in the order of their
-  -- claims
-  pub record IsExpiryRun (s : Script) (context : Context) (reading base : ℕ) (fired : List Fired) (shown : ℕ) (timers : List ℕ)
-      (actions : List Action) : Type 0 where
-    pub one_reading : shown ≡ reading
-    pub claimed : timers ≡ map (λ f. f.timer) fired
-    pub done : actions ≡ flat_map (fires base reading) fired
-    pub contexts : AllByRecursion (λ f. (declared_of s f.timer).context ≡ context) fired
-    pub bodies : AllByRecursion (λ f. IsBody s.limit (kind_of s f.timer) reading f) fired
+-- ---- what the rows say
 
-  -- what a call did is what its arguments and its answer say; the answer that the clock has taken too many writes never comes
-  abbrev pub Does : Script → ℕ → Call → Answer → List Fired → List Evacuation → List Action → Type 0
-  Does s reading (calls.Start timer request) (answers.Started generation on was_armed) fired moved actions =
-      (a : Arming) × (actions ≡ arming_actions timer request reading a) × (generation ≡ a.number) × (on ≡ a.placement.base)
-      × (was_armed ≡ was_armed_before a.outs a.was_armed) × IsArming Reached s.limit request.base a
-  Does s reading (calls.Start timer request) (answers.Spent stamp) fired moved actions = actions ≡ []
-  Does s reading (calls.Cancel timer) (answers.Cancelled generation) fired moved actions =
-      (number : ℕ) × (actions ≡ Entered timer number (record { event = events.Cancel; reply = replies.Cancel generation }) ∷ [])
-  Does s reading (calls.Cancel timer) (answers.Running generation stamp) fired moved actions = actions ≡ []
-  Does s reading (calls.Cancel timer) (answers.Idle stamp) fired moved actions = actions ≡ []
-  Does s reading (calls.Peek timer) (answers.Peek stamp base enqueued running moving) fired moved actions = actions ≡ []
-  Does s reading (calls.Expire context base budget) (answers.Done shown timers) fired moved actions =
-      IsExpiryRun s context reading base fired shown timers actions × (length fired < budget)
-  Does s reading (calls.Expire context base budget) (answers.More shown timers) fired moved actions =
-      IsExpiryRun s context reading base fired shown timers actions × (length fired ≡ budget)
-  Does s reading (calls.Expire context base budget) (answers.Busy shown timers timer generation) fired moved actions =
-      IsExpiryRun s context reading base fired shown timers actions × (length fired < budget)
-  Does s reading (calls.Clock write) (answers.Clock stamp) fired moved actions = actions ≡ Wrote stamp write ∷ []
-  Does s reading (calls.Clock write) (answers.Range would_be) fired moved actions = actions ≡ []
-  Does s reading (calls.Settime timer flags value interval) answer fired moved actions =
-      DoesSettime Reached s.limit (kind_of s timer) timer flags value interval reading answer actions
-  Does s reading (calls.Gettime timer) answer fired moved actions = DoesGettime Reached s.limit (kind_of s timer) timer reading answer actions
-  Does s reading (calls.Accept timer) answer fired moved actions = DoesAccept Reached s.limit (kind_of s timer) timer reading answer actions
-  Does s reading (calls.Overrun timer) (answers.Overrun overrun stamp) fired moved actions = actions ≡ []
-  Does s reading (calls.Read timer len) answer fired moved actions = DoesRead Reached s.limit (kind_of s timer) timer len reading answer actions
-  Does s reading (calls.Readable timer) (answers.Readable ready shown stamp) fired moved actions = (actions ≡ []) × (shown ≡ reading)
-  Does s reading (calls.Offline base heir budget) (answers.Offline count stamp) fired moved actions =
-      IsEvacuation heir reading count moved (Shifted base stamp (shifts.Offline heir) ∷ []) actions × (count ≤ budget)
-  Does s reading (calls.Offline base heir budget) (answers.OfflineBusy count timer generation) fired moved actions =
-      IsEvacuation heir reading count moved [] actions × (count ≤ budget)
-  Does s reading (calls.Offline base heir budget) (answers.OfflineMore count) fired moved actions =
-      IsEvacuation heir reading count moved [] actions × (count ≡ budget)
-  Does s reading (calls.Offline base heir budget) (answers.OfflineSpent count timer stamp) fired moved actions =
-      IsEvacuation heir reading count moved [] actions × (count < budget)
-  Does s reading (calls.Offline base heir budget) (answers.Already stamp) fired moved actions = actions ≡ []
-  Does s reading (calls.Offline base heir budget) (answers.HeirOffline stamp) fired moved actions = actions ≡ []
-  Does s reading (calls.Offline base heir budget) (answers.BaseSpent stamp) fired moved actions = actions ≡ []
-  Does s reading (calls.Online base) (answers.Online stamp) fired moved actions = actions ≡ Shifted base stamp shifts.Online ∷ []
-  Does s reading (calls.Online base) (answers.Already stamp) fired moved actions = actions ≡ []
-  Does s reading call answer fired moved actions = ⊥
+-- what a call did is what its arguments and its answer say, by what it saw of bases off line
+abbrev pub Does : (ℕ → ℕ → Type 0) → Script → ℕ → Call → Answer → List Fired → List Evacuation → List Action → Type 0
+Does Reached s reading call answer fired moved actions = Did Reached s reading (call_row s reading call answer).did fired moved actions
+
+-- what its answer tells is so
+abbrev pub AnswerHolds : Witness → ℕ → ℕ → Label → ℕ → List Action → Call → Answer → Type 0
+AnswerHolds w first last c reading actions call answer =
+    (call_row w.script reading call answer).tells (record { w = w; label = c; first = first; last = last; actions = actions })

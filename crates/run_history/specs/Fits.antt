@@ -16,8 +16,9 @@ use Rattle.script_text.specs.Declarations.{kind_of}
 use Rattle.run_history.specs.Actions.{wrote}
 use Rattle.run_history.specs.Witnesses.{Move, Trace, Witness, IsOneHistory, labels, witness_with, writes_along}
 use Rattle.run_history.specs.Traces.{HasTraced}
-use Rattle.run_history.specs.Calls.{AllKeepExpiries, AllMoved, Does}
-use Rattle.run_history.specs.Truths.{AreTrue, IsMoment, AnswerHolds, WasFront, WasOffLine}
+use Rattle.run_history.specs.Calls.{AnswerHolds, Does}
+use Rattle.run_history.specs.Deeds.{AllKeepExpiries, AllMoved}
+use Rattle.run_history.specs.Truths.{AreTrue, IsMoment, WasFront, WasOffLine}
 
 -- how many of the clock's writes, and how many moves, a lane has seen
 pub record Seen : Type 0 where

@@ -9,8 +9,9 @@ pub mod ObjectCalls
 pub mod Told
 pub mod Witnesses
 pub mod Traces
-pub mod Calls
 pub mod Truths
+pub mod Deeds
+pub mod Calls
 pub mod Fits
 pub mod Receipts
 pub mod Rounds

@@ -1,5 +1,5 @@
--- What the calls on objects may do and answer: which arguments they take, how they arm the object's timer, and the entry that they make.
-use Rattle.std.specs.Prelude.{ℕ, ◌≡◌, ◌+◌, ◌<◌, ◌≤◌, Option, Some, None, List, [], ◌∷◌, ◌++◌}
+-- What the calls on objects do that make an entry: which arguments they take, how they arm the object's timer, and the entry.
+use Rattle.std.specs.Prelude.{ℕ, ◌≡◌, ◌+◌, ◌≤◌, Option, Some, None, List, [], ◌∷◌, ◌++◌}
 use Rattle.ktime.specs.declared.mode.Mode.{Mode}
 use Rattle.ktime.specs.declared.mode.Mode.TheVariants as modes
 use Rattle.ktime.specs.declared.timespec.TimeSpec.{TimeSpec}
@@ -7,19 +7,13 @@ use Rattle.ktime.specs.Times.{last_time, nanoseconds}
 use Rattle.record_text.specs.declared.record.Armed.{Armed}
 use Rattle.record_text.specs.declared.record.Armed.TheVariants as armings
 use Rattle.record_text.specs.declared.record.SettimeReply.{SettimeReply}
-use Rattle.record_text.specs.declared.record.SettimeReply.TheVariants as settings
-use Rattle.record_text.specs.declared.record.AcceptReply.TheVariants as acceptances
-use Rattle.record_text.specs.declared.record.ReadReply.TheVariants as reads
 use Rattle.seq_timer.specs.declared.event.EventBy.TheVariants as events
 use Rattle.seq_timer.specs.declared.event.Reply.TheVariants as replies
 use Rattle.record_text.specs.declared.record.ObjectEntry.{ObjectEntry}
 use Rattle.record_text.specs.declared.record.ObjectEntry.TheVariants as made_entries
-use Rattle.record_text.specs.declared.record.Answer.{Answer}
-use Rattle.record_text.specs.declared.record.Answer.TheVariants as answers
 use Rattle.timer_setting.specs.Arguments.{mode_by}
 use Rattle.posix_timer.specs.States.{ArePosixArguments}
 use Rattle.timer_fd.specs.States.{AreFdArguments}
-use Rattle.timer_fd.specs.Steps.{count_length}
 use Rattle.script_text.specs.declared.script.Kind.{Kind}
 use Rattle.script_text.specs.declared.script.Kind.TheVariants as kinds
 use Rattle.run_history.specs.Actions.{Action, Began, Entered, Made}
@@ -79,44 +73,3 @@ module _ (Reached : ℕ → ℕ → Type 0) (limit : ℕ) where
     pub timely : ns ≤ last_time
     pub arms : Arms timer modes.Keep ns reading (base_of kind) arm start
     pub done : actions ≡ Began timer stamp ∷ start ++ Made timer (stamp + 1) (entry arm) ∷ []
-
-  -- a settime
-  abbrev pub DoesSettime : Kind → ℕ → ℕ → TimeSpec → TimeSpec → ℕ → Answer → List Action → Type 0
-  DoesSettime kind timer flags value interval reading answers.Invalid actions = (actions ≡ []) × (AreValidFor kind flags value interval → ⊥)
-  DoesSettime kind timer flags value interval reading (answers.Spent stamp) actions = (actions ≡ []) × AreValidFor kind flags value interval
-  DoesSettime kind timer flags value interval reading (answers.Old left old) actions =
-      MakesSettime kind timer flags value interval reading (settings.Old left old) actions
-  DoesSettime kind timer flags value interval reading answers.Canceled actions =
-      MakesSettime kind timer flags value interval reading settings.Canceled actions
-  DoesSettime kind timer flags value interval reading (answers.Unarmed stamp) actions =
-      MakesSettime kind timer flags value interval reading (settings.Unarmed stamp) actions
-  DoesSettime kind timer flags value interval reading answer actions = ⊥
-
-  -- a gettime: of a POSIX timer it makes no entry and is never refused
-  abbrev pub DoesGettime : Kind → ℕ → ℕ → Answer → List Action → Type 0
-  DoesGettime (kinds.Posix base) timer reading (answers.LeftAt left interval shown stamp) actions = (actions ≡ []) × (shown ≡ reading)
-  DoesGettime (kinds.Fd base) timer reading (answers.Left left interval) actions =
-      MakesRearming (kinds.Fd base) timer reading (λ arm. made_entries.Gettime reading arm left interval) actions
-  DoesGettime (kinds.Fd base) timer reading (answers.Spent stamp) actions = actions ≡ []
-  DoesGettime kind timer reading answer actions = ⊥
-
-  -- an acceptance of a POSIX timer's signal
-  abbrev pub DoesAccept : Kind → ℕ → ℕ → Answer → List Action → Type 0
-  DoesAccept kind timer reading (answers.Accepted overrun) actions =
-      MakesRearming kind timer reading (λ arm. made_entries.Accept reading arm (acceptances.Accepted overrun)) actions
-  DoesAccept kind timer reading answers.NoSignal actions =
-      MakesRearming kind timer reading (λ arm. made_entries.Accept reading arm acceptances.NoSignal) actions
-  DoesAccept kind timer reading (answers.Spent stamp) actions = actions ≡ []
-  DoesAccept kind timer reading answer actions = ⊥
-
-  -- a read of a descriptor into a buffer of this length
-  abbrev pub DoesRead : Kind → ℕ → ℕ → ℕ → Answer → List Action → Type 0
-  DoesRead kind timer len reading answers.Invalid actions = (actions ≡ []) × (len < count_length)
-  DoesRead kind timer len reading (answers.Spent stamp) actions = (actions ≡ []) × (count_length ≤ len)
-  DoesRead kind timer len reading (answers.Count total) actions =
-      (count_length ≤ len) × MakesRearming kind timer reading (λ arm. made_entries.Read reading arm (reads.Count total)) actions
-  DoesRead kind timer len reading answers.Again actions =
-      (count_length ≤ len) × MakesRearming kind timer reading (λ arm. made_entries.Read reading arm reads.Again) actions
-  DoesRead kind timer len reading answers.Canceled actions =
-      (count_length ≤ len) × MakesRearming kind timer reading (λ arm. made_entries.Read reading arm reads.Canceled) actions
-  DoesRead kind timer len reading answer actions = ⊥

@@ -1,28 +1,21 @@
 -- What a call was told held at one moment of the one order, a moment at which it had done just so much.
-use Rattle.std.specs.Prelude.{ℕ, ◌≡◌, ◌≤◌, ◌<◌, ◌+◌, ◌⊎◌, None, Bool, true, false, Some, IsSome, List, [], ◌∷◌, ◌++◌, length}
-use Rattle.clock_model.specs.Clocks.{after_write, greatest}
+use Rattle.std.specs.Prelude.{ℕ, ◌≡◌, ◌≤◌, ◌<◌, ◌+◌, ◌⊎◌, None, Bool, true, false, Some, List, [], ◌∷◌, ◌++◌, length}
 use Rattle.seq_timer.specs.declared.observation.Observation.{Observation}
 use Rattle.seq_timer.specs.declared.observation.Observation.TheVariants as observations
 use Rattle.seq_timer.specs.Histories.{Holds}
-use Rattle.script_text.specs.declared.script.Call.{Call}
-use Rattle.script_text.specs.declared.script.Call.TheVariants as calls
 use Rattle.record_text.specs.declared.record.Label.{Label}
 use Rattle.seq_timer.specs.declared.event.EventBy.{EventBy}
 use Rattle.seq_timer.specs.declared.event.EventBy.TheVariants as events
-use Rattle.record_text.specs.declared.record.Answer.{Answer}
-use Rattle.record_text.specs.declared.record.Answer.TheVariants as answers
 use Rattle.record_text.specs.declared.record.Armed.{Armed}
 use Rattle.record_text.specs.declared.record.Armed.TheVariants as armings
 use Rattle.record_text.specs.declared.record.ObjectEntry.{ObjectEntry}
 use Rattle.record_text.specs.declared.record.ObjectEntry.TheVariants as object_entries
-use Rattle.posix_timer.specs.States.{setting_of}
-use Rattle.timer_fd.specs.States.{is_readable}
-use Rattle.script_text.specs.Declarations.{base_of, kind_of, terms_of}
+use Rattle.script_text.specs.Declarations.{kind_of, terms_of}
 use Rattle.run_history.specs.Order.{IsPoint}
 use Rattle.run_history.specs.Histories.{reading_at}
-use Rattle.run_history.specs.Objects.{object_armed_after, fd_after, posix_after}
+use Rattle.run_history.specs.Objects.{object_armed_after}
 use Rattle.run_history.specs.Actions.{Action, Began, Entered, Looked, Made, Shifted, Skipped, Wrote}
-use Rattle.run_history.specs.Told.{IsBelowLimit, IsOutOfRange, IsArmedLike, observed}
+use Rattle.run_history.specs.Told.{IsBelowLimit, IsArmedLike, observed}
 use Rattle.ktime.specs.declared.clock_id.ClockId.{ClockId}
 use Rattle.seq_timer.specs.Contents.{front_of}
 use Rattle.seq_timer.specs.declared.context.Context.{Context}
@@ -30,7 +23,7 @@ use Rattle.seq_timer.specs.declared.context.Context.TheVariants as contexts
 use Rattle.seq_timer.specs.Halves.{running_on}
 use Rattle.seq_timer.specs.Systems.{next_on}
 use Rattle.seq_timer.specs.Standings.{last_standing}
-use Rattle.seq_timer.specs.Tables.{IsStopped, IsUnused, in_context, is_armed_on, runs_on}
+use Rattle.seq_timer.specs.Tables.{IsStopped, in_context, is_armed_on, runs_on}
 use Rattle.run_history.specs.Traces.{all_entered}
 use Rattle.run_history.specs.Witnesses.{Witness, labels, standing_along, system_along, timer_along, turns_along}
 use Rattle.run_history.specs.Witnesses.{Evacuation}
@@ -175,52 +168,3 @@ pub record MayGo (w : Witness) (base heir n : ℕ) : Type 0 where
   pub online : (standing_along w n base).heir ≡ None
   pub heir_online : (standing_along w n heir).heir ≡ None
   pub room : (standing_along w n base).stamp < last_standing
-
--- An answer that tells of a state of timers, bases or objects tells of that of the call's last moment, but that a base might go off line held at its first.
--- A settime that cancelled nothing found an idle timer when it had begun its turn; one whose start was refused tells of the moment before its object's entry. A
--- write is refused only while the clock may take more of them, and where one of its times would be past the latest; the answer is the greatest of these.
-abbrev pub AnswerHolds : Witness → ℕ → ℕ → Label → ℕ → List Action → Call → Answer → Type 0
-AnswerHolds w first last c reading actions (calls.Start timer request) (answers.Spent stamp) = SawRefusal w timer stamp last
-AnswerHolds w first last c reading actions (calls.Cancel timer) (answers.Running generation stamp) = Saw w timer stamp (observations.Running generation) last
-AnswerHolds w first last c reading actions (calls.Cancel timer) (answers.Idle stamp) = Saw w timer stamp observations.Idle last
-AnswerHolds w first last c reading actions (calls.Peek timer) (answers.Peek stamp base enqueued running moving) =
-    Saw w timer stamp (observations.Peek (record { stamp = stamp; base = base; enqueued = enqueued; running = running; moving = moving })) last
-AnswerHolds w first last c reading actions (calls.Expire context base budget) (answers.Done shown timers) = IsDone w context reading base last
-AnswerHolds w first last c reading actions (calls.Expire context base budget) (answers.Busy shown timers timer generation) =
-    running_on base (in_context context (timer_along w last) timer) ≡ Some generation
-AnswerHolds w first last c reading actions (calls.Clock write) (answers.Range would_be) =
-    IsOutOfRange reading would_be (greatest (after_write (reading_at w.run.clock reading) write))
-AnswerHolds w first last c reading actions (calls.Settime timer flags value interval) (answers.Spent stamp) = SawFull w timer stamp last
-AnswerHolds w first last c reading actions (calls.Settime timer flags value interval) (answers.Old left old) = DisarmedFirst w c first last timer actions
-AnswerHolds w first last c reading actions (calls.Settime timer flags value interval) answers.Canceled = DisarmedFirst w c first last timer actions
-AnswerHolds w first last c reading actions (calls.Settime timer flags value interval) (answers.Unarmed stamp) =
-    DisarmedFirst w c first last timer actions × RefusedBefore w c first last actions timer stamp
-AnswerHolds w first last c reading actions (calls.Gettime timer) (answers.Spent stamp) = SawFull w timer stamp last
-AnswerHolds w first last c reading actions (calls.Gettime timer) (answers.LeftAt left interval shown stamp) =
-    HadEntries w timer stamp last
-    × (setting_of (posix_after w.script w.run timer (base_of (kind_of w.script timer)) stamp) (reading_at w.run.clock reading)
-    ≡ record { left = left; interval = interval })
-AnswerHolds w first last c reading actions (calls.Accept timer) (answers.Spent stamp) = SawFull w timer stamp last
-AnswerHolds w first last c reading actions (calls.Overrun timer) (answers.Overrun overrun stamp) =
-    HadEntries w timer stamp last × ((posix_after w.script w.run timer (base_of (kind_of w.script timer)) stamp).overrun ≡ overrun)
-AnswerHolds w first last c reading actions (calls.Read timer len) (answers.Spent stamp) = SawFull w timer stamp last
-AnswerHolds w first last c reading actions (calls.Readable timer) (answers.Readable ready shown stamp) =
-    HadEntries w timer stamp last
-    × (is_readable (fd_after w.script w.run timer (base_of (kind_of w.script timer)) stamp) (reading_at w.run.clock reading) ≡ ready)
-AnswerHolds w first last c reading actions (calls.Offline base heir budget) (answers.Offline moved stamp) =
-    MayGo w base heir first × IsUnused (timer_along w last) base
-AnswerHolds w first last c reading actions (calls.Offline base heir budget) (answers.OfflineBusy moved timer generation) =
-    MayGo w base heir first × RunsFirst w base timer generation last
-AnswerHolds w first last c reading actions (calls.Offline base heir budget) (answers.OfflineMore moved) =
-    MayGo w base heir first × RunsNone w base last × ((t : ℕ) × (is_armed_on base (timer_along w last t) ≡ true))
-AnswerHolds w first last c reading actions (calls.Offline base heir budget) (answers.OfflineSpent moved timer stamp) =
-    MayGo w base heir first × RunsNone w base last × SawFullOn w base timer stamp last
-AnswerHolds w first last c reading actions (calls.Offline base heir budget) (answers.Already stamp) =
-    StandsAt w base stamp last × IsSome (standing_along w last base).heir
-AnswerHolds w first last c reading actions (calls.Offline base heir budget) (answers.HeirOffline stamp) =
-    StandsAt w heir stamp last × IsSome (standing_along w last heir).heir × ((standing_along w last base).heir ≡ None)
-AnswerHolds w first last c reading actions (calls.Offline base heir budget) (answers.BaseSpent stamp) =
-    StandsAt w base stamp last × ((standing_along w last base).heir ≡ None) × (last_standing ≤ stamp) × ((standing_along w last heir).heir ≡ None)
-AnswerHolds w first last c reading actions (calls.Online base) (answers.Already stamp) =
-    StandsAt w base stamp last × ((standing_along w last base).heir ≡ None)
-AnswerHolds w first last c reading actions call answer = NothingTold

@@ -1,8 +1,7 @@
 -- The form that words choose, and the key words that it has.
-use Rattle.std.proofs.Common.{arith, codes, ◌≡◌, ℕ, ◌<◌, ◌≤◌, length, Bool, true, false, List, [], ◌∷◌, drop, Ok, Result, ◌&&◌, refl, sym, subst, nat_le, if◌then◌else◌}
+use Rattle.std.proofs.Common.{arith, codes, ◌≡◌, ℕ, ◌<◌, ◌≤◌, length, Bool, true, false, List, [], ◌∷◌, ◌++◌, drop, Option, Some, None, Ok, Err, Result, ◌&&◌, refl, sym, subst, ◌∙◌, nat_le, if◌then◌else◌}
 use Rattle.std.specs.Prelude.{bytes_eq}
 use Rattle.std.specs.Fmt.{decimal}
-use Rattle.std.specs.List.{AllByRecursion}
 use Rattle.std.specs.Str.Parse.{AllDigits}
 use Rattle.std.proofs.lemmas.Bool.{and_from, and_parts, le-leb}
 use Rattle.std.proofs.lemmas.Fmt.{decimal_nonempty, digits_decimal}
@@ -16,6 +15,7 @@ use Rattle.script_text.specs.declared.form.Field.TheVariants as fields
 use Rattle.script_text.specs.declared.form.Form.{Form}
 use Rattle.script_text.specs.declared.form.Form.TheVariants as forms
 use Rattle.script_text.specs.declared.refusal.Cause.{Cause}
+use Rattle.script_text.specs.declared.refusal.Cause.TheVariants as causes
 use Rattle.script_text.specs.declared.form.Value.{Value}
 use Rattle.script_text.specs.declared.form.Value.TheVariants as values
 use Rattle.script_text.specs.Forms.{Spot, Key, At, Numeral, call_forms, called_by, has_form, plain_forms, raw, raw_forms, comes_by, row, soft, soft_forms, sort}
@@ -46,6 +46,15 @@ lane_of forms.Offline = fields.FirstLane
 lane_of forms.Online = fields.FirstLane
 lane_of form = fields.Lane
 
+-- the key word at the second spot of a row, and no word where there is none
+abbrev second_key : List Spot → List ℕ
+second_key (spot ∷ Key name ∷ spots) = name
+second_key spots = []
+
+-- the name of a form's call
+abbrev call_name : Form → List ℕ
+call_name form = second_key (row form)
+
 filled_call : (field : Field) (version : Version) (name : List ℕ) (more : List Spot) (form : Form)
     → find_form version call_forms name ≡ Ok form
     → (v : Value) (vs : List Value) → IsOfSort Numeral v → form_in version (fill_form (called_by field name more) (v ∷ vs)) ≡ Ok form
@@ -58,14 +67,6 @@ call_by : (field : Field) → sort field ≡ Numeral → (version : Version) (na
     → find_form version call_forms name ≡ Ok form → Chooses version (called_by field name more) form
 call_by field is version name more form e [] h = absurd h
 call_by field is version name more form e (v ∷ vs) h = filled_call field version name more form e v vs (subst (λ s. IsOfSort s v) is h.0)
-
-call : (version : Version) (name : List ℕ) (more : List Spot) (form : Form) → find_form version call_forms name ≡ Ok form
-    → Chooses version (called_by fields.Lane name more) form
-call version name more form e = call_by fields.Lane refl version name more form e
-
-first_call : (version : Version) (name : List ℕ) (more : List Spot) (form : Form) → find_form version call_forms name ≡ Ok form
-    → Chooses version (called_by fields.FirstLane name more) form
-first_call version name more form e = call_by fields.FirstLane refl version name more form e
 
 callback : (version : Version) (key : List ℕ) (more : List Spot) (form : Form) → find_form version raw_forms key ≡ Ok form
     → Chooses version (raw key more) form
@@ -80,6 +81,10 @@ unfolding form_in find_form_by_first begins_with_digit
 soft_callback version key more form has e [] h = absurd h
 soft_callback version key more form has e (v ∷ []) h = absurd h.1
 soft_callback version key more form has e (v ∷ w ∷ vs) h = rw has e
+
+found_where : (form : Form) (has : Bool) → has ≡ true → ◌≡◌ {A = Result Form Cause} (if has then Ok form else Err causes.UnknownWord) (Ok form)
+found_where form true is = refl
+found_where form false is = absurd cc
 
 -- the form of a row is the one that its words choose in a version that has it; its words are words of a line
 pub form_again : (version : Version) (form : Form)
@@ -98,78 +103,73 @@ form_again version forms.SoftEvery = (λ has. soft_callback version (codes "ever
 form_again version forms.Posix = (λ has vs h. refl, refl)
 form_again version forms.Fd = (λ has vs h. refl, refl)
 form_again version forms.Round = (λ has vs h. refl, refl)
-form_again version forms.Start = (λ has. call version (codes "start") (drop 2 (row forms.Start)) _ refl, refl)
-form_again version forms.StartRange = (λ has. call version (codes "startrange") (drop 2 (row forms.StartRange)) _ (rw has refl), refl)
-form_again version forms.Cancel = (λ has. call version (codes "cancel") (drop 2 (row forms.Cancel)) _ refl, refl)
-form_again version forms.Peek = (λ has. call version (codes "peek") (drop 2 (row forms.Peek)) _ refl, refl)
-form_again version forms.Expire = (λ has. call version (codes "expire") (drop 2 (row forms.Expire)) _ refl, refl)
-form_again version forms.SoftExpire = (λ has. call version (codes "softexpire") (drop 2 (row forms.SoftExpire)) _ (rw has refl), refl)
-form_again version forms.Advance = (λ has. call version (codes "advance") (drop 2 (row forms.Advance)) _ refl, refl)
-form_again version forms.Set = (λ has. call version (codes "set") (drop 2 (row forms.Set)) _ refl, refl)
-form_again version forms.Suspend = (λ has. call version (codes "suspend") (drop 2 (row forms.Suspend)) _ refl, refl)
-form_again version forms.Settime = (λ has. call version (codes "settime") (drop 2 (row forms.Settime)) _ refl, refl)
-form_again version forms.Gettime = (λ has. call version (codes "gettime") (drop 2 (row forms.Gettime)) _ refl, refl)
-form_again version forms.Accept = (λ has. call version (codes "accept") (drop 2 (row forms.Accept)) _ refl, refl)
-form_again version forms.Overrun = (λ has. call version (codes "overrun") (drop 2 (row forms.Overrun)) _ refl, refl)
-form_again version forms.Read = (λ has. call version (codes "read") (drop 2 (row forms.Read)) _ refl, refl)
-form_again version forms.Readable = (λ has. call version (codes "readable") (drop 2 (row forms.Readable)) _ refl, refl)
-form_again version forms.Offline = (λ has. first_call version (codes "offline") (drop 2 (row forms.Offline)) _ (rw has refl), refl)
-form_again version forms.Online = (λ has. first_call version (codes "online") (drop 2 (row forms.Online)) _ (rw has refl), refl)
+form_again version call =
+    (λ has. call_by (lane_of call) refl version (call_name call) (drop 2 (row call)) call (found_where call (has_form version call) has), refl)
 
 -- ---- the form that words choose has their key words, and the version has it
 
--- what holds of each row of a table holds of the word and the form that it names, and the version has the form
-found_holds : (version : Version) (P : List ℕ → Form → Type 0) (table : List (List ℕ × Form)) (word : List ℕ) (form : Form)
-    → AllByRecursion (λ f. P f.0 f.1) table → find_form version table word ≡ Ok form → P word form × (has_form version form ≡ true)
+-- each row of a table passes a test of its word and its form
+abbrev all_pass : (List ℕ → Form → Bool) → List (List ℕ × Form) → Bool
+all_pass test [] = true
+all_pass test (f ∷ table) = test f.0 f.1 && all_pass test table
+
+-- the word and the form that it names in a table pass the test that each row passes, and the version has the form
+found_passes : (version : Version) (test : List ℕ → Form → Bool) (table : List (List ℕ × Form)) (word : List ℕ) (form : Form)
+    → all_pass test table ≡ true → find_form version table word ≡ Ok form → (test word form ≡ true) × (has_form version form ≡ true)
 unfolding find_form
-found_holds version P [] word form all e = absurd cc
-found_holds version P (f ∷ table) word form all e =
+found_passes version test [] word form all e = absurd cc
+found_passes version test (f ∷ table) word form all e =
+    let passes = and_parts (test f.0 f.1) (all_pass test table) all in
     let go : (b : Bool) → (bytes_eq word f.0 && has_form version f.1) ≡ b → (if b then Ok f.1 else find_form version table word) ≡ Ok form
-    → P word form × (has_form version form ≡ true) =
+    → (test word form ≡ true) × (has_form version form ≡ true) =
     λ b. elim b as (λ b. (bytes_eq word f.0 && has_form version f.1) ≡ b → (if b then Ok f.1 else find_form version table word) ≡ Ok form
-    → P word form × (has_form version form ≡ true)) [
+    → (test word form ≡ true) × (has_form version form ≡ true)) [
       | true ↦ λ is k.
           let both = and_parts (bytes_eq word f.0) (has_form version f.1) is in
-          subst (λ form. P word form × (has_form version form ≡ true)) (same_Ok f.1 form k)
-          (subst (λ w. P w f.1) (sym ((bytes_eq-Decides word f.0).0 both.0)) all.0, both.1)
-      | false ↦ λ is k. found_holds version P table word form all.1 k
+          subst (λ form. (test word form ≡ true) × (has_form version form ≡ true)) (same_Ok f.1 form k)
+          (subst (λ w. test w f.1 ≡ true) (sym ((bytes_eq-Decides word f.0).0 both.0)) passes.0, both.1)
+      | false ↦ λ is k. found_passes version test table word form passes.1 k
     ] in
     go (bytes_eq word f.0 && has_form version f.1) refl e
 
--- no key word stands in this row
-abbrev has_no_keys : List Spot → Bool
-has_no_keys [] = true
-has_no_keys (Key key ∷ spots) = false
-has_no_keys (At field ∷ spots) = has_no_keys spots
+-- a row begins with fields and these key words, and has no key word behind them
+abbrev begins_so : List (Option (List ℕ)) → List Spot → Bool
+begins_so (Some key ∷ keys) (Key word ∷ spots) = bytes_eq key word && begins_so keys spots
+begins_so (None ∷ keys) (At field ∷ spots) = begins_so keys spots
+begins_so [] (At field ∷ spots) = begins_so [] spots
+begins_so [] [] = true
+begins_so keys spots = false
 
-no_keys : (spots : List Spot) (words : List (List ℕ)) → has_no_keys spots ≡ true → HasKeys spots words
-no_keys [] words none = tt
-no_keys (Key key ∷ spots) words none = absurd cc
-no_keys (At field ∷ spots) [] none = tt
-no_keys (At field ∷ spots) (word ∷ words) none = no_keys spots words none
+-- words begin with these key words, any word standing where there is none
+abbrev Begin : List (Option (List ℕ)) → List (List ℕ) → Type 0
+Begin (Some key ∷ keys) (word ∷ words) = (word ≡ key) × Begin keys words
+Begin (None ∷ keys) (word ∷ words) = Begin keys words
+Begin keys words = Unit
 
--- the row of a form begins so with a key word, and has no other behind
-abbrev Begins : (List ℕ → List Spot → List Spot) → ℕ → List ℕ → Form → Type 0
-Begins begin n key form = (row form ≡ begin key (drop n (row form))) × (has_no_keys (drop n (row form)) ≡ true)
-
-chosen : (begin : List ℕ → List Spot → List Spot) (n : ℕ) (key : List ℕ) (form : Form) (words : List (List ℕ)) → Begins begin n key form
-    → ((more : List Spot) → has_no_keys more ≡ true → HasKeys (begin key more) words) → HasKeys (row form) words
-chosen begin n key form words is has = subst (λ spots. HasKeys spots words) (sym is.0) (has (drop n (row form)) is.1)
-
--- a form that is chosen by its first word
-abbrev plain_begin : List ℕ → List Spot → List Spot
-plain_begin key more = Key key ∷ more
+has_keys : (keys : List (Option (List ℕ))) (spots : List Spot) (words : List (List ℕ)) → begins_so keys spots ≡ true → Begin keys words
+    → HasKeys spots words
+has_keys (Some key ∷ keys) (Key word ∷ spots) [] so begin = tt
+has_keys (Some key ∷ keys) (Key word ∷ spots) (w ∷ words) so begin =
+    let both = and_parts (bytes_eq key word) (begins_so keys spots) so in
+    (begin.0 ∙ (bytes_eq-Decides key word).0 both.0, has_keys keys spots words both.1 begin.1)
+has_keys (None ∷ keys) (At field ∷ spots) [] so begin = tt
+has_keys (None ∷ keys) (At field ∷ spots) (w ∷ words) so begin = has_keys keys spots words so begin
+has_keys [] (At field ∷ spots) [] so begin = tt
+has_keys [] (At field ∷ spots) (w ∷ words) so begin = has_keys [] spots words so tt
+has_keys [] [] words so begin = tt
+has_keys _ _ words so begin = absurd cc
 
 -- the words have the form's key words, and the version has the form
 abbrev pub IsChosen : Version → Form → List (List ℕ) → Type 0
 IsChosen version form words = HasKeys (row form) words × (has_form version form ≡ true)
 
-plain_chosen : (version : Version) (word : List ℕ) (words : List (List ℕ)) (form : Form) → find_form version plain_forms word ≡ Ok form
-    → IsChosen version form (word ∷ words)
-plain_chosen version word words form e =
-    let found = found_holds version (Begins plain_begin 1) plain_forms word form
-    ((refl, refl), ((refl, refl), ((refl, refl), ((refl, refl), ((refl, refl), ((refl, refl), ((refl, refl), tt))))))) e in
-    (chosen plain_begin 1 word form (word ∷ words) found.0 (λ more none. (refl, no_keys more words none)), found.1)
+-- the words of a line have the key words of the form that one of them names in a table
+chosen : (version : Version) (before : List (Option (List ℕ))) (table : List (List ℕ × Form)) (key : List ℕ) (form : Form) (words : List (List ℕ))
+    → all_pass (λ key form. begins_so (before ++ Some key ∷ []) (row form)) table ≡ true → find_form version table key ≡ Ok form
+    → Begin (before ++ Some key ∷ []) words → IsChosen version form words
+chosen version before table key form words all e begin =
+    let found = found_passes version (λ key form. begins_so (before ++ Some key ∷ []) (row form)) table key form all e in
+    (has_keys (before ++ Some key ∷ []) (row form) words found.0 begin, found.1)
 
 callback_chosen : (version : Version) (words : List (List ℕ)) (form : Form) → find_form_by_first version raw_forms (drop 2 words) ≡ Ok form
     → IsChosen version form (codes "raw" ∷ words)
@@ -178,8 +178,7 @@ callback_chosen version [] form e = absurd cc
 callback_chosen version (timer ∷ []) form e = absurd cc
 callback_chosen version (timer ∷ clock ∷ []) form e = absurd cc
 callback_chosen version (timer ∷ clock ∷ key ∷ words) form e =
-    let found = found_holds version (Begins raw 4) raw_forms key form ((refl, refl), ((refl, refl), ((refl, refl), ((refl, refl), tt)))) e in
-    (chosen raw 4 key form _ found.0 (λ more none. (refl, (refl, no_keys more words none))), found.1)
+    chosen version (Some (codes "raw") ∷ None ∷ None ∷ []) raw_forms key form _ refl e (refl, (refl, tt))
 
 soft_chosen : (version : Version) (words : List (List ℕ)) (form : Form) → find_form_by_first version soft_forms (drop 2 words) ≡ Ok form
     → IsChosen version form (codes "soft" ∷ words)
@@ -188,25 +187,13 @@ soft_chosen version [] form e = absurd cc
 soft_chosen version (timer ∷ []) form e = absurd cc
 soft_chosen version (timer ∷ clock ∷ []) form e = absurd cc
 soft_chosen version (timer ∷ clock ∷ key ∷ words) form e =
-    let found = found_holds version (Begins soft 4) soft_forms key form ((refl, refl), ((refl, refl), tt)) e in
-    (chosen soft 4 key form _ found.0 (λ more none. (refl, (refl, no_keys more words none))), found.1)
-
--- each row of a call begins with its lane and its name
-call_rows : AllByRecursion (λ f. Begins (called_by (lane_of f.1)) 2 f.0 f.1) call_forms
-call_rows =
-    ((refl, refl), ((refl, refl), ((refl, refl), ((refl, refl), ((refl, refl), ((refl, refl), ((refl, refl), ((refl, refl), ((refl, refl), others)))))))))
-  where
-    others : AllByRecursion (λ f. Begins (called_by (lane_of f.1)) 2 f.0 f.1) (drop 9 call_forms)
-    others =
-        ((refl, refl), ((refl, refl), ((refl, refl), ((refl, refl), ((refl, refl), ((refl, refl), ((refl, refl), ((refl, refl), tt))))))))
+    chosen version (Some (codes "soft") ∷ None ∷ None ∷ []) soft_forms key form _ refl e (refl, (refl, tt))
 
 call_chosen : (version : Version) (lane : List ℕ) (words : List (List ℕ)) (form : Form) → find_form_by_first version call_forms words ≡ Ok form
     → IsChosen version form (lane ∷ words)
 unfolding find_form_by_first
 call_chosen version lane [] form e = absurd cc
-call_chosen version lane (name ∷ words) form e =
-    let found = found_holds version (λ name form. Begins (called_by (lane_of form)) 2 name form) call_forms name form call_rows e in
-    (chosen (called_by (lane_of form)) 2 name form _ found.0 (λ more none. (refl, no_keys more words none)), found.1)
+call_chosen version lane (name ∷ words) form e = chosen version (None ∷ []) call_forms name form _ refl e (refl, tt)
 
 pub form_spells : (version : Version) (words : List (List ℕ)) (form : Form) → form_in version words ≡ Ok form → IsChosen version form words
 unfolding form_in
@@ -222,7 +209,7 @@ form_spells version (word ∷ words) form e =
       | true ↦ λ is k.
           let same = (bytes_eq-Decides word (codes "soft")).0 (and_parts (bytes_eq word (codes "soft")) (comes_by versions.Two version) is).0 in
           subst (λ w. IsChosen version form (w ∷ words)) (sym same) (soft_chosen version words form k)
-      | false ↦ λ is k. plain_chosen version word words form k
+      | false ↦ λ is k. chosen version [] plain_forms word form _ refl k (refl, tt)
     ] in
     let raw_or_other : (b : Bool) → bytes_eq word (codes "raw") ≡ b → (if b then hard else (if is_soft then soft else plain)) ≡ Ok form
     → IsChosen version form (word ∷ words) =

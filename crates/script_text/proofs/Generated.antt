@@ -11,8 +11,9 @@ use Rattle.script_text.specs.declared.script.Call.TheVariants as calls
 use Rattle.script_text.specs.declared.script.Declaration.{Declaration}
 use Rattle.script_text.specs.declared.script.LaneCall.{LaneCall}
 use Rattle.script_text.specs.Generator.{next_number, number_after, call_by, drawn_call, turn, turns, timers_of_lane, lane_timers, clock_round, expiry_round, four_turns, generated, lines_bytes, script_bytes}
-use Rattle.script_text.specs.Grammar.{spelled}
-use Rattle.script_text.specs.Scripts.{call_line, declaration_line, declaration_lines, header_lines, of_numbers, round_lines, script_lines}
+use Rattle.script_text.specs.Grammar.{spelled, of_numbers}
+use Rattle.script_text.specs.Scripts.{declaration_line, declaration_lines, header_lines, round_lines, script_lines}
+use Rattle.script_text.specs.CallLines.{call_line}
 use Rattle.script_text.specs.declared.form.Form.TheVariants as forms
 
 -- ---- lists that grow

@@ -25,7 +25,7 @@ use Rattle.script_text.specs.Forms.{has_form, row, suits}
 use Rattle.script_text.specs.Generator.{call_by, clock_round, draw, drawn_call, expiry_round, four_turns, generated, lane_timers, number_after, timers_of_lane, turn, turns}
 use Rattle.script_text.specs.Declarations.{without_slack}
 use Rattle.script_text.specs.Grammar.{IsLine, fill_form, spelled}
-use Rattle.script_text.specs.Scripts.{HasTimerFor, IsCallInRange, call_line}
+use Rattle.script_text.specs.CallLines.{HasTimerFor, IsCallInRange, call_line}
 use Rattle.script_text.proofs.Generated.{length-lane_timers}
 use Rattle.script_text.proofs.Lists.{All-append, All-flat_map, All-map, All-range, length-pieces}
 

@@ -20,8 +20,9 @@ use Rattle.script_text.specs.declared.script.LaneCall.{LaneCall}
 use Rattle.script_text.specs.declared.script.Round.{Round}
 use Rattle.script_text.specs.Forms.{has_form, row}
 use Rattle.script_text.specs.Generator.{clock_round, expiry_round, four_turns, generated, lane_timers, number_after, script_bytes, timers_of_lane, turns}
-use Rattle.script_text.specs.Grammar.{IsLine, fill_form, spelled}
-use Rattle.script_text.specs.Scripts.{IsCallInRange, IsInRange, IsKindInRange, Reads, all_calls, call_line, declaration_line, declaration_lines, most_calls, of_numbers, round_lines, script_lines}
+use Rattle.script_text.specs.Grammar.{IsLine, fill_form, spelled, of_numbers}
+use Rattle.script_text.specs.Scripts.{IsInRange, IsKindInRange, Reads, all_calls, declaration_line, declaration_lines, most_calls, round_lines, script_lines}
+use Rattle.script_text.specs.CallLines.{IsCallInRange, call_line}
 use Rattle.script_text.proofs.Generated.{length-lane_timers}
 use Rattle.script_text.proofs.Lists.{All-append, All-flat_map, All-map, All-range, All-weaker, length-nested}
 use Rattle.script_text.proofs.GeneratedCalls.{IsPlainCall, IsPlainRound, IsShortLine, length-expiries, length-turns, plain_rounds, short_words, two_digits, with_spaces}

@@ -25,8 +25,9 @@ use Rattle.script_text.specs.declared.script.Kind.TheVariants as kinds
 use Rattle.script_text.specs.declared.script.LaneCall.{LaneCall}
 use Rattle.script_text.specs.Forms.{Spot, Key, At, Sort, ClockName, ModeName, Numeral, sort, row, called, part, suits}
 use Rattle.script_text.specs.Grammar.{IsOfSort, Fills}
-use Rattle.script_text.specs.Scripts.{most_budget, asking_line, declaration_line, call_line, IsGivenMode, IsKindInRange, IsCallInRange, HasTimerFor}
-use Rattle.script_text.specs.Drafts.{declaration_of, plain_call_of, object_call_of, call_of}
+use Rattle.script_text.specs.Scripts.{declaration_line, IsKindInRange}
+use Rattle.script_text.specs.CallLines.{most_budget, asking_line, call_line, IsGivenMode, IsCallInRange, HasTimerFor, plain_call_of, object_call_of, call_of}
+use Rattle.script_text.specs.Drafts.{declaration_of}
 use Rattle.script_text.specs.Refusals.{check_number, check_values, check_kind}
 use Rattle.script_text.proofs.Checks.{neither, holds}
 
@@ -121,24 +122,16 @@ pub declaration_again : (d : Draft) (clock : ClockId) (kind : Kind) → IsKindIn
     → IsDeclarationOf d (declaration_line (length d.timers) clock kind).form (declaration_line (length d.timers) clock kind).values
     (record { clock = clock; kind = kind })
 unfolding declaration_of check_values check_number check_kind
-declaration_again d clock (kinds.Raw contexts.Hard callbacks.Once) range =
-    record { means = refl; part = refl; values = rw (eq-eqb (length d.timers) (length d.timers) refl) refl; kind = refl }
-declaration_again d clock (kinds.Raw contexts.Hard (callbacks.Every n)) range =
-    record { means = refl; part = refl; values = rw (eq-eqb (length d.timers) (length d.timers) refl) refl; kind = refl }
-declaration_again d clock (kinds.Raw contexts.Hard callbacks.Cancels) range =
-    record { means = refl; part = refl; values = rw (eq-eqb (length d.timers) (length d.timers) refl) refl; kind = refl }
 declaration_again d clock (kinds.Raw contexts.Hard (callbacks.Starts n b)) range =
     record { means = refl; part = refl; values = rw (eq-eqb (length d.timers) (length d.timers) refl, lt-ltb b d.bases range) refl; kind = refl }
-declaration_again d clock (kinds.Raw contexts.Soft callbacks.Once) range =
-    record { means = refl; part = refl; values = rw (eq-eqb (length d.timers) (length d.timers) refl) refl; kind = refl }
-declaration_again d clock (kinds.Raw contexts.Soft (callbacks.Every n)) range =
-    record { means = refl; part = refl; values = rw (eq-eqb (length d.timers) (length d.timers) refl) refl; kind = refl }
 declaration_again d clock (kinds.Raw contexts.Soft callbacks.Cancels) range = absurd range
 declaration_again d clock (kinds.Raw contexts.Soft (callbacks.Starts n b)) range = absurd range
 declaration_again d clock (kinds.Posix base) range =
     record { means = refl; part = refl; values = rw (eq-eqb (length d.timers) (length d.timers) refl, lt-ltb base d.bases range) refl; kind = refl }
 declaration_again d clock (kinds.Fd base) range =
     record { means = refl; part = refl; values = rw (eq-eqb (length d.timers) (length d.timers) refl, lt-ltb base d.bases range) refl; kind = refl }
+declaration_again d clock kind range =
+    record { means = refl; part = refl; values = rw (eq-eqb (length d.timers) (length d.timers) refl) refl; kind = refl }
 
 -- ---- calls
 
@@ -336,28 +329,18 @@ start_again : (d : Draft) (lane timer : ℕ) (mode : Mode) (ns base : ℕ) (slac
     → IsCallOf d (asking_line lane timer mode ns base slack).form (asking_line lane timer mode ns base slack).values
     (record { lane = lane; call = calls.Start timer (record { mode = mode; ns = ns; slack = slack; base = base }) })
 unfolding call_of plain_call_of object_call_of check_values check_number check_kind
-start_again d lane timer modes.Rel ns base None own range =
-    timer_call_again d forms.Start _ _ lane timer _ (calls.Start timer (record { mode = modes.Rel; ns = ns; slack = None; base = base })) refl refl
+start_again d lane timer mode ns base None own range =
+    timer_call_again d forms.Start _ _ lane timer _ (calls.Start timer (record { mode = mode; ns = ns; slack = None; base = base })) refl refl
     refl own range.0 (rw (lt-ltb base d.bases range.1) refl)
-start_again d lane timer modes.Abs ns base None own range =
-    timer_call_again d forms.Start _ _ lane timer _ (calls.Start timer (record { mode = modes.Abs; ns = ns; slack = None; base = base })) refl refl
-    refl own range.0 (rw (lt-ltb base d.bases range.1) refl)
-start_again d lane timer modes.Rel ns base (Some slack) own range =
+start_again d lane timer mode ns base (Some slack) own range =
     timer_call_again d forms.StartRange _ _ lane timer _
-    (calls.Start timer (record { mode = modes.Rel; ns = ns; slack = Some slack; base = base })) refl refl
+    (calls.Start timer (record { mode = mode; ns = ns; slack = Some slack; base = base })) refl refl
     refl own (as_range d.timers timer range.0) (rw (lt-ltb base d.bases range.1) refl)
-start_again d lane timer modes.Abs ns base (Some slack) own range =
-    timer_call_again d forms.StartRange _ _ lane timer _
-    (calls.Start timer (record { mode = modes.Abs; ns = ns; slack = Some slack; base = base })) refl refl
-    refl own (as_range d.timers timer range.0) (rw (lt-ltb base d.bases range.1) refl)
-start_again d lane timer modes.Keep ns base slack own range = absurd range.2
 
 pub call_again : (d : Draft) (lane : ℕ) (call : Call) → lane < d.lanes → IsCallInRange lane d.bases d.timers call
     → IsCallOf d (call_line lane call).form (call_line lane call).values (record { lane = lane; call = call })
 unfolding call_of plain_call_of object_call_of check_values check_number check_kind
 call_again d lane (calls.Start timer request) own range = start_again d lane timer request.mode request.ns request.base request.slack own range
-call_again d lane (calls.Cancel timer) own range = timer_call_again d forms.Cancel _ _ lane timer _ (calls.Cancel timer) refl refl refl own range refl
-call_again d lane (calls.Peek timer) own range = timer_call_again d forms.Peek _ _ lane timer _ (calls.Peek timer) refl refl refl own range refl
 call_again d lane (calls.Expire contexts.Hard base budget) own range = record {
   means = refl;
   part = refl;
@@ -385,14 +368,4 @@ call_again d lane (calls.Clock (writes.Set to)) own range =
     record { means = refl; part = refl; values = rw (lt-ltb lane d.lanes own) refl; kind = refl }
 call_again d lane (calls.Clock (writes.Suspend by)) own range =
     record { means = refl; part = refl; values = rw (lt-ltb lane d.lanes own) refl; kind = refl }
-call_again d lane (calls.Settime timer flags value interval) own range =
-    timer_call_again d forms.Settime _ _ lane timer _ (calls.Settime timer flags value interval) refl refl refl own range refl
-call_again d lane (calls.Gettime timer) own range =
-    timer_call_again d forms.Gettime _ _ lane timer _ (calls.Gettime timer) refl refl refl own range refl
-call_again d lane (calls.Accept timer) own range = timer_call_again d forms.Accept _ _ lane timer _ (calls.Accept timer) refl refl refl own range refl
-call_again d lane (calls.Overrun timer) own range =
-    timer_call_again d forms.Overrun _ _ lane timer _ (calls.Overrun timer) refl refl refl own range refl
-call_again d lane (calls.Read timer len) own range =
-    timer_call_again d forms.Read _ _ lane timer _ (calls.Read timer len) refl refl refl own range refl
-call_again d lane (calls.Readable timer) own range =
-    timer_call_again d forms.Readable _ _ lane timer _ (calls.Readable timer) refl refl refl own range refl
+call_again d lane call own range = timer_call_again d (call_line lane call).form _ _ lane _ _ call refl refl refl own range refl

@@ -16,7 +16,8 @@ use Rattle.script_text.specs.declared.script.Declaration.{Declaration}
 use Rattle.script_text.specs.declared.script.LaneCall.{LaneCall}
 use Rattle.script_text.specs.Forms.{row, part}
 use Rattle.script_text.specs.Scripts.{most_bases, most_lanes, most_timers, most_calls}
-use Rattle.script_text.specs.Drafts.{IsWithinLimits, declaration_of, call_of, version_numbered, with_header, with_timer, with_round, with_call, with_part, draft_with_line}
+use Rattle.script_text.specs.Drafts.{IsWithinLimits, declaration_of, version_numbered, with_header, with_timer, with_round, with_call, with_part, draft_with_line}
+use Rattle.script_text.specs.CallLines.{call_of}
 use Rattle.script_text.specs.Refusals.{is_placed, check_count, check_number, check_values, check_line}
 use Rattle.script_text.proofs.Checks.{neither, holds, accepts}
 

@@ -15,7 +15,9 @@ use Rattle.script_text.specs.declared.script.LaneCall.{LaneCall}
 use Rattle.script_text.specs.declared.script.Round.{Round}
 use Rattle.script_text.specs.declared.script.Script.{Script}
 use Rattle.script_text.specs.Forms.{has_form}
-use Rattle.script_text.specs.Scripts.{of_numbers, most_bases, most_lanes, most_timers, most_events, most_calls, declaration_line, declaration_lines, call_line, round_lines, header_lines, script_lines, all_calls, version_number, HasForms, IsInRange, IsKindInRange, IsCallInRange}
+use Rattle.script_text.specs.Scripts.{most_bases, most_lanes, most_timers, most_events, most_calls, declaration_line, declaration_lines, round_lines, header_lines, script_lines, all_calls, version_number, HasForms, IsInRange, IsKindInRange}
+use Rattle.script_text.specs.CallLines.{call_line, IsCallInRange}
+use Rattle.script_text.specs.Grammar.{of_numbers}
 use Rattle.script_text.specs.Drafts.{empty, last_round, script_of, with_header, with_timer, with_round, with_call, with_part, draft_with_line}
 use Rattle.script_text.specs.Refusals.{is_placed, check_count, check_number, check_values, check_kind, check_line}
 use Rattle.script_text.proofs.Checks.{Accepts, no_cause}

@@ -18,18 +18,17 @@ use Rattle.script_text.specs.declared.script.Round.{Round}
 use Rattle.script_text.specs.declared.script.Script.{Script}
 use Rattle.script_text.specs.Forms.{has_form}
 use Rattle.script_text.specs.Declarations.{context_of}
-use Rattle.script_text.specs.Scripts.{HasForms, IsInRange, IsKindInRange, all_calls, asking_line, call_line, declaration_line, declaration_lines, header_lines, round_lines}
+use Rattle.script_text.specs.Scripts.{HasForms, IsInRange, IsKindInRange, all_calls, declaration_line, declaration_lines, header_lines, round_lines}
+use Rattle.script_text.specs.CallLines.{asking_line, call_line}
 use Rattle.script_text.specs.VersionOne.{IsHard, IsHardCall}
 
 hard_kind : (bases timer : ℕ) (clock : ClockId) (kind : Kind) → IsKindInRange bases kind
     → has_form versions.One (declaration_line timer clock kind).form ≡ true → context_of kind ≡ contexts.Hard
-hard_kind bases timer clock (kinds.Raw contexts.Hard callback) range has = refl
 hard_kind bases timer clock (kinds.Raw contexts.Soft callbacks.Once) range has = absurd cc
 hard_kind bases timer clock (kinds.Raw contexts.Soft (callbacks.Every interval)) range has = absurd cc
 hard_kind bases timer clock (kinds.Raw contexts.Soft callbacks.Cancels) range has = absurd range
 hard_kind bases timer clock (kinds.Raw contexts.Soft (callbacks.Starts ns base)) range has = absurd range
-hard_kind bases timer clock (kinds.Posix base) range has = refl
-hard_kind bases timer clock (kinds.Fd base) range has = refl
+hard_kind bases timer clock kind range has = refl
 
 hard_kinds : (bases timer : ℕ) (ds : List Declaration) → AllByRecursion (λ d. IsKindInRange bases d.kind) ds
     → HasForms versions.One (declaration_lines timer ds) → AllByRecursion (λ d. context_of d.kind ≡ contexts.Hard) ds
@@ -46,17 +45,9 @@ hard_call : (lane : ℕ) (call : Call) → has_form versions.One (call_line lane
 hard_call lane (calls.Start timer request) has = no_slack lane timer request.mode request.ns request.base request.slack has
 hard_call lane (calls.Expire contexts.Hard base budget) has = refl
 hard_call lane (calls.Expire contexts.Soft base budget) has = absurd cc
-hard_call lane (calls.Cancel timer) has = tt
-hard_call lane (calls.Peek timer) has = tt
-hard_call lane (calls.Clock write) has = tt
-hard_call lane (calls.Settime timer flags value interval) has = tt
-hard_call lane (calls.Gettime timer) has = tt
-hard_call lane (calls.Accept timer) has = tt
-hard_call lane (calls.Overrun timer) has = tt
-hard_call lane (calls.Read timer len) has = tt
-hard_call lane (calls.Readable timer) has = tt
 hard_call lane (calls.Offline base heir budget) has = absurd cc
 hard_call lane (calls.Online base) has = absurd cc
+hard_call lane call has = tt
 
 hard_calls : (cs : List LaneCall) → HasForms versions.One (map (λ c. call_line c.lane c.call) cs) → AllByRecursion (λ c. IsHardCall c.call) cs
 hard_calls [] has = tt

@@ -1,7 +1,5 @@
 -- A script as its lines are read one after the other: what they have told so far, and what a line adds.
 use Rattle.std.specs.Prelude.{ℕ, ◌≡◌, ◌+◌, ◌^◌, ◌<◌, ◌≤◌, length, List, [], ◌∷◌, ◌++◌, Option, Some, None, option_map, nat_eq, if◌then◌else◌}
-use Rattle.std.specs.Option.{option_or}
-use Rattle.clock_model.specs.declared.write.Write.TheVariants as writes
 use Rattle.seq_timer.specs.declared.context.Context.TheVariants as contexts
 use Rattle.record_text.specs.declared.version.Version.{Version}
 use Rattle.record_text.specs.declared.version.Version.TheVariants as versions
@@ -16,14 +14,13 @@ use Rattle.script_text.specs.declared.form.Part.TheVariants as parts
 use Rattle.script_text.specs.declared.form.Value.{Value}
 use Rattle.script_text.specs.declared.form.Value.TheVariants as values
 use Rattle.script_text.specs.declared.script.Callback.TheVariants as callbacks
-use Rattle.script_text.specs.declared.script.Call.{Call}
-use Rattle.script_text.specs.declared.script.Call.TheVariants as calls
 use Rattle.script_text.specs.declared.script.Declaration.{Declaration}
 use Rattle.script_text.specs.declared.script.Kind.TheVariants as kinds
 use Rattle.script_text.specs.declared.script.LaneCall.{LaneCall}
 use Rattle.script_text.specs.declared.script.Round.{Round}
 use Rattle.script_text.specs.declared.script.Script.{Script}
 use Rattle.script_text.specs.Forms.{Spot, Key, At, part}
+use Rattle.script_text.specs.CallLines.{call_of}
 use Rattle.script_text.specs.Scripts.{most_bases, most_lanes, most_timers, most_calls}
 
 -- before the first line
@@ -58,52 +55,6 @@ declaration_of forms.SoftEvery (values.Number i ∷ values.Clock c ∷ values.Nu
 declaration_of forms.Posix (values.Number i ∷ values.Clock c ∷ values.Number b ∷ []) = Some (record { clock = c; kind = kinds.Posix b })
 declaration_of forms.Fd (values.Number i ∷ values.Clock c ∷ values.Number b ∷ []) = Some (record { clock = c; kind = kinds.Fd b })
 declaration_of form vs = None
-
--- the call of a timer that has no other argument, by the form of its line
-unfoldable pub timer_call_of : Form → ℕ → Option Call
-timer_call_of forms.Cancel i = Some (calls.Cancel i)
-timer_call_of forms.Peek i = Some (calls.Peek i)
-timer_call_of forms.Gettime i = Some (calls.Gettime i)
-timer_call_of forms.Accept i = Some (calls.Accept i)
-timer_call_of forms.Overrun i = Some (calls.Overrun i)
-timer_call_of forms.Readable i = Some (calls.Readable i)
-timer_call_of form i = None
-
--- the call of a raw timer, of a base or of the clock that a line asks for, and its lane, by its form and values
-unfoldable pub plain_call_of : Form → List Value → Option LaneCall
-plain_call_of forms.Start (values.Number k ∷ values.Number i ∷ values.Mode m ∷ values.Number n ∷ values.Number b ∷ []) =
-    Some (record { lane = k; call = calls.Start i (record { mode = m; ns = n; slack = None; base = b }) })
-plain_call_of forms.StartRange (values.Number k ∷ values.Number i ∷ values.Mode m ∷ values.Number n ∷ values.Number s ∷ values.Number b ∷ []) =
-    Some (record { lane = k; call = calls.Start i (record { mode = m; ns = n; slack = Some s; base = b }) })
-plain_call_of forms.Cancel (values.Number k ∷ values.Number i ∷ []) = Some (record { lane = k; call = calls.Cancel i })
-plain_call_of forms.Peek (values.Number k ∷ values.Number i ∷ []) = Some (record { lane = k; call = calls.Peek i })
-plain_call_of forms.Expire (values.Number k ∷ values.Number b ∷ values.Number n ∷ []) =
-    Some (record { lane = k; call = calls.Expire contexts.Hard b n })
-plain_call_of forms.SoftExpire (values.Number k ∷ values.Number b ∷ values.Number n ∷ []) =
-    Some (record { lane = k; call = calls.Expire contexts.Soft b n })
-plain_call_of forms.Advance (values.Number k ∷ values.Number n ∷ []) = Some (record { lane = k; call = calls.Clock (writes.Advance n) })
-plain_call_of forms.Set (values.Number k ∷ values.Number n ∷ []) = Some (record { lane = k; call = calls.Clock (writes.Set n) })
-plain_call_of forms.Suspend (values.Number k ∷ values.Number n ∷ []) = Some (record { lane = k; call = calls.Clock (writes.Suspend n) })
-plain_call_of forms.Offline (values.Number k ∷ values.Number b ∷ values.Number h ∷ values.Number n ∷ []) =
-    Some (record { lane = k; call = calls.Offline b h n })
-plain_call_of forms.Online (values.Number k ∷ values.Number b ∷ []) = Some (record { lane = k; call = calls.Online b })
-plain_call_of form vs = None
-
--- the call of an object that a line asks for, and its lane, by its form and values
-unfoldable pub object_call_of : Form → List Value → Option LaneCall
-object_call_of forms.Settime
-    (values.Number k ∷ values.Number i ∷ values.Number f ∷ values.Number vs ∷ values.Number vn ∷ values.Number is ∷ values.Number in_ ∷ []) =
-    Some (record { lane = k; call = calls.Settime i f (record { sec = vs; nsec = vn }) (record { sec = is; nsec = in_ }) })
-object_call_of forms.Gettime (values.Number k ∷ values.Number i ∷ []) = Some (record { lane = k; call = calls.Gettime i })
-object_call_of forms.Accept (values.Number k ∷ values.Number i ∷ []) = Some (record { lane = k; call = calls.Accept i })
-object_call_of forms.Overrun (values.Number k ∷ values.Number i ∷ []) = Some (record { lane = k; call = calls.Overrun i })
-object_call_of forms.Read (values.Number k ∷ values.Number i ∷ values.Number n ∷ []) = Some (record { lane = k; call = calls.Read i n })
-object_call_of forms.Readable (values.Number k ∷ values.Number i ∷ []) = Some (record { lane = k; call = calls.Readable i })
-object_call_of form vs = None
-
--- the call that a line asks for, and its lane
-unfoldable pub call_of : Form → List Value → Option LaneCall
-call_of form vs = option_or (plain_call_of form vs) (object_call_of form vs)
 
 -- the version of this number; the first where there is none
 abbrev pub version_numbered : ℕ → Version

@@ -1,10 +1,11 @@
 -- The grammar of a line: how it is spelled, and which lines can be.
-use Rattle.std.specs.Prelude.{ℕ, ◌≤◌, List, [], ◌∷◌}
+use Rattle.std.specs.Prelude.{ℕ, ◌≤◌, List, [], ◌∷◌, map}
 use Rattle.std.specs.List.{join_with_byte}
 use Rattle.std.specs.Fmt.{decimal}
 use Rattle.ktime.specs.Times.{last_time}
 use Rattle.ktime.specs.declared.mode.Mode.TheVariants as modes
 use Rattle.record_text.specs.Words.{clock_word, mode_word}
+use Rattle.script_text.specs.declared.form.Form.{Form}
 use Rattle.script_text.specs.declared.form.Line.{Line}
 use Rattle.script_text.specs.declared.form.Field.{Field}
 use Rattle.script_text.specs.declared.form.Value.{Value}
@@ -51,3 +52,7 @@ IsLine l = Fills (row l.form) l.values
 -- a line in bytes: its words with single spaces between them
 abbrev pub spelled : Line → List ℕ
 spelled l = join_with_byte 32 (fill_form (row l.form) l.values)
+
+-- a line of a form whose fields are all filled with numbers
+abbrev pub of_numbers : Form → List ℕ → Line
+of_numbers form ns = record { form = form; values = map (λ n. values.Number n) ns }

@@ -1,5 +1,6 @@
 pub mod Forms
 pub mod Grammar
+pub mod CallLines
 pub mod Scripts
 pub mod Reading
 pub mod Drafts

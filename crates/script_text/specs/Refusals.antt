@@ -24,7 +24,8 @@ use Rattle.script_text.specs.Forms.{Spot, Key, At, row, part, suits}
 use Rattle.script_text.specs.Reading.{◌>>=◌, line_in}
 use Rattle.script_text.specs.declared.reading.drafts.Draft.{Draft}
 use Rattle.script_text.specs.Drafts.{empty, script_of, draft_with_line}
-use Rattle.script_text.specs.Scripts.{most_script_bytes, most_bases, most_lanes, most_timers, most_events, most_calls, most_budget, lines_of, is_skipped}
+use Rattle.script_text.specs.Scripts.{most_script_bytes, most_bases, most_lanes, most_timers, most_events, most_calls, lines_of, is_skipped}
+use Rattle.script_text.specs.CallLines.{most_budget}
 
 -- ---- causes that need the lines before
 

@@ -1,28 +1,23 @@
 -- The lines of a script, the limits that it keeps to, and the bytes that it is read from.
-use Rattle.std.specs.Prelude.{ℕ, ◌≡◌, ◌+◌, ◌-◌, ◌^◌, ◌<◌, ◌≤◌, ◌==◌, Bool, true, not, if◌then◌else◌, List, [], ◌∷◌, ◌++◌, length, map, filter, get_or, Option, Some, None}
+use Rattle.std.specs.Prelude.{ℕ, ◌≡◌, ◌+◌, ◌-◌, ◌^◌, ◌<◌, ◌≤◌, ◌==◌, Bool, true, not, if◌then◌else◌, List, [], ◌∷◌, ◌++◌, length, map, filter}
 use Rattle.std.specs.List.{AllByRecursion, flat_map, slice_split}
 use Rattle.ktime.specs.declared.clock_id.ClockId.{ClockId}
-use Rattle.ktime.specs.declared.mode.Mode.{Mode}
-use Rattle.ktime.specs.declared.mode.Mode.TheVariants as modes
-use Rattle.clock_model.specs.declared.write.Write.TheVariants as writes
 use Rattle.seq_timer.specs.declared.context.Context.TheVariants as contexts
 use Rattle.record_text.specs.declared.version.Version.{Version}
 use Rattle.record_text.specs.declared.version.Version.TheVariants as versions
 use Rattle.script_text.specs.declared.form.Line.{Line}
-use Rattle.script_text.specs.declared.form.Form.{Form}
 use Rattle.script_text.specs.declared.form.Form.TheVariants as forms
 use Rattle.script_text.specs.declared.form.Value.TheVariants as values
 use Rattle.script_text.specs.declared.script.Callback.TheVariants as callbacks
 use Rattle.script_text.specs.declared.script.Kind.{Kind}
 use Rattle.script_text.specs.declared.script.Kind.TheVariants as kinds
-use Rattle.script_text.specs.declared.script.Call.{Call}
-use Rattle.script_text.specs.declared.script.Call.TheVariants as calls
 use Rattle.script_text.specs.declared.script.Declaration.{Declaration}
 use Rattle.script_text.specs.declared.script.LaneCall.{LaneCall}
 use Rattle.script_text.specs.declared.script.Round.{Round}
 use Rattle.script_text.specs.declared.script.Script.{Script}
-use Rattle.script_text.specs.Forms.{has_form, suits}
-use Rattle.script_text.specs.Grammar.{IsLine, spelled}
+use Rattle.script_text.specs.Forms.{has_form}
+use Rattle.script_text.specs.Grammar.{IsLine, of_numbers, spelled}
+use Rattle.script_text.specs.CallLines.{IsCallInRange, call_line}
 
 -- ---- limits
 
@@ -54,15 +49,7 @@ most_events versions.Two = 2 ^ 48 - 2048
 abbrev pub most_calls : ℕ
 most_calls = 65536
 
--- how many timers one expire may claim, or one call may move off a base
-abbrev pub most_budget : ℕ
-most_budget = 4096
-
 -- ---- the lines of a script
-
--- a line of a form whose fields are all filled with numbers
-abbrev pub of_numbers : Form → List ℕ → Line
-of_numbers form ns = record { form = form; values = map (λ n. values.Number n) ns }
 
 -- the line that declares a timer of this number, on a clock and of a kind; a callback that cancels or starts has none in the soft context
 abbrev pub declaration_line : ℕ → ClockId → Kind → Line
@@ -86,35 +73,6 @@ declaration_line timer clock (kinds.Fd base) = record { form = forms.Fd; values 
 abbrev pub declaration_lines : ℕ → List Declaration → List Line
 declaration_lines timer [] = []
 declaration_lines timer (d ∷ ds) = declaration_line timer d.clock d.kind ∷ declaration_lines (timer + 1) ds
-
--- the line of a start of this mode, time and base, without a slack or with one
-abbrev pub asking_line : ℕ → ℕ → Mode → ℕ → ℕ → Option ℕ → Line
-asking_line lane timer mode ns base None =
-    record { form = forms.Start; values = values.Number lane ∷ values.Number timer ∷ values.Mode mode ∷ values.Number ns ∷ values.Number base ∷ [] }
-asking_line lane timer mode ns base (Some slack) = record {
-  form = forms.StartRange;
-  values = values.Number lane ∷ values.Number timer ∷ values.Mode mode ∷ values.Number ns ∷ values.Number slack ∷ values.Number base ∷ [];
-}
-
--- the line of a lane's call
-abbrev pub call_line : ℕ → Call → Line
-call_line lane (calls.Start timer request) = asking_line lane timer request.mode request.ns request.base request.slack
-call_line lane (calls.Cancel timer) = of_numbers forms.Cancel (lane ∷ timer ∷ [])
-call_line lane (calls.Peek timer) = of_numbers forms.Peek (lane ∷ timer ∷ [])
-call_line lane (calls.Expire contexts.Hard base budget) = of_numbers forms.Expire (lane ∷ base ∷ budget ∷ [])
-call_line lane (calls.Expire contexts.Soft base budget) = of_numbers forms.SoftExpire (lane ∷ base ∷ budget ∷ [])
-call_line lane (calls.Clock (writes.Advance by)) = of_numbers forms.Advance (lane ∷ by ∷ [])
-call_line lane (calls.Clock (writes.Set to)) = of_numbers forms.Set (lane ∷ to ∷ [])
-call_line lane (calls.Clock (writes.Suspend by)) = of_numbers forms.Suspend (lane ∷ by ∷ [])
-call_line lane (calls.Settime timer flags value interval) =
-    of_numbers forms.Settime (lane ∷ timer ∷ flags ∷ value.sec ∷ value.nsec ∷ interval.sec ∷ interval.nsec ∷ [])
-call_line lane (calls.Gettime timer) = of_numbers forms.Gettime (lane ∷ timer ∷ [])
-call_line lane (calls.Accept timer) = of_numbers forms.Accept (lane ∷ timer ∷ [])
-call_line lane (calls.Overrun timer) = of_numbers forms.Overrun (lane ∷ timer ∷ [])
-call_line lane (calls.Read timer len) = of_numbers forms.Read (lane ∷ timer ∷ len ∷ [])
-call_line lane (calls.Readable timer) = of_numbers forms.Readable (lane ∷ timer ∷ [])
-call_line lane (calls.Offline base heir budget) = of_numbers forms.Offline (lane ∷ base ∷ heir ∷ budget ∷ [])
-call_line lane (calls.Online base) = of_numbers forms.Online (lane ∷ base ∷ [])
 
 -- the lines of a round: one that begins it, and its calls in order
 abbrev pub round_lines : Round → List Line
@@ -150,34 +108,6 @@ IsKindInRange bases (kinds.Raw contexts.Soft callbacks.Cancels) = ⊥
 IsKindInRange bases (kinds.Raw contexts.Soft callback) = Unit
 IsKindInRange bases (kinds.Posix base) = base < bases
 IsKindInRange bases (kinds.Fd base) = base < bases
-
--- there is a timer of this number, and its kind suits calls of this form
-abbrev pub HasTimerFor : List Declaration → ℕ → Form → Type 0
-HasTimerFor timers timer form = (timer < length timers) ×
-    (suits form (get_or (map (λ d. d.kind) timers) timer (kinds.Raw contexts.Hard callbacks.Once)) ≡ true)
-
--- a script can give this mode of starting
-abbrev pub IsGivenMode : Mode → Type 0
-IsGivenMode modes.Keep = ⊥
-IsGivenMode mode = Unit
-
--- a lane's call is of a timer and on a base that exist, and suits the timer's kind; lane 0 alone takes a base off line, with a lower one as its heir,
--- and on line again
-abbrev pub IsCallInRange : ℕ → ℕ → List Declaration → Call → Type 0
-IsCallInRange lane bases timers (calls.Start timer request) =
-    HasTimerFor timers timer forms.Start × (request.base < bases) × IsGivenMode request.mode
-IsCallInRange lane bases timers (calls.Cancel timer) = HasTimerFor timers timer forms.Cancel
-IsCallInRange lane bases timers (calls.Peek timer) = HasTimerFor timers timer forms.Peek
-IsCallInRange lane bases timers (calls.Expire context base budget) = (base < bases) × (budget ≤ most_budget)
-IsCallInRange lane bases timers (calls.Clock write) = Unit
-IsCallInRange lane bases timers (calls.Settime timer flags value interval) = HasTimerFor timers timer forms.Settime
-IsCallInRange lane bases timers (calls.Gettime timer) = HasTimerFor timers timer forms.Gettime
-IsCallInRange lane bases timers (calls.Accept timer) = HasTimerFor timers timer forms.Accept
-IsCallInRange lane bases timers (calls.Overrun timer) = HasTimerFor timers timer forms.Overrun
-IsCallInRange lane bases timers (calls.Read timer len) = HasTimerFor timers timer forms.Read
-IsCallInRange lane bases timers (calls.Readable timer) = HasTimerFor timers timer forms.Readable
-IsCallInRange lane bases timers (calls.Offline base heir budget) = (lane ≡ 0) × (base < bases) × (heir < base) × (budget ≤ most_budget)
-IsCallInRange lane bases timers (calls.Online base) = (lane ≡ 0) × (base < bases)
 
 -- lines are of forms that a version has
 abbrev pub HasForms : Version → List Line → Type 0

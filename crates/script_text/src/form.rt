@@ -1,4 +1,4 @@
-//! The forms of line of a script, as the rows of one table.
+//! The forms of line of a script, as the rows of one table, and the words that choose them.
 ghost use Rattle.std.specs.Prelude.{◌≡◌, map};
 ghost use Rattle.script_text.specs.Forms.{field_at, has_form, part, comes_by, row, since, suits};
 
@@ -106,6 +106,49 @@ const TIMER: Option<Field> = Some(Field::Timer);
 const BASE: Option<Field> = Some(Field::Base);
 
 const FREE: Option<Field> = Some(Field::Free);
+
+/// The forms that are chosen by a line's first word.
+pub(crate) const PLAIN: &[(&[u8], Form)] = &[
+    (b"hrt", Form::Version),
+    (b"bases", Form::Bases),
+    (b"lanes", Form::Lanes),
+    (b"limit", Form::Limit),
+    (b"posix", Form::Posix),
+    (b"fd", Form::Fd),
+    (b"round", Form::Round),
+];
+
+/// Those of a raw timer, by the word after its clock.
+pub(crate) const RAW: &[(&[u8], Form)] = &[
+    (b"once", Form::RawOnce),
+    (b"every", Form::RawEvery),
+    (b"cancels", Form::RawCancels),
+    (b"starts", Form::RawStarts),
+];
+
+/// Those of a timer of the soft context, by the word after its clock.
+pub(crate) const SOFT: &[(&[u8], Form)] = &[(b"once", Form::SoftOnce), (b"every", Form::SoftEvery)];
+
+/// Those of a call, by the word after its lane.
+pub(crate) const CALLS: &[(&[u8], Form)] = &[
+    (b"start", Form::Start),
+    (b"startrange", Form::StartRange),
+    (b"cancel", Form::Cancel),
+    (b"peek", Form::Peek),
+    (b"expire", Form::Expire),
+    (b"softexpire", Form::SoftExpire),
+    (b"advance", Form::Advance),
+    (b"set", Form::Set),
+    (b"suspend", Form::Suspend),
+    (b"settime", Form::Settime),
+    (b"gettime", Form::Gettime),
+    (b"accept", Form::Accept),
+    (b"overrun", Form::Overrun),
+    (b"read", Form::Read),
+    (b"readable", Form::Readable),
+    (b"offline", Form::Offline),
+    (b"online", Form::Online),
+];
 
 /// Whether what comes with one version has come by another.
 pub fn comes_by(since: Version, version: Version) -> bool

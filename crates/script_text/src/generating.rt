@@ -1,7 +1,8 @@
 //! Large scripts that are made from a number.
 ghost use Rattle.std.specs.Prelude.{◌≡◌, ◌+◌, ◌*◌, ◌/◌, ◌<◌, ◌≤◌, ◌++◌, ◌∷◌, [], IfOk, OnOk, string_bytes, map};
 ghost use Rattle.script_text.specs.Generator.{call_by, clock_round, draw, drawn_call, expiry_round, four_turns, generated, lane_timers, lines_bytes, next_number, number_after, script_bytes, timers_of_lane, turn, turns};
-ghost use Rattle.script_text.specs.Scripts.{call_line, declaration_lines, header_lines, round_lines, IsInRange, Reads};
+ghost use Rattle.script_text.specs.Scripts.{declaration_lines, header_lines, round_lines, IsInRange, Reads};
+ghost use Rattle.script_text.specs.CallLines.{call_line};
 ghost use Rattle.seq_timer.specs.declared.context.Context.TheVariants as contexts;
 ghost use Rattle.record_text.specs.declared.version.Version.TheVariants as versions;
 ghost use Rattle.script_text.specs.declared.script.Call.TheVariants as calls;

@@ -31,7 +31,7 @@ use Rattle.timer_objects.specs.Waiting.{HasToWait, IsHindered}
 abbrev pub rises_since : {k from : ℕ} {u v w : List SystemEntry} → Begins u v → RisesFrom k from v w → RisesFrom k from u w
 rises_since first r = record { before = r.before; seen = begins_trans first r.seen; count = r.count; last = r.last }
 
--- a turn of an object behind looks
+-- the beginning of a turn of an object behind looks
 abbrev pub begins_after : {id n : ℕ} {u v w : KnownOfTimers} → LooksOn u v → BeginsTurn id n v w → BeginsTurn id n u w
 begins_after {id} {n} {u} {v} {w} looks b = record { looks = looks_trans u v w looks b.looks; rises = rises_since looks.seen b.rises }
 
@@ -40,6 +40,7 @@ pub disarms_after : {o : Opening} {t n : ℕ} {u v w : KnownOfTimers} {log log' 
     → DisarmsInTurn o u w t n log log'
 disarms_after looks d = record { begun = d.begun; begins = begins_after looks d.begins; disarms = d.disarms }
 
+-- a turn of an object behind looks
 abbrev pub turn_after : {id n : ℕ} {u v begun worked w : KnownOfTimers} → LooksOn u v → HasTurn id n v begun worked w → HasTurn id n u begun worked w
 turn_after looks t = record { begins = begins_after looks t.begins; ends = t.ends }
 

@@ -1,12 +1,14 @@
 //! The words of answers.
 ghost use Rattle.std.specs.Prelude.{◌≡◌, ◌++◌, ◌∷◌, OnOk, string_bytes, codes, length, map};
 ghost use Rattle.std.specs.Fmt.{decimal};
-ghost use Rattle.record_text.specs.Numbers.{answer_numbers, object_answer_numbers, shift_answer_numbers, AreMachineNumbers};
-ghost use Rattle.record_text.specs.Text.{answer_words, object_answer_words, shift_answer_words, spaced};
+ghost use Rattle.record_text.specs.Numbers.{AreMachineNumbers};
+ghost use Rattle.record_text.specs.Answers.{answer_numbers, object_answer_numbers, shift_answer_numbers, answer_words, object_answer_words, shift_answer_words};
+ghost use Rattle.record_text.specs.Text.{spaced};
 
 use crate::item_list::ItemList;
 use crate::record::Answer;
 use crate::writing::sections::HasWords;
+use crate::writing::words::write_word;
 use std::alloc::AllocError;
 
 impl HasWords for Answer {
@@ -16,19 +18,20 @@ impl HasWords for Answer {
 
     fn write_words(&self, out: &mut String) -> Result<(), AllocError> {
         match *self {
-            Answer::ClockSpent => out.push_str(" clockspent")?,
+            Answer::ClockSpent => write_word(out, "clockspent", &[])?,
             Answer::Started {
                 generation,
                 base,
                 was_armed,
-            } => {
-                let was = u8::from(was_armed);
-                write!(out, " started {generation} {base} {was}")?;
-            }
-            Answer::Spent { stamp } => write!(out, " spent {stamp}")?,
-            Answer::Cancelled { generation } => write!(out, " cancelled {generation}")?,
-            Answer::Running { generation, stamp } => write!(out, " running {generation} {stamp}")?,
-            Answer::Idle { stamp } => write!(out, " idle {stamp}")?,
+            } => write_word(out, "started", &[generation, base.into(), was_armed.into()])?,
+            Answer::Spent { stamp } => write_word(out, "spent", &[stamp])?,
+            Answer::Cancelled { generation } => write_word(out, "cancelled", &[generation])?,
+            Answer::Running { generation, stamp } => write_word(
+                out,
+                "running",
+                &[generation, stamp],
+            )?,
+            Answer::Idle { stamp } => write_word(out, "idle", &[stamp])?,
             Answer::Peek {
                 stamp,
                 base,
@@ -36,10 +39,14 @@ impl HasWords for Answer {
                 running,
                 moving,
             } => {
-                let enqueued = u8::from(enqueued);
-                let running = u8::from(running);
-                let moving = u8::from(moving);
-                write!(out, " peek {stamp} {base} {enqueued} {running} {moving}")?;
+                let state = [
+                    stamp,
+                    base.into(),
+                    enqueued.into(),
+                    running.into(),
+                    moving.into(),
+                ];
+                write_word(out, "peek", &state)?;
             }
             Answer::Done { reading, ref fired } => write_run(out, "done", reading, fired)?,
             Answer::More { reading, ref fired } => write_run(out, "more", reading, fired)?,
@@ -49,7 +56,7 @@ impl HasWords for Answer {
                 timer,
                 generation,
             } => write_busy(out, reading, timer, generation, fired)?,
-            Answer::Clock { stamp } => write!(out, " clock {stamp}")?,
+            Answer::Clock { stamp } => write_word(out, "clock", &[stamp])?,
             Answer::Range { would_be } => write!(out, " range {would_be}")?,
             _ => write_shift_answer(out, self)?,
         }
@@ -63,22 +70,22 @@ fn write_shift_answer(out: &mut String, answer: &Answer) -> Result<(), AllocErro
     ensures numbers { OnOk result (AreMachineNumbers (shift_answer_numbers answer.now)) }
 {
     match *answer {
-        Answer::Offline { moved, stamp } => write!(out, " off {moved} {stamp}")?,
+        Answer::Offline { moved, stamp } => write_word(out, "off", &[moved, stamp])?,
         Answer::OfflineBusy {
             moved,
             timer,
             generation,
-        } => write!(out, " busy {moved} {timer} {generation}")?,
-        Answer::OfflineMore { moved } => write!(out, " more {moved}")?,
+        } => write_word(out, "busy", &[moved, timer.into(), generation])?,
+        Answer::OfflineMore { moved } => write_word(out, "more", &[moved])?,
         Answer::OfflineSpent {
             moved,
             timer,
             stamp,
-        } => write!(out, " spent {moved} {timer} {stamp}")?,
-        Answer::Already { stamp } => write!(out, " already {stamp}")?,
-        Answer::HeirOffline { stamp } => write!(out, " heiroff {stamp}")?,
-        Answer::BaseSpent { stamp } => write!(out, " basespent {stamp}")?,
-        Answer::Online { stamp } => write!(out, " on {stamp}")?,
+        } => write_word(out, "spent", &[moved, timer.into(), stamp])?,
+        Answer::Already { stamp } => write_word(out, "already", &[stamp])?,
+        Answer::HeirOffline { stamp } => write_word(out, "heiroff", &[stamp])?,
+        Answer::BaseSpent { stamp } => write_word(out, "basespent", &[stamp])?,
+        Answer::Online { stamp } => write_word(out, "on", &[stamp])?,
         _ => write_object_answer(out, answer)?,
     }
     Ok(())
@@ -90,30 +97,27 @@ fn write_object_answer(out: &mut String, answer: &Answer) -> Result<(), AllocErr
     ensures numbers { OnOk result (AreMachineNumbers (object_answer_numbers answer.now)) }
 {
     match *answer {
-        Answer::Old { left, interval } => write!(out, " old {left} {interval}")?,
-        Answer::Canceled => out.push_str(" canceled")?,
-        Answer::Unarmed { stamp } => write!(out, " unarmed {stamp}")?,
-        Answer::Invalid => out.push_str(" einval")?,
+        Answer::Old { left, interval } => write_word(out, "old", &[left, interval])?,
+        Answer::Canceled => write_word(out, "canceled", &[])?,
+        Answer::Unarmed { stamp } => write_word(out, "unarmed", &[stamp])?,
+        Answer::Invalid => write_word(out, "einval", &[])?,
         Answer::LeftAt {
             left,
             interval,
             reading,
             stamp,
-        } => write!(out, " left {left} {interval} {reading} {stamp}")?,
-        Answer::Left { left, interval } => write!(out, " left {left} {interval}")?,
-        Answer::Accepted { overrun } => write!(out, " accepted {overrun}")?,
-        Answer::NoSignal => out.push_str(" nosignal")?,
-        Answer::Overrun { overrun, stamp } => write!(out, " overrun {overrun} {stamp}")?,
-        Answer::Count { total } => write!(out, " count {total}")?,
-        Answer::Again => out.push_str(" again")?,
+        } => write_word(out, "left", &[left, interval, reading, stamp])?,
+        Answer::Left { left, interval } => write_word(out, "left", &[left, interval])?,
+        Answer::Accepted { overrun } => write_word(out, "accepted", &[overrun])?,
+        Answer::NoSignal => write_word(out, "nosignal", &[])?,
+        Answer::Overrun { overrun, stamp } => write_word(out, "overrun", &[overrun, stamp])?,
+        Answer::Count { total } => write_word(out, "count", &[total])?,
+        Answer::Again => write_word(out, "again", &[])?,
         Answer::Readable {
             ready,
             reading,
             stamp,
-        } => {
-            let ready = u8::from(ready);
-            write!(out, " readable {ready} {reading} {stamp}")?;
-        }
+        } => write_word(out, "readable", &[ready.into(), reading, stamp])?,
         _ => {}
     }
     Ok(())
@@ -130,8 +134,7 @@ fn write_run(
     ensures numbers { OnOk result (AreMachineNumbers (length fired.now ∷ reading ∷ fired.now)) }
 {
     let fired = fired.as_slice();
-    let count = fired.len();
-    write!(out, " {word} {count} {reading}")?;
+    write_word(out, word, &[fired.len() as u64, reading])?;
     write_fired(out, fired)?;
     Ok(())
 }
@@ -148,8 +151,8 @@ fn write_busy(
     ensures numbers { OnOk result (AreMachineNumbers (length fired.now ∷ reading ∷ timer ∷ generation ∷ fired.now)) }
 {
     let fired = fired.as_slice();
-    let count = fired.len();
-    write!(out, " busy {count} {reading} {timer} {generation}")?;
+    let met = [fired.len() as u64, reading, timer.into(), generation];
+    write_word(out, "busy", &met)?;
     write_fired(out, fired)?;
     Ok(())
 }

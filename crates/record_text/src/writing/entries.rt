@@ -8,7 +8,7 @@ ghost use Rattle.record_text.specs.Text.{entry_numbers, entry_words, event_parts
 use crate::record::{CallbackReply, Entry};
 use crate::version::Version;
 use crate::writing::sections::HasWords;
-use crate::writing::words::{clock_word, mode_word, restart_word};
+use crate::writing::words::{clock_word, mode_word, restart_word, write_numbers, write_word};
 use seq_timer::{AskedBy, BaseEvent, EventBy, Moved, Placement, Reply, Restarted};
 use std::alloc::AllocError;
 
@@ -19,8 +19,8 @@ impl HasWords for BaseEvent {
 
     fn write_words(&self, out: &mut String) -> Result<(), AllocError> {
         match *self {
-            BaseEvent::Offline { heir } => write!(out, " offline {heir}")?,
-            BaseEvent::Online => out.push_str(" online")?,
+            BaseEvent::Offline { heir } => write_word(out, "offline", &[heir.into()])?,
+            BaseEvent::Online => write_word(out, "online", &[])?,
         }
         Ok(())
     }
@@ -52,14 +52,14 @@ fn write_event(out: &mut String, version: Version, event: EventBy<u64>) -> Resul
     ensures numbers { OnOk result (AreMachineNumbers (numbers_in (event_parts event))) }
 {
     match event {
-        EventBy::Out { base } => write!(out, " out {base}")?,
+        EventBy::Out { base } => write_word(out, "out", &[base.into()])?,
         EventBy::Start(asked) => write_asked(out, version, asked)?,
-        EventBy::Cancel => out.push_str(" cancel")?,
-        EventBy::Claim { base, reading } => write!(out, " claim {base} {reading}")?,
-        EventBy::Forward { reading, interval } => write!(out, " forward {reading} {interval}")?,
+        EventBy::Cancel => write_word(out, "cancel", &[])?,
+        EventBy::Claim { base, reading } => write_word(out, "claim", &[base.into(), reading])?,
+        EventBy::Forward { reading, interval } => write_word(out, "forward", &[reading, interval])?,
         EventBy::Finish { restart } => {
-            let restart = restart_word(restart);
-            write!(out, " finish {restart}")?;
+            write_word(out, "finish", &[])?;
+            write_word(out, restart_word(restart), &[])?;
         }
     }
     Ok(())
@@ -77,10 +77,11 @@ fn write_asked(out: &mut String, version: Version, asked: AskedBy<u64>) -> Resul
         reading,
         base,
     } = asked;
-    let mode = mode_word(mode);
+    let (mode, base) = (mode_word(mode), base.into());
+    write_word(out, "start", &[])?;
     match version {
-        Version::One => write!(out, " start {mode} {ns} {reading} {base}")?,
-        Version::Two => write!(out, " start {mode} {ns} {slack} {reading} {base}")?,
+        Version::One => write_word(out, mode, &[ns, reading, base])?,
+        Version::Two => write_word(out, mode, &[ns, slack, reading, base])?,
     }
     Ok(())
 }
@@ -91,16 +92,13 @@ fn write_reply(out: &mut String, version: Version, reply: Reply) -> Result<(), A
     ensures numbers { OnOk result (AreMachineNumbers (numbers_in (reply_parts reply))) }
 {
     match reply {
-        Reply::Out { was_armed } => {
-            let was = u8::from(was_armed);
-            write!(out, " {was}")?;
-        }
+        Reply::Out { was_armed } => write_numbers(out, &[was_armed.into()])?,
         Reply::Start {
             placement,
             was_armed,
         } => write_placement(out, version, placement, was_armed)?,
         Reply::Cancel { generation } | Reply::Claim { generation } => {
-            write!(out, " {generation}")?;
+            write_numbers(out, &[generation])?;
         }
         Reply::Forward { moved } => write_moved(out, version, moved)?,
         Reply::Finish {
@@ -127,11 +125,11 @@ fn write_placement(
         soft,
         expires,
     } = placement;
-    let clock = clock_word(clock);
-    let was = u8::from(was_armed);
+    let (clock, was) = (clock_word(clock), was_armed.into());
+    write_numbers(out, &[base.into()])?;
     match version {
-        Version::One => write!(out, " {base} {clock} {expires} {was}")?,
-        Version::Two => write!(out, " {base} {clock} {soft} {expires} {was}")?,
+        Version::One => write_word(out, clock, &[expires, was])?,
+        Version::Two => write_word(out, clock, &[soft, expires, was])?,
     }
     Ok(())
 }
@@ -147,8 +145,8 @@ fn write_moved(out: &mut String, version: Version, moved: Moved) -> Result<(), A
         expires,
     } = moved;
     match version {
-        Version::One => write!(out, " {count} {expires}")?,
-        Version::Two => write!(out, " {count} {soft} {expires}")?,
+        Version::One => write_numbers(out, &[count, expires])?,
+        Version::Two => write_numbers(out, &[count, soft, expires])?,
     }
     Ok(())
 }
@@ -163,10 +161,11 @@ fn write_finished(
     ensures text { OnOk result (string_bytes out.new ≡ string_bytes out.old ++ spaced (words_of version (reply_parts (replies.Finish generation restarted)))) }
     ensures numbers { OnOk result (AreMachineNumbers (numbers_in (reply_parts (replies.Finish generation restarted)))) }
 {
+    write_numbers(out, &[generation])?;
     match restarted {
-        Restarted::No => write!(out, " {generation} none")?,
-        Restarted::Again { generation: again } => write!(out, " {generation} {again}")?,
-        Restarted::Spent => write!(out, " {generation} spent")?,
+        Restarted::No => write_word(out, "none", &[])?,
+        Restarted::Again { generation: again } => write_numbers(out, &[again])?,
+        Restarted::Spent => write_word(out, "spent", &[])?,
     }
     Ok(())
 }
@@ -178,9 +177,9 @@ impl HasWords for CallbackReply {
 
     fn write_words(&self, out: &mut String) -> Result<(), AllocError> {
         match *self {
-            CallbackReply::Running { generation } => write!(out, " running {generation}")?,
-            CallbackReply::Armed { generation } => write!(out, " armed {generation}")?,
-            CallbackReply::Spent => out.push_str(" spent")?,
+            CallbackReply::Running { generation } => write_word(out, "running", &[generation])?,
+            CallbackReply::Armed { generation } => write_word(out, "armed", &[generation])?,
+            CallbackReply::Spent => write_word(out, "spent", &[])?,
         }
         Ok(())
     }

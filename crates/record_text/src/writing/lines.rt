@@ -12,7 +12,7 @@ use crate::writing::entries::EntryIn;
 use crate::writing::sections::{
     HasLineBelow, HasLines, HasWords, write_below, write_list, write_lists,
 };
-use crate::writing::words::{version_word, write_name, write_ns};
+use crate::writing::words::{version_word, write_name, write_ns, write_numbers, write_word};
 use std::alloc::{AllocError, Global};
 
 /// The text of a record, by its version: a line for each write of the clock, then for each entry of each base, then for each
@@ -60,8 +60,16 @@ fn write_line_of<W: HasWords>(
         ++ ((kind.now ++ spaced (decimal list ∷ decimal number ∷ decimal label.lane ∷ decimal label.call ∷ W.words what.now)) ++ 10 ∷ [])) }
     ensures numbers { OnOk result (AreMachineNumbers (list ∷ number ∷ label.lane ∷ label.call ∷ W.numbers what.now)) }
 {
-    let (lane, call) = (label.lane, label.call);
-    write!(out, "{kind} {list} {number} {lane} {call}")?;
+    out.push_str(kind)?;
+    write_numbers(
+        out,
+        &[
+            list as u64,
+            number as u64,
+            label.lane.into(),
+            label.call.into(),
+        ],
+    )?;
     what.write_words(out)?;
     out.push_str("\n")?;
     Ok(())
@@ -77,14 +85,16 @@ impl HasLines for ClockLine {
         _list: usize,
         number: usize,
     ) -> Result<(), AllocError> {
-        let (lane, call) = (self.label.lane, self.label.call);
-        let name = write_name(self.write);
-        let ns = write_ns(self.write);
-        let (mono, real, boot, changes) = (self.mono, self.real, self.boot, self.changes);
-        writeln!(
+        let Label { lane, call } = self.label;
+        let (ns, changes) = (write_ns(self.write), self.changes);
+        out.push_str("clock")?;
+        write_numbers(out, &[number as u64, lane.into(), call.into()])?;
+        write_word(
             out,
-            "clock {number} {lane} {call} {name} {ns} {mono} {real} {boot} {changes}"
+            write_name(self.write),
+            &[ns, self.mono, self.real, self.boot, changes],
         )?;
+        out.push_str("\n")?;
         Ok(())
     }
 }
@@ -147,7 +157,8 @@ impl HasLines for Answer {
         lane: usize,
         call: usize,
     ) -> Result<(), AllocError> {
-        write!(out, "call {lane} {call}")?;
+        out.push_str("call")?;
+        write_numbers(out, &[lane as u64, call as u64])?;
         self.write_words(out)?;
         out.push_str("\n")?;
         Ok(())
@@ -188,8 +199,6 @@ impl HasWords for Skip {
     ghost numbers = { λ skip. skip.generation ∷ [] };
 
     fn write_words(&self, out: &mut String) -> Result<(), AllocError> {
-        let generation = self.generation;
-        write!(out, " {generation}")?;
-        Ok(())
+        write_numbers(out, &[self.generation])
     }
 }

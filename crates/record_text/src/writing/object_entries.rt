@@ -1,12 +1,13 @@
 //! The words of an object's entries.
 ghost use Rattle.std.specs.Prelude.{◌≡◌, ◌<◌, ◌^◌, ◌++◌, ◌∷◌, [], OnOk, string_bytes};
 ghost use Rattle.std.specs.Fmt.{decimal};
-ghost use Rattle.record_text.specs.Numbers.{answer_numbers, armed_number, rearming_numbers, object_entry_numbers, AreMachineNumbers};
-ghost use Rattle.record_text.specs.Text.{answer_words, armed_word, rearming_words, spaced, object_entry_words};
+ghost use Rattle.record_text.specs.Numbers.{armed_number, rearming_numbers, object_entry_numbers, AreMachineNumbers};
+ghost use Rattle.record_text.specs.Answers.{answer_numbers, answer_words};
+ghost use Rattle.record_text.specs.Text.{armed_word, rearming_words, spaced, object_entry_words};
 
 use crate::record::{Answer, Armed, ObjectEntry};
 use crate::writing::sections::HasWords;
-use crate::writing::words::counted_word;
+use crate::writing::words::{counted_word, write_numbers, write_word};
 use std::alloc::AllocError;
 
 impl HasWords for ObjectEntry {
@@ -24,7 +25,7 @@ impl HasWords for ObjectEntry {
                 arm,
                 reply,
             } => {
-                write!(out, " settime {flags} {value} {interval}")?;
+                write_word(out, "settime", &[flags, value, interval])?;
                 write_outcome(out, reading, arm, &reply.answer())?;
             }
             ObjectEntry::Trigger {
@@ -32,8 +33,8 @@ impl HasWords for ObjectEntry {
                 reading,
                 counted,
             } => {
-                let counted = counted_word(counted);
-                write!(out, " trigger {generation} {reading} {counted}")?;
+                write_word(out, "trigger", &[generation, reading])?;
+                write_word(out, counted_word(counted), &[])?;
             }
             rearming => write_rearming(out, rearming)?,
         }
@@ -52,7 +53,7 @@ fn write_rearming(out: &mut String, entry: ObjectEntry) -> Result<(), AllocError
             arm,
             reply,
         } => {
-            out.push_str(" accept")?;
+            write_word(out, "accept", &[])?;
             write_outcome(out, reading, arm, &reply.answer())?;
         }
         ObjectEntry::Read {
@@ -60,7 +61,7 @@ fn write_rearming(out: &mut String, entry: ObjectEntry) -> Result<(), AllocError
             arm,
             reply,
         } => {
-            out.push_str(" read")?;
+            write_word(out, "read", &[])?;
             write_outcome(out, reading, arm, &reply.answer())?;
         }
         ObjectEntry::Gettime {
@@ -69,9 +70,9 @@ fn write_rearming(out: &mut String, entry: ObjectEntry) -> Result<(), AllocError
             left,
             interval,
         } => {
-            write!(out, " gettime {reading}")?;
+            write_word(out, "gettime", &[reading])?;
             write_armed(out, arm)?;
-            write!(out, " {left} {interval}")?;
+            write_numbers(out, &[left, interval])?;
         }
         _ => {}
     }
@@ -88,7 +89,7 @@ fn write_outcome(
     ensures text { OnOk result (string_bytes out.new ≡ string_bytes out.old ++ spaced (decimal reading ∷ armed_word arm ∷ answer_words answer.now)) }
     ensures numbers { OnOk result (AreMachineNumbers (reading ∷ armed_number arm ∷ answer_numbers answer.now)) }
 {
-    write!(out, " {reading}")?;
+    write_numbers(out, &[reading])?;
     write_armed(out, arm)?;
     answer.write_words(out)?;
     Ok(())
@@ -99,9 +100,9 @@ fn write_armed(out: &mut String, arm: Armed) -> Result<(), AllocError>
     ensures numbers { OnOk result (armed_number arm < 2 ^ 128) }
 {
     match arm {
-        Armed::None => out.push_str(" none")?,
-        Armed::Generation { generation } => write!(out, " {generation}")?,
-        Armed::Unarmed => out.push_str(" unarmed")?,
+        Armed::None => write_word(out, "none", &[])?,
+        Armed::Generation { generation } => write_numbers(out, &[generation])?,
+        Armed::Unarmed => write_word(out, "unarmed", &[])?,
     }
     Ok(())
 }

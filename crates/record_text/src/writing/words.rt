@@ -1,11 +1,35 @@
-//! The names of versions, clocks, modes, writes and outcomes in a record's text.
-ghost use Rattle.std.specs.Prelude.{◌≡◌};
-ghost use Rattle.record_text.specs.Text.{counted_word, restart_word, write_ns, write_name};
+//! Words and numbers in a record's text, and the names of versions, clocks, modes, writes and outcomes.
+ghost use Rattle.std.specs.Prelude.{◌≡◌, ◌++◌, ◌∷◌, OnOk, string_bytes, map};
+ghost use Rattle.std.specs.Fmt.{decimal};
+ghost use Rattle.record_text.specs.Numbers.{AreMachineNumbers};
+ghost use Rattle.record_text.specs.Text.{counted_word, restart_word, spaced, write_ns, write_name};
 ghost use Rattle.record_text.specs.Words.{clock_word, mode_word, version_word};
 
 use crate::version::Version;
 use clock_model::Write;
 use ktime::{ClockId, Mode};
+use std::alloc::AllocError;
+
+/// Writes a word and numbers behind it, each after a space.
+pub(crate) fn write_word(out: &mut String, word: &str, numbers: &[u64]) -> Result<(), AllocError>
+    ensures text { OnOk result (string_bytes out.new ≡ string_bytes out.old ++ spaced (word.now ∷ map decimal numbers.now)) }
+    ensures numbers { OnOk result (AreMachineNumbers numbers.now) }
+{
+    out.push_str(" ")?;
+    out.push_str(word)?;
+    write_numbers(out, numbers)
+}
+
+/// Writes numbers, each after a space.
+pub(crate) fn write_numbers(out: &mut String, numbers: &[u64]) -> Result<(), AllocError>
+    ensures text { OnOk result (string_bytes out.new ≡ string_bytes out.old ++ spaced (map decimal numbers.now)) }
+    ensures numbers { OnOk result (AreMachineNumbers numbers.now) }
+{
+    for number in numbers {
+        write!(out, " {number}")?;
+    }
+    Ok(())
+}
 
 pub(crate) fn version_word(version: Version) -> &'static str
     ensures { result.now ≡ version_word version }

@@ -4,52 +4,9 @@ ghost use Rattle.record_text.specs.declared.version.Version.TheVariants as versi
 ghost use Rattle.script_text.specs.Forms.{has_form, comes_by};
 ghost use Rattle.script_text.specs.Reading.{begins_with_digit, find_form_by_first, form_in, find_form};
 
-use crate::form::{Form, comes_by};
+use crate::form::{CALLS, Form, PLAIN, RAW, SOFT, comes_by};
 use crate::refusal::Cause;
 use record_text::Version;
-
-/// The forms that are chosen by a line's first word.
-const PLAIN: &[(&[u8], Form)] = &[
-    (b"hrt", Form::Version),
-    (b"bases", Form::Bases),
-    (b"lanes", Form::Lanes),
-    (b"limit", Form::Limit),
-    (b"posix", Form::Posix),
-    (b"fd", Form::Fd),
-    (b"round", Form::Round),
-];
-
-/// Those of a raw timer, by the word after its clock.
-const RAW: &[(&[u8], Form)] = &[
-    (b"once", Form::RawOnce),
-    (b"every", Form::RawEvery),
-    (b"cancels", Form::RawCancels),
-    (b"starts", Form::RawStarts),
-];
-
-/// Those of a timer of the soft context, by the word after its clock.
-const SOFT: &[(&[u8], Form)] = &[(b"once", Form::SoftOnce), (b"every", Form::SoftEvery)];
-
-/// Those of a call, by the word after its lane.
-const CALLS: &[(&[u8], Form)] = &[
-    (b"start", Form::Start),
-    (b"startrange", Form::StartRange),
-    (b"cancel", Form::Cancel),
-    (b"peek", Form::Peek),
-    (b"expire", Form::Expire),
-    (b"softexpire", Form::SoftExpire),
-    (b"advance", Form::Advance),
-    (b"set", Form::Set),
-    (b"suspend", Form::Suspend),
-    (b"settime", Form::Settime),
-    (b"gettime", Form::Gettime),
-    (b"accept", Form::Accept),
-    (b"overrun", Form::Overrun),
-    (b"read", Form::Read),
-    (b"readable", Form::Readable),
-    (b"offline", Form::Offline),
-    (b"online", Form::Online),
-];
 
 /// Whether this word names a form of this version, by the form's name.
 fn is_named(version: Version, word: &[u8], name: &[u8], form: Form) -> bool

@@ -5,7 +5,8 @@ ghost use Rattle.script_text.specs.declared.form.Form.TheVariants as forms;
 ghost use Rattle.script_text.specs.declared.script.Kind.TheVariants as kinds;
 ghost use Rattle.seq_timer.specs.declared.context.Context.TheVariants as contexts;
 ghost use Rattle.script_text.specs.declared.script.Call.TheVariants as calls;
-ghost use Rattle.script_text.specs.Drafts.{AreShort, call_of, declaration_of, object_call_of, plain_call_of, timer_call_of};
+ghost use Rattle.script_text.specs.Drafts.{AreShort, declaration_of};
+ghost use Rattle.script_text.specs.CallLines.{call_of, object_call_of, plain_call_of, timer_call_of};
 
 use crate::form::Form;
 use crate::form::Value::{self, Clock, Mode, Number};
@@ -65,7 +66,7 @@ fn soft(callback: Callback) -> Kind
 }
 
 /// The call that a line asks for, and its lane, by its form and values.
-#[tactic(auto, unfolding(crate::specs::Drafts::call_of))]
+#[tactic(auto, unfolding(crate::specs::CallLines::call_of))]
 pub fn call(form: Form, values: &[Value]) -> Option<LaneCall>
     requires { AreShort (row form) values.now }
     ensures { result ≡ call_of form values.now }
@@ -74,7 +75,7 @@ pub fn call(form: Form, values: &[Value]) -> Option<LaneCall>
 }
 
 /// The call of a raw timer, of a base or of the clock that a line asks for.
-#[tactic(auto, unfolding(crate::specs::Drafts::plain_call_of, crate::specs::Drafts::timer_call_of))]
+#[tactic(auto, unfolding(crate::specs::CallLines::plain_call_of, crate::specs::CallLines::timer_call_of))]
 fn plain_call(form: Form, values: &[Value]) -> Option<LaneCall>
     requires { AreShort (row form) values.now }
     ensures { result ≡ plain_call_of form values.now }
@@ -104,7 +105,7 @@ fn plain_call(form: Form, values: &[Value]) -> Option<LaneCall>
 }
 
 /// The start that a line of these values asks for, with a slack or without one.
-#[tactic(auto, unfolding(crate::specs::Drafts::plain_call_of))]
+#[tactic(auto, unfolding(crate::specs::CallLines::plain_call_of))]
 fn start(form: Form, values: &[Value]) -> Option<LaneCall>
     requires form { (form ≡ forms.Start) ⊎ (form ≡ forms.StartRange) }
     requires short { AreShort (row form) values.now }
@@ -168,7 +169,7 @@ fn online(base: u32) -> Call
 }
 
 /// The call that a line of this form asks for, where it has the number of a timer and nothing else.
-#[tactic(auto, unfolding(crate::specs::Drafts::timer_call_of))]
+#[tactic(auto, unfolding(crate::specs::CallLines::timer_call_of))]
 fn timer_call(form: Form, timer: u32) -> Option<Call>
     ensures { result ≡ timer_call_of form timer }
 {
@@ -190,7 +191,7 @@ fn write(write: Write) -> Call
 }
 
 /// The call of an object that a line asks for.
-#[tactic(auto, unfolding(crate::specs::Drafts::object_call_of, crate::specs::Drafts::timer_call_of))]
+#[tactic(auto, unfolding(crate::specs::CallLines::object_call_of, crate::specs::CallLines::timer_call_of))]
 fn object_call(form: Form, values: &[Value]) -> Option<LaneCall>
     requires { AreShort (row form) values.now }
     ensures { result ≡ object_call_of form values.now }
@@ -212,7 +213,7 @@ fn object_call(form: Form, values: &[Value]) -> Option<LaneCall>
 }
 
 /// The settime that a line of these values asks for.
-#[tactic(auto, unfolding(crate::specs::Drafts::object_call_of))]
+#[tactic(auto, unfolding(crate::specs::CallLines::object_call_of))]
 fn settime(values: &[Value]) -> Option<LaneCall>
     requires { AreShort (row forms.Settime) values.now }
     ensures { result ≡ object_call_of forms.Settime values.now }

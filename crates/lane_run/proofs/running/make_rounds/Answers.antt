@@ -6,7 +6,7 @@ use Rattle.std.proofs.lemmas.List.{take_all, take_more}
 use Rattle.script_text.specs.declared.script.LaneCall.{LaneCall}
 use Rattle.script_text.specs.declared.script.Round.{Round}
 use Rattle.lane_world.specs.Rounds.{MakesRound, MakesRounds, none_left}
-use Rattle.lane_world.specs.Worlds.{CanCall}
+use Rattle.lane_world.specs.Called.{CanCall}
 use Rattle.lane_run.proofs.Greatest.{lanes_few}
 use Rattle.lane_run.proofs.Looking.{run_made}
 use Rattle.lane_run.proofs.Ranges.{round_can}

@@ -2,7 +2,8 @@ use Rattle.std.proofs.Common.{[], ◌∷◌, ◌+◌, string_bytes}
 use Rattle.seq_timer.specs.declared.context.Context.TheVariants as contexts
 use Rattle.script_text.specs.declared.script.Call.TheVariants as calls
 use Rattle.script_text.specs.Generator.{expiry_round}
-use Rattle.script_text.specs.Scripts.{call_line, round_lines}
+use Rattle.script_text.specs.Scripts.{round_lines}
+use Rattle.script_text.specs.CallLines.{call_line}
 use Rattle.script_text.proofs.Generated.{written_more, expiry_more}
 use Rattle.script_text.proofs.generating.write_expiry_round.Goals as goal
 

@@ -2,7 +2,7 @@ use Rattle.std.proofs.Common.{[], ◌∷◌, ◌++◌, ◌+◌, string_bytes, sy
 use Rattle.std.proofs.lemmas.List.{append-nil}
 use Rattle.script_text.specs.declared.script.Call.{Call}
 use Rattle.script_text.specs.Generator.{drawn_call, lines_bytes, turn}
-use Rattle.script_text.specs.Scripts.{call_line}
+use Rattle.script_text.specs.CallLines.{call_line}
 use Rattle.script_text.proofs.Generated.{drawn, lines_of_calls, number_at_start, turn_more, written_more}
 use Rattle.script_text.proofs.generating.write_turn.Goals as goal
 

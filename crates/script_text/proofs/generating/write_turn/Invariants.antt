@@ -1,6 +1,6 @@
 use Rattle.std.proofs.Common.{◌≡◌, ◌++◌, ◌*◌, ◌<◌, string_bytes, map}
 use Rattle.script_text.specs.Generator.{lines_bytes, number_after, turn}
-use Rattle.script_text.specs.Scripts.{call_line}
+use Rattle.script_text.specs.CallLines.{call_line}
 use Rattle.script_text.proofs.generating.write_turn.Given as goal
 
 -- the calls of the lanes so far, and the number after their draws
