@@ -154,6 +154,7 @@ DeedAsksNone (Evacuates heir count end IsCount) = ⊥
 DeedAsksNone (Where did IsSo) = DeedAsksNone did
 DeedAsksNone did = Unit {0}
 
+-- (each call has a clause with an answer, since the last clause is tried at each answer of those calls alone that have one)
 row_none : (s : Script) (reading : ℕ) (call : Call) (answer : Answer) → CallAsksNone call → DeedAsksNone (call_row s reading call answer).did
 row_none s reading (calls.Start timer request) (answers.Started generation on was_armed) none = none
 row_none s reading (calls.Offline base heir budget) answer none = absurd none
