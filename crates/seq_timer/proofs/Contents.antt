@@ -8,7 +8,7 @@ use Rattle.seq_timer.specs.Events.{Event}
 use Rattle.seq_timer.specs.Effects.{effect}
 use Rattle.seq_timer.specs.Histories.{Entry, after_all}
 use Rattle.seq_timer.specs.Steps.{Timer, Needs, after}
-use Rattle.seq_timer.specs.Tables.{in_context, is_context, no_timer, seen_in}
+use Rattle.seq_timer.specs.Tables.{in_context, is_armed_on, is_context, no_timer, seen_in}
 use Rattle.seq_timer.specs.Bases.{IsQueuedAs, IsQueuedIn}
 use Rattle.seq_timer.specs.Halves.{Half, IsFreeFor, IsHalfOf, half_after}
 use Rattle.seq_timer.specs.Contents.{Content, IsContentOf, content_after, half_of, with_half}
@@ -49,6 +49,13 @@ seen_own t = seen_here t.declared.context t (is_context-same t.declared.context)
 
 pub seen_else : (x : Context) (t : Timer) → is_context x t.declared.context ≡ false → seen_in x t ≡ no_timer
 seen_else x t apart = ap (λ b. if b then t else no_timer) apart
+
+-- a timer that seems armed is of the context
+pub seen_armed : (x : Context) (base : ℕ) (t : Timer) → is_armed_on base (seen_in x t) ≡ true → t ≡ seen_in x t
+seen_armed x base t armed = ⊎_elim
+    (λ own. sym (seen_here x t own))
+    (λ other. absurd (true≢false (sym armed ∙ ap (is_armed_on base) (seen_else x t other))))
+    (cases_Bool (is_context x t.declared.context))
 
 -- ---- one timer has changed
 

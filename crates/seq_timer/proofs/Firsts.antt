@@ -17,7 +17,7 @@ use Rattle.seq_timer.specs.declared.system.SystemEntry.{SystemEntry}
 use Rattle.seq_timer.specs.Systems.{AreSystemSteps, BaseContent, IsFresh, IsOn, first_system, next_on, system_after}
 use Rattle.seq_timer.proofs.Agreement.{agrees}
 use Rattle.seq_timer.proofs.Systems.{shows, untouched}
-use Rattle.seq_timer.proofs.Contents.{same_context, seen_else, seen_here}
+use Rattle.seq_timer.proofs.Contents.{same_context, seen_armed, seen_else}
 use Rattle.seq_timer.proofs.Due.{first_in-next, first_in-none, leads_of}
 
 -- the first pair of a queue is judged by timers that are the same where they are armed on the base
@@ -35,13 +35,6 @@ first_in-same f g base reading h here same = λ i. option_or
     (reached-same f g base clocks.Monotonic reading.mono h.monotonic (here.queues clocks.Monotonic) same i)
     (option_or (reached-same f g base clocks.Realtime reading.real h.realtime (here.queues clocks.Realtime) same i)
     (reached-same f g base clocks.Boottime reading.boot h.boottime (here.queues clocks.Boottime) same i))
-
--- a timer that seems armed is of the context
-pub seen_armed : (x : Context) (base : ℕ) (t : Timer) → is_armed_on base (seen_in x t) ≡ true → t ≡ seen_in x t
-seen_armed x base t armed = ⊎_elim
-    (λ own. sym (seen_here x t own))
-    (λ other. absurd (true≢false (sym armed ∙ ap (is_armed_on base) (seen_else x t other))))
-    (cases_Bool (is_context x t.declared.context))
 
 pub armed_context : (x : Context) (base : ℕ) (t : Timer) → is_armed_on base (seen_in x t) ≡ true → t.declared.context ≡ x
 armed_context x base t armed = ⊎_elim

@@ -13,9 +13,8 @@ use Rattle.seq_timer.specs.Steps.{Timer}
 use Rattle.seq_timer.specs.Tables.{in_context, is_armed_on, is_kept_on}
 use Rattle.seq_timer.specs.Halves.{Half, front_in, no_half, queue_of, wanted}
 use Rattle.seq_timer.specs.Contents.{Content, IsContentOf, front_of, half_of, no_content, running_in}
-use Rattle.seq_timer.proofs.Contents.{seen_own}
+use Rattle.seq_timer.proofs.Contents.{seen_armed, seen_own}
 use Rattle.seq_timer.proofs.Due.{or_none, or_some}
-use Rattle.seq_timer.proofs.Firsts.{seen_armed}
 
 -- ---- one context
 

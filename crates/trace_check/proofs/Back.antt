@@ -18,8 +18,8 @@ use Rattle.trace_check.specs.Knowledge.{Knowledge, misfit, half_number, is_armed
 use Rattle.trace_check.proofs.Plain.{IsBeginning, Plain, PlainTimers}
 use Rattle.trace_check.proofs.Agreement.{Agrees, Allows, ArmedAs, RunsAs, Sound, SoundFunction}
 use Rattle.trace_check.proofs.Forth.{same_half}
-use Rattle.trace_check.proofs.Before.{Led, apart_in_order, at_place, at_rest, clock_of, context_of, hard_of, if_armed, place_of}
-use Rattle.trace_check.proofs.BackStarts.{back_cancel, back_set_up, back_start, home_is, if_unarmed}
+use Rattle.trace_check.proofs.Before.{Led, apart_in_order, at_place, at_rest, clock_of, context_of, hard_of, home_is, if_armed, if_unarmed, place_of}
+use Rattle.trace_check.proofs.BackStarts.{back_cancel, back_set_up, back_start}
 use Rattle.trace_check.proofs.BackRuns.{back_entry, back_exit}
 
 -- ---- a beginning

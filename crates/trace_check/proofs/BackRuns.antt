@@ -25,8 +25,7 @@ use Rattle.trace_check.proofs.Plain.{IsEntered, IsExited, Plain, PlainTimers}
 use Rattle.trace_check.proofs.Agreement.{Agrees, AgreesAt, Allows, ArmedAs, HasTurnBefore, RunsAs, Sound, SoundFunction}
 use Rattle.trace_check.proofs.Parts.{AreAlone, all_fail, context_same, half_number-injective, home_same, turns_from-none, waits_without}
 use Rattle.trace_check.proofs.Forth.{elsewhere, same_half}
-use Rattle.trace_check.proofs.Before.{Led, agree_before, alone_before, at_before, at_rest, before, else_known, hard_of, here_known, rest_agrees, spared_before, still_moves}
-use Rattle.trace_check.proofs.BackStarts.{armed_before, home_is, if_unarmed, no_home}
+use Rattle.trace_check.proofs.Before.{Led, agree_before, alone_before, armed_before, at_before, at_rest, before, else_known, hard_of, here_known, home_is, if_unarmed, no_home, rest_agrees, spared_before, still_moves}
 
 -- ---- an expiry
 

@@ -2,7 +2,7 @@
 use Rattle.std.proofs.Common.{◌≡◌, ℕ, Bool, true, false, ◌&&◌, if◌then◌else◌, Option, Some, None, List, refl, sym, ap, subst, ◌∙◌, inl, inr}
 use Rattle.std.specs.Prelude.{IfSome, unwrap_or}
 use Rattle.std.specs.List.{AllByRecursion}
-use Rattle.std.proofs.lemmas.Bool.{both_ways, ltb-false}
+use Rattle.std.proofs.lemmas.Bool.{ltb-false}
 use Rattle.ktime.specs.Times.{last_time}
 use Rattle.ktime.specs.declared.clock_id.ClockId.{ClockId}
 use Rattle.ktime.specs.declared.clock_id.ClockId.TheVariants as clocks
@@ -21,7 +21,7 @@ use Rattle.trace_check.proofs.Plain.{IsCancelled, IsSetUp, IsStarted, Plain, Pla
 use Rattle.trace_check.proofs.Agreement.{Agrees, Allows, ArmedAs, HasTurnBefore, RunsAs, Sound, SoundAt, SoundFunction}
 use Rattle.trace_check.proofs.Parts.{all_fail}
 use Rattle.trace_check.proofs.Forth.{order_known, same_half, untold_clock}
-use Rattle.trace_check.proofs.Before.{Led, agree_before, alone_before, apart_in_order, at_before, at_place, at_rest, before, clock_of, context_of, else_known, hard_of, here_known, if_armed, place_of, rest_agrees, same_some, spared_before, still_moves}
+use Rattle.trace_check.proofs.Before.{Led, agree_before, alone_before, apart_in_order, armed_before, at_before, at_place, at_rest, before, clock_of, context_of, else_known, hard_of, here_known, home_is, if_armed, if_unarmed, no_home, place_of, rest_agrees, spared_before, still_moves}
 
 -- ---- a set-up
 
@@ -59,12 +59,6 @@ back_set_up k w' t clock context s none a =
     )
 
 -- ---- a cancel
-
-pub armed_before : (known : KnownTimer) (clock : ClockId) (context : Context) (base : ℕ) (a : ArmedKnown) → known.armed ≡ a → is_unarmed a ≡ false
-    → ArmedAs a (at_rest known true clock context base)
-armed_before known clock context base arms.Untold is fails = tt
-armed_before known clock context base arms.No is fails = absurd cc
-armed_before known clock context base (arms.Until soft expires) is fails = (refl, ap soft_of is, ap hard_of is)
 
 pub back_cancel : (k : Knowledge) (w' : PlainTimers) (t : ℕ) → Sound k → misfit k (kernel.Cancel t) ≡ None
     → Agrees (learned k (kernel.Cancel t)) w' → Led k (kernel.Cancel t) w'
@@ -116,19 +110,6 @@ start_function : (f : FunctionKnown) (known : KnownTimer) (was : Option Bool) (c
 start_function functions.Untold known was claims new runs_ = tt
 start_function functions.Rests known was claims new runs_ = runs_
 start_function (functions.Runs c x) known was claims new runs_ = (runs_.0, rw runs_.0 (runs_.1), runs_.2)
-
-pub if_unarmed : (home : Option ℕ) (base : ℕ) (armed : Bool) → armed ≡ false → IfSome home (λ b. armed ≡ true → base ≡ b)
-if_unarmed None base armed not_armed = tt
-if_unarmed (Some b) base armed not_armed = λ is. absurd (both_ways armed not_armed is)
-
--- where a home is known, the timer waits there
-pub home_is : (home : Option ℕ) (c base : ℕ) (armed : Bool) → home ≡ Some c → base ≡ c → IfSome home (λ b. armed ≡ true → base ≡ b)
-home_is None c base armed is at = tt
-home_is (Some b) c base armed is at = λ armed_. at ∙ sym (same_some is)
-
-pub no_home : (home : Option ℕ) (base : ℕ) (armed : Bool) → home ≡ None → IfSome home (λ b. armed ≡ true → base ≡ b)
-no_home None base armed is = tt
-no_home (Some b) base armed is = absurd cc
 
 start_home : (half : ℕ → HalfKnown) (t : ℕ) (known : KnownTimer) (was : Option Bool) (claims : List OrderedExpiry) (new : Plain) (f : FunctionKnown)
     → SoundFunction half t known f → RunsAs f new

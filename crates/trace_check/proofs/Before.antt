@@ -17,7 +17,7 @@ use Rattle.trace_check.specs.declared.known.FunctionKnown.{FunctionKnown}
 use Rattle.trace_check.specs.declared.known.FunctionKnown.TheVariants as functions
 use Rattle.trace_check.specs.declared.known.HalfKnown.{HalfKnown}
 use Rattle.trace_check.specs.declared.known.KnownTimer.{KnownTimer}
-use Rattle.trace_check.specs.Knowledge.{Knowledge, runs, soft_of}
+use Rattle.trace_check.specs.Knowledge.{Knowledge, is_unarmed, runs, soft_of}
 use Rattle.trace_check.proofs.Plain.{Plain, PlainTimers, ShowsEvent, Spared}
 use Rattle.trace_check.proofs.Agreement.{Agrees, AgreesAt, ArmedAs, HasTurnBefore, RunsAs, SoundAt}
 use Rattle.trace_check.proofs.Parts.{AreAlone, Moves, alone_still}
@@ -45,6 +45,22 @@ pub if_armed : (home : Option ℕ) (base : ℕ) (armed : Bool) → IfSome home (
 if_armed None base armed h = tt
 if_armed (Some b) base armed h = λ is. h
 
+pub same_some : {n m : ℕ} → Some n ≡ Some m → n ≡ m
+same_some e = cc
+
+pub if_unarmed : (home : Option ℕ) (base : ℕ) (armed : Bool) → armed ≡ false → IfSome home (λ b. armed ≡ true → base ≡ b)
+if_unarmed None base armed not_armed = tt
+if_unarmed (Some b) base armed not_armed = λ is. absurd (both_ways armed not_armed is)
+
+-- where a home is known, the timer waits there
+pub home_is : (home : Option ℕ) (c base : ℕ) (armed : Bool) → home ≡ Some c → base ≡ c → IfSome home (λ b. armed ≡ true → base ≡ b)
+home_is None c base armed is at = tt
+home_is (Some b) c base armed is at = λ armed_. at ∙ sym (same_some is)
+
+pub no_home : (home : Option ℕ) (base : ℕ) (armed : Bool) → home ≡ None → IfSome home (λ b. armed ≡ true → base ≡ b)
+no_home None base armed is = tt
+no_home (Some b) base armed is = absurd cc
+
 abbrev pub hard_of : ArmedKnown → ℕ
 hard_of arms.Untold = 0
 hard_of arms.No = 0
@@ -64,6 +80,12 @@ at_rest known armed clock context base = record {
   told = known.context;
   order = known.order;
 }
+
+pub armed_before : (known : KnownTimer) (clock : ClockId) (context : Context) (base : ℕ) (a : ArmedKnown) → known.armed ≡ a → is_unarmed a ≡ false
+    → ArmedAs a (at_rest known true clock context base)
+armed_before known clock context base arms.Untold is fails = tt
+armed_before known clock context base arms.No is fails = absurd cc
+armed_before known clock context base (arms.Until soft expires) is fails = (refl, ap soft_of is, ap hard_of is)
 
 rests_as : (f : FunctionKnown) (p : Plain) → runs f ≡ false → p.running ≡ false → RunsAs f p
 rests_as functions.Untold p still is = tt
@@ -144,6 +166,3 @@ at_before P w' t old h = subst P (sym (updated_here w' t old)) h
 
 pub still_moves : (old new : Plain) → old.running ≡ false → Moves new old
 still_moves old new still run = absurd (both_ways old.running still run)
-
-pub same_some : {n m : ℕ} → Some n ≡ Some m → n ≡ m
-same_some e = cc
