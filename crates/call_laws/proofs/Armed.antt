@@ -32,7 +32,7 @@ use Rattle.run_history.specs.ObjectCalls.{Arms}
 use Rattle.run_history.specs.Objects.{object_armed_after}
 use Rattle.run_history.specs.Starts.{arming_actions}
 use Rattle.script_text.specs.declared.script.Script.{Script}
-use Rattle.lane_notes.specs.Arms.{arm_noted}
+use Rattle.lane_notes.specs.Objects.{arm_noted}
 use Rattle.run_history.specs.Witnesses.{Witness}
 use Rattle.run_history.specs.Receipts.{PlacedEntry}
 use Rattle.run_history.specs.Promises.{GoesOn}

@@ -53,7 +53,7 @@ use Rattle.lane_world.proofs.SeenMore.{count_begins, goes_before, begins_same}
 use Rattle.lane_world.specs.Worlds.{callback_of, IsWorldOf, WorldOf}
 use Rattle.lane_world.proofs.Declared.{declared_callback, declared_over, over_of}
 use Rattle.pass_names.proofs.Passes.{begins_length}
-use Rattle.call_laws.proofs.Triggered.{fd_noted, posix_noted, trigger_kept}
+use Rattle.call_laws.proofs.Triggered.{trigger_kept}
 use Rattle.std.specs.Prelude.{flat_map}
 use Rattle.std.proofs.lemmas.List.Concat.{flat_map-append}
 use Rattle.call_laws.proofs.Claimed.{claimed_in-append}
@@ -65,9 +65,6 @@ use Rattle.seq_timer.specs.declared.event.Restarted.{Restarted}
 use Rattle.seq_timer.specs.declared.event.Reply.TheVariants as replies
 use Rattle.seq_timer.specs.declared.event.EventBy.TheVariants as events
 use Rattle.timer_objects.specs.declared.callback.Callback.TheVariants as runs
-use Rattle.timer_objects.specs.declared.object.ObjectCall.TheVariants as of_kind
-use Rattle.posix_timer.specs.declared.calls.Call.TheVariants as posix_calls
-use Rattle.timer_fd.specs.declared.calls.Call.TheVariants as fd_calls
 use Rattle.script_text.specs.declared.script.Kind.TheVariants as kinds
 use Rattle.run_history.specs.Promises as promises
 use Rattle.run_history.proofs.Expires as expires
@@ -158,12 +155,10 @@ module _ (s : Script) (x : WorldOf) (is : IsWorldOf s x) (some : 1 ≤ s.limit) 
           (subst (λ cb. RunsCallback o v w c reading h.log.receipts h'.log.receipts cb restart) its run.0)
       by_kind (kinds.Posix asked) same =
           let run = by_over (kinds.Posix asked) same in
-          trigger_kept s h.objects.now limit some label c reading claim restart w h h' run.2 run.3 (λ Reached f its. rw same its)
-          (of_kind.Posix (posix_calls.Trigger c.generation reading)) (λ y allows. posix_noted y c.generation reading allows) (λ n. refl) (λ n. refl) run.0
+          trigger_kept s h.objects.now limit some label c reading claim restart w h h' run.2 run.3 (λ Reached f its. rw same its) run.0
       by_kind (kinds.Fd asked) same =
           let run = by_over (kinds.Fd asked) same in
-          trigger_kept s h.objects.now limit some label c reading claim restart w h h' run.2 run.3 (λ Reached f its. rw same its)
-          (of_kind.Fd (fd_calls.Trigger c.generation reading)) (λ y allows. fd_noted y c.generation reading allows) (λ n. refl) (λ n. refl) run.0
+          trigger_kept s h.objects.now limit some label c reading claim restart w h h' run.2 run.3 (λ Reached f its. rw same its) run.0
 
   -- a callback ran, with its claim and its finish, in every run that goes on from there
   turn_ran : {k v w k' : KnownOfTimers} {c : ClaimNumbers} {restart : Restart} {h h' : Firing} (claim : IsClaimed s base c reading k v)

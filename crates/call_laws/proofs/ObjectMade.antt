@@ -18,7 +18,7 @@ use Rattle.record_text.specs.declared.record.Answer.{Answer}
 use Rattle.record_text.specs.declared.record.ObjectEntry.{ObjectEntry}
 use Rattle.run_history.specs.Objects.{armed_in_phase}
 use Rattle.script_text.specs.declared.script.Script.{Script}
-use Rattle.lane_notes.specs.Arms.{arm_noted}
+use Rattle.lane_notes.specs.Objects.{arm_noted}
 use Rattle.run_history.specs.Runs.{witness_of, Ending, IsJoined, moves_spans}
 use Rattle.run_history.specs.Truths.{IsTrueStart}
 use Rattle.run_history.specs.Actions.{Began}
@@ -38,8 +38,8 @@ use Rattle.lane_world.proofs.SeenMore.{goes_before}
 use Rattle.lane_world.specs.Worlds.{WorldOf}
 use Rattle.pass_names.proofs.Passes.{begins_length}
 use Rattle.timer_setting.specs.declared.arming.Arm.{Arm}
-use Rattle.timer_objects.specs.declared.object.ObjectReply.{ObjectReply}
-use Rattle.timer_objects.specs.declared.object.ObjectCall.{ObjectCall}
+use Rattle.timer_setting.specs.declared.object_call.ObjectReply.{ObjectReply}
+use Rattle.timer_setting.specs.declared.object_call.ObjectCall.{ObjectCall}
 use Rattle.script_text.specs.declared.script.Call.{Call}
 use Rattle.run_history.specs.Fits.{FitsCall}
 use Rattle.run_history.proofs.Kept.{IsKept, Stops}

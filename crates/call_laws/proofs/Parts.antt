@@ -38,8 +38,8 @@ use Rattle.lane_world.proofs.SeenMore.{stands_on}
 use Rattle.run_history.proofs.Stamped.{HaveReadings}
 use Rattle.pass_names.proofs.Passes.{begins_length, begins_trans}
 use Rattle.record_text.specs.declared.record.ObjectEntry.{ObjectEntry}
-use Rattle.timer_objects.specs.declared.object.ObjectCall.{ObjectCall}
-use Rattle.timer_objects.specs.declared.object.ObjectReply.{ObjectReply}
+use Rattle.timer_setting.specs.declared.object_call.ObjectCall.{ObjectCall}
+use Rattle.timer_setting.specs.declared.object_call.ObjectReply.{ObjectReply}
 use Rattle.lane_world.proofs.PartLists.{each_joined, looked-append, one_rises, rises_on, RisesTo}
 use Rattle.seq_timer.specs.Events.{Event}
 use Rattle.seq_timer.specs.declared.observation.Observation.{Observation}

@@ -2,18 +2,15 @@
 use Rattle.run_history.proofs.Reached.{arms_wider, was_wider}
 use Rattle.lane_world.proofs.SeenMore.{goes_before}
 use Rattle.std.proofs.Common.{◌≡◌, ◌≤◌, ℕ, Some, option_map, List, [], length, refl, sym, ap, subst}
-use Rattle.clock_cell.specs.Views.{writes}
 use Rattle.ktime.specs.Readings.{ClockReading}
-use Rattle.posix_timer.specs.declared.answers.AcceptAnswer.TheVariants as accept_answers
-use Rattle.posix_timer.specs.declared.answers.AcceptAnswer.{AcceptAnswer}
-use Rattle.posix_timer.specs.declared.calls.Reply.TheVariants as posix_replies
+use Rattle.timer_setting.specs.declared.answers.AcceptAnswer.TheVariants as accept_answers
+use Rattle.timer_setting.specs.declared.answers.AcceptAnswer.{AcceptAnswer}
+use Rattle.timer_setting.specs.declared.object_call.ObjectReply.TheVariants as replies
 use Rattle.timer_fd.specs.Steps.{count_length}
-use Rattle.timer_fd.specs.declared.answers.GettimeAnswer.TheVariants as lefts
-use Rattle.timer_fd.specs.declared.answers.ReadAnswer.TheVariants as read_answers
-use Rattle.timer_fd.specs.declared.answers.ReadAnswer.{ReadAnswer}
-use Rattle.timer_fd.specs.declared.calls.Reply.TheVariants as fd_replies
-use Rattle.timer_fd.specs.declared.calls.Call.TheVariants as fd_calls
-use Rattle.posix_timer.specs.declared.calls.Call.TheVariants as posix_calls
+use Rattle.timer_setting.specs.declared.answers.GettimeAnswer.TheVariants as lefts
+use Rattle.timer_setting.specs.declared.answers.ReadAnswer.TheVariants as read_answers
+use Rattle.timer_setting.specs.declared.answers.ReadAnswer.{ReadAnswer}
+use Rattle.timer_setting.specs.declared.object_call.ObjectCall.TheVariants as object_calls
 use Rattle.timer_setting.specs.declared.arming.Arm.TheVariants as arms
 use Rattle.timer_setting.specs.declared.arming.Arm.{Arm}
 use Rattle.timer_objects.specs.Calls.{Accepts, Gettimes, RearmingMade, ReadsFd, rearming_call}
@@ -21,7 +18,6 @@ use Rattle.timer_objects.specs.Known.{decl_at}
 use Rattle.timer_objects.specs.declared.answers.Gettime.TheVariants as gettimes
 use Rattle.timer_objects.specs.declared.answers.Gettime.{Gettime}
 use Rattle.timer_objects.specs.declared.object.Kind.TheVariants as over
-use Rattle.timer_objects.specs.declared.object.ObjectReply.TheVariants as replies
 use Rattle.timer_objects.specs.declared.wanting.Rearming.TheVariants as rearmings
 use Rattle.record_text.specs.Replies.{answer_of_accept, answer_of_read}
 use Rattle.record_text.specs.declared.record.AcceptReply.TheVariants as acceptances
@@ -31,17 +27,12 @@ use Rattle.record_text.specs.declared.record.Answer.{Answer}
 use Rattle.record_text.specs.declared.record.ObjectEntry.TheVariants as object_entries
 use Rattle.record_text.specs.declared.record.ReadReply.TheVariants as reads
 use Rattle.record_text.specs.declared.record.ReadReply.{ReadReply}
-use Rattle.run_history.specs.FdHistories.{fd_arm, read_answer_of}
 use Rattle.run_history.specs.Histories.{reading_at}
 use Rattle.run_history.specs.Calls.{IsFd}
 use Rattle.script_text.specs.Declarations.{base_of, kind_of}
-use Rattle.run_history.specs.PosixHistories.{accept_answer_of, posix_arm}
 use Rattle.script_text.specs.declared.script.Call.TheVariants as calls
 use Rattle.script_text.specs.declared.script.Kind.TheVariants as kinds
 use Rattle.script_text.specs.declared.script.Script.{Script}
-use Rattle.lane_notes.specs.Arms.{arm_noted, arm_told}
-use Rattle.lane_notes.specs.FdNotes.{read_noted}
-use Rattle.lane_notes.specs.PosixNotes.{accept_noted}
 use Rattle.run_history.proofs.ObjectsMade.{accept_made, gettime_made, read_made}
 use Rattle.lane_world.specs.Called.{accept_told, CalledThen, lane_caller, CallsObject, gettime_told, LaneOf, read_told}
 use Rattle.lane_world.proofs.Kept.{IsNextCall, KeepsCall, Follows, seen_by}
@@ -70,8 +61,10 @@ use Rattle.script_text.specs.declared.script.Call.{Call}
 use Rattle.timer_objects.specs.declared.wanting.Rearming.{Rearming}
 use Rattle.run_history.specs.ObjectCalls.{Arms}
 use Rattle.record_text.specs.declared.record.ObjectEntry.{ObjectEntry}
-use Rattle.timer_objects.specs.declared.object.ObjectReply.{ObjectReply}
-use Rattle.lane_notes.specs.Objects.{object_entry_noted, skip_generation}
+use Rattle.timer_setting.specs.declared.object_call.ObjectReply.{ObjectReply}
+use Rattle.lane_notes.specs.Objects.{accept_noted, arm_noted, object_entry_noted, read_noted, skip_generation}
+use Rattle.run_history.specs.ObjectEntries.{accept_shown, arm_shown, read_shown}
+use Rattle.timer_setting.specs.Kinds.{arm_told}
 use Rattle.lane_world.specs.Runs.{ShowsObjectCall}
 use Rattle.std.proofs.Common.{None}
 use Rattle.record_text.specs.declared.record.ClockLine.{ClockLine}
@@ -79,9 +72,10 @@ use Rattle.record_text.specs.declared.record.ClockLine.{ClockLine}
 -- ---- a call that made an entry
 
 -- as a line has the outcome of a start, so its history does
-arm_back : (arm : Arm) → (posix_arm (arm_noted arm) 0 ≡ arm_told arm) × (fd_arm (arm_noted arm) 0 ≡ arm_told arm)
-arm_back arms.NotAsked = (refl, refl)
-arm_back arm = (refl, refl)
+arm_back : (arm : Arm) → arm_shown (arm_noted arm) 0 ≡ arm_told arm
+arm_back arms.NotAsked = refl
+arm_back (arms.Armed generation) = refl
+arm_back (arms.Unarmed stamp) = refl
 
 module _ {s : Script} {x : WorldOf} {l m : LaneOf} {call : Call} (next : IsNextCall s x l call) {timer : ℕ} {a : Answer} {Does : Caller → Caller → ClockReading → Type 0} (c : CallsObject x l m a Does) {r : Rearming} {reply : ObjectReply}
     (made : RearmingMade x.objects x.timers.about (lane_caller l.pass [] []) (lane_caller m.pass c.log c.object_log) timer r c.reading reply)
@@ -142,14 +136,14 @@ pub keeps_accept : {s : Script} {x : WorldOf} {l m : LaneOf} {a : Answer} {timer
     → CalledThen x l (calls.Accept timer) a m → KeepsCall s l (calls.Accept timer) a m
 keeps_accept {s} {x} {l} {m} {a} {timer} next called = subst (λ b. KeepsCall s l (calls.Accept timer) b m) (sym called.1) (by_answer called.0 called.2)
   where
-    accepted : (reply : AcceptReply) → accept_noted (accept_answer_of reply) ≡ Some reply
+    accepted : (reply : AcceptReply) → accept_noted (accept_shown reply) ≡ Some reply
         → CallsObject x l m a (λ old new reading. RearmingMade x.objects x.timers.about old new timer rearmings.Accepting reading
-        (replies.Posix (posix_replies.Accept (accept_answer_of reply)))) → KeepsCall s l (calls.Accept timer) (answer_of_accept reply) m
+        (replies.Accept (accept_shown reply))) → KeepsCall s l (calls.Accept timer) (answer_of_accept reply) m
     accepted reply back c =
         keeps_rearming next c c.does (λ arm. object_entries.Accept c.reading.stamp arm reply)
         (ap (option_map (λ (r : AcceptReply). object_entries.Accept c.reading.stamp (arm_noted c.does.arm) r)) back) refl (λ clock.
-        ap (λ k. Some (record { call = posix_calls.Accept (reading_at clock c.reading.stamp) k; reply = posix_replies.Accept (accept_answer_of reply) }))
-        (arm_back c.does.arm).0) (answer_of_accept reply)
+        ap (λ k. record { call = object_calls.Accept (reading_at clock c.reading.stamp) k; reply = replies.Accept (accept_shown reply) })
+        (arm_back c.does.arm)) (answer_of_accept reply)
         (λ e begin last arm start stamp notes kept low rearmed. accept_made reply kept low rearmed)
 
     by_answer : (g : AcceptAnswer) → CallsObject x l m a (λ old new reading. Accepts x.objects x.timers.about old new timer reading g)
@@ -165,15 +159,15 @@ pub keeps_read : {s : Script} {x : WorldOf} {l m : LaneOf} {a : Answer} {timer l
 keeps_read {s} {x} {l} {m} {a} {timer} {len} next called =
     subst (λ b. KeepsCall s l (calls.Read timer len) b m) (sym called.1) (by_answer called.0 called.2)
   where
-    read : (reply : ReadReply) → read_noted (read_answer_of reply) ≡ Some reply
+    read : (reply : ReadReply) → read_noted (read_shown reply) ≡ Some reply
         → CallsObject x l m a (λ old new reading. (count_length ≤ len)
-        × RearmingMade x.objects x.timers.about old new timer rearmings.Reading reading (replies.Fd (fd_replies.Read (read_answer_of reply))))
+        × RearmingMade x.objects x.timers.about old new timer rearmings.Reading reading (replies.Read (read_shown reply)))
         → KeepsCall s l (calls.Read timer len) (answer_of_read reply) m
     read reply back c =
         keeps_rearming next c c.does.1 (λ arm. object_entries.Read c.reading.stamp arm reply)
         (ap (option_map (λ (r : ReadReply). object_entries.Read c.reading.stamp (arm_noted c.does.1.arm) r)) back) refl (λ clock.
-        ap (λ k. Some (record { call = fd_calls.Read (reading_at clock c.reading.stamp) k; reply = fd_replies.Read (read_answer_of reply) }))
-        (arm_back c.does.1.arm).1) (answer_of_read reply)
+        ap (λ k. record { call = object_calls.Read (reading_at clock c.reading.stamp) k; reply = replies.Read (read_shown reply) })
+        (arm_back c.does.1.arm)) (answer_of_read reply)
         (λ e begin last arm start stamp notes kept low rearmed. read_made len reply kept low rearmed c.does.0)
 
     by_answer : (g : ReadAnswer) → CallsObject x l m a (λ old new reading. ReadsFd x.objects x.timers.about old new timer len reading g)
@@ -199,6 +193,6 @@ keeps_gettime-fd {s = s} {l = l} {m = m} {timer = timer} next kind (gettimes.Spe
 keeps_gettime-fd {s = s} {l = l} {m = m} {timer = timer} {base = base} next kind (gettimes.Left left interval stamp) c =
     subst (λ b. KeepsCall s l (calls.Gettime timer) b m) (sym c.does.1)
     (keeps_rearming next c c.does.0.0 (λ arm. object_entries.Gettime c.reading.stamp arm left interval) refl refl
-    (λ clock. ap (λ k. Some (record { call = fd_calls.Gettime (reading_at clock c.reading.stamp) k; reply = (fd_replies.Gettime (lefts.Left left interval)) }))
-    (arm_back c.does.0.0.arm).1)
+    (λ clock. ap (λ k. record { call = object_calls.Gettime (reading_at clock c.reading.stamp) k; reply = (replies.Gettime (lefts.Left left interval)) })
+    (arm_back c.does.0.0.arm))
     (answers.Left left interval) (λ e begin last arm start stamp notes kept low rearmed. gettime_made base left interval kept low rearmed kind))

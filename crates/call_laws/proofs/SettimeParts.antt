@@ -5,11 +5,12 @@ use Rattle.std.proofs.lemmas.Bool.{eqb-true}
 use Rattle.ktime.specs.declared.timespec.TimeSpec.{TimeSpec}
 use Rattle.timer_setting.specs.Arguments.{AreValid, bits_beyond, is_bad, mode_by}
 use Rattle.timer_setting.specs.declared.arming.Arm.{Arm}
-use Rattle.timer_fd.specs.declared.answers.SettimeAnswer.TheVariants as settings
-use Rattle.timer_fd.specs.declared.answers.SettimeAnswer.{SettimeAnswer}
+use Rattle.timer_setting.specs.declared.answers.SettimeAnswer.TheVariants as settings
+use Rattle.timer_setting.specs.declared.answers.SettimeAnswer.{SettimeAnswer}
 use Rattle.hr_timers.specs.Known.{KnownOfTimers}
 use Rattle.timer_objects.specs.Calls.{flags_of}
 use Rattle.timer_objects.specs.Steps.{IsObjectOf}
+use Rattle.timer_objects.proofs.AsKind.{is_raw}
 use Rattle.timer_objects.specs.declared.object.Kind.TheVariants as over
 use Rattle.timer_objects.specs.declared.object.Object.TheVariants as objects
 use Rattle.timer_objects.specs.declared.object.Object.{Object}
@@ -80,8 +81,9 @@ raw_object {s = s} {x = x} next {t = t} {seen = seen} {state = state} at raw =
     by_object state (state_is x.objects t seen state (subst (λ made. StateAfter object_meaning made t seen state) next.objects at))
   where
     by_object : (y : Object) → IsObjectOf (decl_at x.objects t) x.objects.limit (length seen) y → (y ≡ objects.Raw) × (length seen ≡ 0)
-    by_object objects.Raw is = (refl, is.1)
-    by_object y is = let kind = sym is.0 ∙ declared_over s x t next.world ∙ raw in absurd (cc)
+    by_object y is =
+        let declared = declared_over s x t next.world ∙ raw in
+        (is_raw y (sym is.kind ∙ declared), is.none declared)
 
 -- law: the object's phase after a settime has its timer's start
 pub like_start : (o : Opening) (k : KnownOfTimers) (t : ℕ) (arm : Arm) (phase : Phase) → BearsStart o k t arm phase

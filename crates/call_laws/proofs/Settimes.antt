@@ -10,11 +10,12 @@ use Rattle.ktime.specs.Readings.{ClockReading}
 use Rattle.ktime.specs.declared.timespec.TimeSpec.{TimeSpec}
 use Rattle.seq_timer.specs.Histories.{IsIdle}
 use Rattle.timer_setting.specs.Arguments.{AreValid, bits_beyond, mode_by, time_of}
-use Rattle.timer_fd.specs.declared.answers.SettimeAnswer.TheVariants as settings
-use Rattle.timer_fd.specs.declared.answers.SettimeAnswer.{SettimeAnswer}
+use Rattle.timer_setting.specs.declared.answers.SettimeAnswer.TheVariants as settings
+use Rattle.timer_setting.specs.declared.answers.SettimeAnswer.{SettimeAnswer}
 use Rattle.base_row.specs.declared.log.Receipt.{Receipt}
 use Rattle.hr_timers.specs.Known.{KnownOfTimers, timer_then}
-use Rattle.timer_objects.specs.Calls.{argument_refusal, flags_of, SetsTimer, settime_by, SettimeMade, Settimes, SettimeTells}
+use Rattle.timer_setting.specs.declared.object_call.ObjectReply.TheVariants as replies
+use Rattle.timer_objects.specs.Calls.{argument_refusal, flags_of, SetsTimer, settime_by, SettimeMade, Settimes}
 use Rattle.timer_objects.specs.Known.{decl_at}
 use Rattle.timer_objects.specs.declared.log.ObjectReceipt.{ObjectReceipt}
 use Rattle.record_text.specs.Replies.{answer_of_settime}
@@ -24,7 +25,7 @@ use Rattle.run_history.specs.ObjectCalls.{Arms, cancels, nanoseconds_of, start_m
 use Rattle.script_text.specs.Declarations.{kind_of}
 use Rattle.script_text.specs.declared.script.Call.TheVariants as calls
 use Rattle.script_text.specs.declared.script.Script.{Script}
-use Rattle.lane_notes.specs.Arms.{arm_noted}
+use Rattle.lane_notes.specs.Objects.{arm_noted}
 use Rattle.run_history.specs.Runs.{witness_of, Ending, IsJoined}
 use Rattle.run_history.specs.Truths.{WasOffLine}
 use Rattle.run_history.proofs.ObjectsMade.{FoundIdle, IsSet, settime_made}
@@ -42,7 +43,7 @@ use Rattle.call_laws.proofs.Armed.{disarmed_part, settime_start, TimerPart, Time
 use Rattle.call_laws.proofs.ObjectMade.{keeps_made, outcome_is, receipts, start_is, stop_begun, stop_first, stop_last, timer_found, turn_found, turn_place}
 use Rattle.call_laws.proofs.SettimeNoted.{settime_noted, SettimeNoted}
 use Rattle.call_laws.proofs.SettimeParts.{checked, IsRefusal, like_start, raw_object, takes_valid, valid_for}
-use Rattle.timer_objects.specs.declared.object.ObjectCall.{ObjectCall}
+use Rattle.timer_setting.specs.declared.object_call.ObjectCall.{ObjectCall}
 use Rattle.hr_timers.specs.Known.{MadeAt}
 
 -- ---- a settime that made an entry, by what its lane knows of it
@@ -57,7 +58,7 @@ module _ {s : Script} {x : WorldOf} {l : LaneOf} (m : LaneOf) {timer flags : ℕ
   w = set.worked
 
   abbrev call : ObjectCall
-  call = settime_by x.objects timer flags (time_of value) (time_of interval) reading set.arm
+  call = settime_by flags (time_of value) (time_of interval) reading set.arm
 
   -- the moment at which the timer was found
   abbrev begin : KnownOfTimers
@@ -82,12 +83,9 @@ module _ {s : Script} {x : WorldOf} {l : LaneOf} (m : LaneOf) {timer flags : ℕ
   after : Begins set.begun.seen begin.seen
   after = set.disarms.cancelled.made.from
 
-  noted : SettimeNoted flags (time_of value) (time_of interval) reading a (decl_at x.objects timer).kind set.arm set.reply
-  noted =
-      let d = decl_at x.objects timer in
-      subst (SettimeNoted flags (time_of value) (time_of interval) reading a d.kind set.arm) (sym set.enters.reply)
-      (settime_noted flags (time_of value) (time_of interval) reading a d.kind set.enters.commits.state set.arm set.enters.may
-      (subst (λ r. SettimeTells r a) set.enters.reply set.answer))
+  noted : SettimeNoted flags (time_of value) (time_of interval) reading a set.arm (replies.Settime a)
+  noted = subst (SettimeNoted flags (time_of value) (time_of interval) reading a set.arm) (sym set.enters.reply)
+      (settime_noted flags (time_of value) (time_of interval) reading a set.enters.commits.state set.arm set.enters.may set.enters.reply)
 
   module _ {e : Ending} (follows : Follows m.pass e) (joined : IsJoined s e) where
     is_set : IsSet (witness_of s e) l.label (receipts m next set.enters set.turn part after) reading.stamp (turn_place m next set.enters set.turn part after)

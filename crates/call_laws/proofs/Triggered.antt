@@ -1,38 +1,33 @@
 -- What the claim of an object's timer does: a trigger of the object, which made an entry of it or was refused.
 use Rattle.call_laws.proofs.Noted.{notes_of, same_notes}
 use Rattle.call_laws.proofs.Parts.{IsPart}
-use Rattle.std.proofs.Common.{◌≡◌, ◌≤◌, ℕ, ◌+◌, Bool, true, false, if◌then◌else◌, None, Some, [], ◌∷◌, length, arith, refl, sym, ap, ◌∙◌, inl, inr}
+use Rattle.std.proofs.Common.{◌≡◌, ◌≤◌, ℕ, ◌+◌, Bool, true, false, if◌then◌else◌, [], ◌∷◌, length, arith, refl, sym, ap, ◌∙◌, subst, inl, inr}
 use Rattle.std.proofs.Math.Logic.{⊎_elim}
 use Rattle.std.proofs.lemmas.List.{append-nil}
 use Rattle.ktime.specs.Readings.{ClockReading}
 use Rattle.timer_setting.specs.Phases.{is_expiry_of}
 use Rattle.timer_setting.specs.declared.trigger_answer.TriggerAnswer.TheVariants as triggers
-use Rattle.posix_timer.specs.declared.calls.Call.TheVariants as posix_calls
-use Rattle.posix_timer.specs.declared.calls.Reply.TheVariants as posix_replies
-use Rattle.timer_fd.specs.declared.calls.Call.TheVariants as fd_calls
-use Rattle.timer_fd.specs.declared.calls.Reply.TheVariants as fd_replies
+use Rattle.timer_setting.specs.declared.object_call.ObjectCall.TheVariants as object_calls
+use Rattle.timer_setting.specs.declared.object_call.ObjectReply.TheVariants as replies
 use Rattle.hr_timers.specs.Known.{KnownOfTimers}
 use Rattle.hr_timers.specs.declared.numbers.ClaimNumbers.{ClaimNumbers}
 use Rattle.expire_pass.specs.Handlers.{asks}
 use Rattle.expire_pass.specs.declared.handler.Restart.TheVariants as wishes
 use Rattle.expire_pass.specs.declared.handler.Restart.{Restart}
 use Rattle.timer_objects.specs.Known.{ObjectsOf, ObjectsPass, seen_of}
-use Rattle.timer_objects.specs.Steps.{object_answer, ObjectAllows}
+use Rattle.timer_objects.specs.Steps.{object_answer, ObjectAllows, object_timer}
+use Rattle.timer_objects.proofs.AsKind.{objects_are_a_kind}
 use Rattle.timer_objects.specs.Triggers.{EntersTrigger, trigger_refused, SkipsTrigger, Triggers}
 use Rattle.timer_objects.specs.declared.log.ObjectReceipt.{ObjectReceipt}
-use Rattle.timer_objects.specs.declared.object.Object.TheVariants as objects
 use Rattle.timer_objects.specs.declared.object.Object.{Object}
-use Rattle.timer_objects.specs.declared.object.ObjectCall.TheVariants as of_kind
-use Rattle.timer_objects.specs.declared.object.ObjectCall.{ObjectCall}
-use Rattle.timer_objects.specs.declared.object.ObjectReply.TheVariants as replies
-use Rattle.timer_objects.specs.declared.object.ObjectReply.{ObjectReply}
+use Rattle.timer_setting.specs.declared.object_call.ObjectCall.{ObjectCall}
+use Rattle.timer_setting.specs.declared.object_call.ObjectReply.{ObjectReply}
 use Rattle.record_text.specs.declared.record.Label.{Label}
 use Rattle.record_text.specs.declared.record.ObjectEntry.TheVariants as object_entries
 use Rattle.run_history.specs.Actions.{Began, Made, Skipped}
 use Rattle.run_history.specs.Histories.{reading_at}
 use Rattle.script_text.specs.Declarations.{kind_of}
 use Rattle.script_text.specs.declared.script.Script.{Script}
-use Rattle.lane_notes.specs.Objects.{object_entry_noted, skip_generation}
 use Rattle.run_history.specs.Deeds.{IsBody, IsTrigger}
 use Rattle.run_history.specs.Witnesses.{Fired}
 use Rattle.run_history.specs.Witnesses.{TimersList}
@@ -51,40 +46,27 @@ abbrev pub TriggerNoted : ObjectCall → ObjectReply → ℕ → ClockReading �
 TriggerNoted call reply generation reading =
     (counted : Bool) × IsNotedAs (λ clock. reading_at clock reading.stamp ≡ reading) call reply (object_entries.Trigger generation reading.stamp counted)
 
--- law: a trigger of a POSIX timer that made an entry is noted
-pub posix_noted : (x : Object) (generation : ℕ) (reading : ClockReading) → ObjectAllows x (of_kind.Posix (posix_calls.Trigger generation reading))
-    → TriggerNoted (of_kind.Posix (posix_calls.Trigger generation reading)) (object_answer x (of_kind.Posix (posix_calls.Trigger generation reading)))
-    generation reading
-posix_noted (objects.Posix t) generation reading allows =
-    let call : ClockReading → ObjectCall = λ r. of_kind.Posix (posix_calls.Trigger generation r) in
-    elim (is_expiry_of t.phase generation reading) as (λ b. TriggerNoted (call reading)
-    (replies.Posix (posix_replies.Trigger (if b then triggers.Counted else triggers.Stale))) generation reading) [
+-- law: a trigger of an object that made an entry is noted
+object_triggered : (x : Object) (generation : ℕ) (reading : ClockReading) → ObjectAllows x (object_calls.Trigger generation reading)
+    → TriggerNoted (object_calls.Trigger generation reading) (object_answer x (object_calls.Trigger generation reading)) generation reading
+object_triggered x generation reading allows =
+    let call : ClockReading → ObjectCall = λ r. object_calls.Trigger generation r in
+    subst (λ r. TriggerNoted (call reading) r generation reading) (sym (objects_are_a_kind.triggered x generation reading allows))
+    (elim (is_expiry_of (object_timer x).phase generation reading) as (λ b. TriggerNoted (call reading)
+    (replies.Trigger (if b then triggers.Counted else triggers.Stale)) generation reading) [
       | true ↦ (true, noted_at reading call _ _ refl refl (λ clock. refl))
       | false ↦ (false, noted_at reading call _ _ refl refl (λ clock. refl))
-    ]
-posix_noted x generation reading allows = absurd allows
-
--- law: a trigger of a descriptor that made an entry is noted
-pub fd_noted : (x : Object) (generation : ℕ) (reading : ClockReading) → ObjectAllows x (of_kind.Fd (fd_calls.Trigger generation reading))
-    → TriggerNoted (of_kind.Fd (fd_calls.Trigger generation reading)) (object_answer x (of_kind.Fd (fd_calls.Trigger generation reading))) generation reading
-fd_noted (objects.Fd t) generation reading allows =
-    let call : ClockReading → ObjectCall = λ r. of_kind.Fd (fd_calls.Trigger generation r) in
-    elim (is_expiry_of t.phase generation reading) as (λ b. TriggerNoted (call reading)
-    (replies.Fd (fd_replies.Trigger (if b then triggers.Counted else triggers.Stale))) generation reading) [
-      | true ↦ (true, noted_at reading call _ _ refl refl (λ clock. refl))
-      | false ↦ (false, noted_at reading call _ _ refl refl (λ clock. refl))
-    ]
-fd_noted x generation reading allows = absurd allows
+    ])
 
 -- ---- the trigger
 
 module _ (s : Script) (x : ObjectsOf) (limit : x.limit ≡ s.limit) (some : 1 ≤ s.limit) (label : Label) (c : ClaimNumbers)
     (reading : ClockReading) {base : ℕ} {k v : KnownOfTimers} (claim : IsClaimed s base c reading k v) (restart : Restart) (w : KnownOfTimers)
     (h h' : Firing) (same_log : h'.log.receipts ≡ h.log.receipts) (stops : restart ≡ wishes.Stop)
-    (is_body : (Reached : ℕ → ℕ → Type 0) (f : Fired) → IsTrigger reading.stamp f → IsBody Reached s.limit (kind_of s c.timer) reading.stamp f) (call : ObjectCall)
-    (noted : (y : Object) → ObjectAllows y call → TriggerNoted call (object_answer y call) c.generation reading)
-    (no_entry : (n : ℕ) → object_entry_noted call (trigger_refused call n) ≡ None)
-    (skip : (n : ℕ) → skip_generation call (trigger_refused call n) ≡ Some c.generation) where
+    (is_body : (Reached : ℕ → ℕ → Type 0) (f : Fired) → IsTrigger reading.stamp f → IsBody Reached s.limit (kind_of s c.timer) reading.stamp f) where
+  abbrev call : ObjectCall
+  call = object_calls.Trigger c.generation reading
+
   abbrev p : ObjectsPass
   p = h.objects_pass.now
 
@@ -97,7 +79,7 @@ module _ (s : Script) (x : ObjectsOf) (limit : x.limit ≡ s.limit) (some : 1 �
   entered_trigger t =
       let adds = t.commits.adds in
       let state = t.commits.state in
-      let n = noted state t.may in
+      let n = object_triggered state c.generation reading t.may in
       let many = length adds.before in
       let step : ObjectMove = record { call = call; reply = object_answer state call } in
       let body = Began c.timer many ∷ Made c.timer (many + 1) (object_entries.Trigger c.generation reading.stamp n.0) ∷ [] in
@@ -124,13 +106,13 @@ module _ (s : Script) (x : ObjectsOf) (limit : x.limit ≡ s.limit) (some : 1 �
       → BodyKept s label claim restart w h h'
   refused_trigger t =
       let many = length (seen_of q c.timer) in
-      let r : ObjectReceipt = record { object = c.timer; number = many; call = call; reply = trigger_refused call many } in
+      let r : ObjectReceipt = record { object = c.timer; number = many; call = call; reply = trigger_refused many } in
       let body = Skipped c.timer many c.generation ∷ [] in
       let grows = objects_grow p q t.reads.pass.seen in
       let part : IsPart s (ClockHas reading) label v p w q body [] (notes_of label [] (r ∷ [])) = record {
         enters = enters_none t.looks.seen t.looks.mine;
         are = refl;
-        told = same_notes (rw (no_entry many, skip many) refl);
+        told = same_notes refl;
         goes_on = t.reads.pass.seen;
         opening = t.reads.opening;
         mine = t.reads.pass.mine ∙ sym (append-nil p.knows.pass.mine);

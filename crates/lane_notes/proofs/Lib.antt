@@ -5,7 +5,4 @@ pub mod Standing
 pub mod Rising
 pub mod UnderLines
 pub mod Lists
-pub mod ArmsAgain
-pub mod PosixAgain
-pub mod FdAgain
 pub mod WholeRecord

@@ -6,13 +6,11 @@ pub use notes::{BaseNote, EntryNote, LookNote, Notes, ObjectNote, SkipNote, Writ
 pub use objects::note_object_receipts;
 pub use record::record_of;
 
-mod arm;
 mod entries;
-mod fd;
 mod filing;
 mod lines;
 mod notes;
+mod object_entries;
 mod objects;
 mod placed;
-mod posix;
 mod record;

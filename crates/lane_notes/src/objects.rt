@@ -1,15 +1,13 @@
 //! The notes of a lane's receipts of objects: an entry's receipt becomes an object's note, that of an expiry which a full history refused
 //! becomes a skip's note.
 ghost use Rattle.std.specs.Prelude.{◌≡◌, ◌∷◌, [], OnOk};
-ghost use Rattle.lane_notes.specs.Objects.{object_entry_noted, skip_generation, with_object_receipts};
+ghost use Rattle.lane_notes.specs.Objects.{with_object_receipts};
 
-use crate::arm::NoteOrSkip;
-use crate::fd::fd_noted;
 use crate::notes::{Notes, ObjectNote, SkipNote};
-use crate::posix::posix_noted;
+use crate::object_entries::told;
 use record_text::Label;
 use std::alloc::AllocError;
-use timer_objects::{ObjectCall, ObjectReceipt, ObjectReply};
+use timer_objects::ObjectReceipt;
 
 /// Adds the notes of a call's receipts.
 pub fn note_object_receipts(
@@ -53,15 +51,4 @@ fn note_object_receipt(
         })?;
     }
     Ok(())
-}
-
-/// What is noted of a call and its reply, where they belong together.
-fn told(call: ObjectCall, reply: ObjectReply) -> NoteOrSkip
-    ensures { result ≡ (object_entry_noted call reply, skip_generation call reply) }
-{
-    match (call, reply) {
-        (ObjectCall::Posix(call), ObjectReply::Posix(reply)) => posix_noted(call, reply),
-        (ObjectCall::Fd(call), ObjectReply::Fd(reply)) => fd_noted(call, reply),
-        _ => (None, None),
-    }
 }

@@ -3,9 +3,9 @@ ghost use Rattle.std.specs.Prelude.{◌≡◌, ◌≢◌, ◌≤◌, ◌<◌, []
 ghost use Rattle.timer_objects.specs.declared.object.Kind.TheVariants as over;
 ghost use Rattle.timer_objects.specs.Calls.{Accepts, Gettimes, LooksReadable, ReadsFd, Settimes};
 ghost use Rattle.timer_objects.specs.Known.{decl_at};
-ghost use Rattle.posix_timer.specs.declared.answers.AcceptAnswer.{AcceptAnswer};
-ghost use Rattle.timer_fd.specs.declared.answers.ReadAnswer.{ReadAnswer};
-ghost use Rattle.timer_fd.specs.declared.answers.SettimeAnswer.{SettimeAnswer};
+ghost use Rattle.timer_setting.specs.declared.answers.AcceptAnswer.{AcceptAnswer};
+ghost use Rattle.timer_setting.specs.declared.answers.ReadAnswer.{ReadAnswer};
+ghost use Rattle.timer_setting.specs.declared.answers.SettimeAnswer.{SettimeAnswer};
 ghost use Rattle.timer_objects.specs.declared.answers.Gettime.{Gettime};
 ghost use Rattle.timer_objects.specs.declared.answers.Readable.{Readable};
 ghost use Rattle.record_text.specs.declared.record.Answer.TheVariants as answers;
@@ -17,12 +17,11 @@ use expire_pass::Log;
 use ktime::{Reading, TimeSpec};
 use lane_notes::{note_object_receipts, note_receipts};
 use lane_world::Lane;
-use posix_timer::AcceptAnswer;
 use record_text::Answer;
 use std::alloc::{AllocError, Global};
 use std::sync::Wait;
-use timer_fd::{ReadAnswer, SettimeAnswer};
 use timer_objects::{Gettime, Kind, ObjectLog};
+use timer_setting::{AcceptAnswer, ReadAnswer, SettimeAnswer};
 
 /// The logs of one call, with room for what it can note.
 #[derive(Drop)]

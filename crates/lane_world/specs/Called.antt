@@ -35,12 +35,12 @@ use Rattle.record_text.specs.declared.record.Answer.TheVariants as answers
 use Rattle.record_text.specs.declared.record.Label.{Label}
 use Rattle.seq_timer.specs.declared.observation.Peek.{Peek}
 use Rattle.clock_model.specs.declared.write.ClockFault.{ClockFault}
-use Rattle.posix_timer.specs.declared.answers.AcceptAnswer.{AcceptAnswer}
-use Rattle.posix_timer.specs.declared.answers.AcceptAnswer.TheVariants as acceptances
-use Rattle.timer_fd.specs.declared.answers.ReadAnswer.{ReadAnswer}
-use Rattle.timer_fd.specs.declared.answers.ReadAnswer.TheVariants as reads
-use Rattle.timer_fd.specs.declared.answers.SettimeAnswer.{SettimeAnswer}
-use Rattle.timer_fd.specs.declared.answers.SettimeAnswer.TheVariants as settings
+use Rattle.timer_setting.specs.declared.answers.AcceptAnswer.{AcceptAnswer}
+use Rattle.timer_setting.specs.declared.answers.AcceptAnswer.TheVariants as acceptances
+use Rattle.timer_setting.specs.declared.answers.ReadAnswer.{ReadAnswer}
+use Rattle.timer_setting.specs.declared.answers.ReadAnswer.TheVariants as reads
+use Rattle.timer_setting.specs.declared.answers.SettimeAnswer.{SettimeAnswer}
+use Rattle.timer_setting.specs.declared.answers.SettimeAnswer.TheVariants as settings
 use Rattle.timer_objects.specs.declared.answers.Gettime.{Gettime}
 use Rattle.timer_objects.specs.declared.answers.Gettime.TheVariants as gettimes
 use Rattle.timer_objects.specs.declared.answers.Overrun.{Overrun}

@@ -1,5 +1,5 @@
 -- A whole run: the rounds of a script from its first passes on, and the record of what all lanes have left, which shows all that the last passes have seen.
-use Rattle.std.specs.Prelude.{ℕ, ◌≡◌, ◌+◌, ◌≤◌, ◌<◌, length, map, Some, List, [], ◌∷◌}
+use Rattle.std.specs.Prelude.{ℕ, ◌≡◌, ◌+◌, ◌≤◌, ◌<◌, length, map, List, [], ◌∷◌}
 use Rattle.clock_cell.specs.Views.{writes}
 use Rattle.ordered_clock.specs.Moments.{told}
 use Rattle.pass_names.specs.Passes.{Looks}
@@ -18,17 +18,13 @@ use Rattle.lane_world.specs.Rounds.{IsMain, LeftOf, MakesRounds, none_left}
 use Rattle.lane_world.specs.Worlds.{WorldOf}
 use Rattle.lane_world.specs.declared.WorldPass.{WorldPass}
 use Rattle.counted_row.specs.declared.view.Entry.{Entry}
-use Rattle.lane_notes.specs.FdNotes.{fd_as_told}
-use Rattle.lane_notes.specs.PosixNotes.{posix_as_told}
 use Rattle.record_text.specs.declared.record.ClockLine.{ClockLine}
 use Rattle.record_text.specs.declared.record.ObjectEntry.{ObjectEntry}
 use Rattle.record_text.specs.declared.record.ObjectLine.{ObjectLine}
-use Rattle.run_history.specs.FdHistories.{fd_entry}
-use Rattle.run_history.specs.PosixHistories.{posix_entry}
-use Rattle.timer_objects.specs.declared.object.ObjectCall.TheVariants as of_kind
-use Rattle.timer_objects.specs.declared.object.ObjectCall.{ObjectCall}
-use Rattle.timer_objects.specs.declared.object.ObjectReply.TheVariants as replies
-use Rattle.timer_objects.specs.declared.object.ObjectReply.{ObjectReply}
+use Rattle.run_history.specs.ObjectEntries.{object_entry_shown}
+use Rattle.timer_setting.specs.declared.object_call.ObjectCall.{ObjectCall}
+use Rattle.timer_setting.specs.Kinds.{as_told}
+use Rattle.timer_setting.specs.declared.object_call.ObjectReply.{ObjectReply}
 
 -- the record shows the notes and answers that were left, the notes in order
 pub record ShowsLeft (s : Script) (left : LeftOf) (r : RunRecord) : Type 0 where
@@ -71,9 +67,7 @@ ObjectMove = Entry ObjectCall ObjectReply
 
 -- an entry of an object as the record's line has it, by the readings that the line's stamps name; of a start that was refused the line may have no stamp
 abbrev pub ShowsObjectCall : List ClockLine → ObjectCall → ObjectReply → ObjectEntry → Type 0
-ShowsObjectCall clock (of_kind.Posix call) (replies.Posix reply) e = posix_entry clock e ≡ Some (record { call = posix_as_told call; reply = reply })
-ShowsObjectCall clock (of_kind.Fd call) (replies.Fd reply) e = fd_entry clock e ≡ Some (record { call = fd_as_told call; reply = reply })
-ShowsObjectCall clock call reply e = ⊥
+ShowsObjectCall clock call reply e = object_entry_shown clock e ≡ record { call = as_told call; reply = reply }
 
 -- an object's lines show these entries
 abbrev pub AreObjectLines : List ClockLine → List ObjectMove → List ObjectLine → Type 0

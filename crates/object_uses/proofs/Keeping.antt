@@ -14,13 +14,13 @@ use Rattle.base_row.specs.declared.log.Receipt.{Receipt}
 use Rattle.expire_pass.proofs.Turning.{keeps_trans}
 use Rattle.timer_setting.specs.declared.arming.Arm.{Arm}
 use Rattle.timer_setting.specs.declared.arming.Wanted.{Wanted}
-use Rattle.timer_fd.specs.declared.answers.SettimeAnswer.{SettimeAnswer}
-use Rattle.timer_fd.specs.declared.answers.SettimeAnswer.TheVariants as settings
-use Rattle.posix_timer.specs.declared.answers.AcceptAnswer.{AcceptAnswer}
-use Rattle.posix_timer.specs.declared.answers.AcceptAnswer.TheVariants as acceptances
-use Rattle.timer_fd.specs.declared.answers.ReadAnswer.{ReadAnswer}
-use Rattle.timer_fd.specs.declared.answers.ReadAnswer.TheVariants as reads
-use Rattle.timer_objects.specs.declared.object.ObjectReply.{ObjectReply}
+use Rattle.timer_setting.specs.declared.answers.SettimeAnswer.{SettimeAnswer}
+use Rattle.timer_setting.specs.declared.answers.SettimeAnswer.TheVariants as settings
+use Rattle.timer_setting.specs.declared.answers.AcceptAnswer.{AcceptAnswer}
+use Rattle.timer_setting.specs.declared.answers.AcceptAnswer.TheVariants as acceptances
+use Rattle.timer_setting.specs.declared.answers.ReadAnswer.{ReadAnswer}
+use Rattle.timer_setting.specs.declared.answers.ReadAnswer.TheVariants as reads
+use Rattle.timer_setting.specs.declared.object_call.ObjectReply.{ObjectReply}
 use Rattle.timer_objects.specs.declared.wanting.Rearming.{Rearming}
 use Rattle.timer_objects.specs.Arming.{ArmsFor}
 use Rattle.timer_objects.specs.BlockingReads.{ReadsBlocking}

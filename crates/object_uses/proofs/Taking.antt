@@ -5,16 +5,16 @@ use Rattle.std.proofs.lemmas.Option.{none-some}
 use Rattle.ktime.specs.Readings.{ClockReading}
 use Rattle.timer_setting.specs.declared.arming.Arm.{Arm}
 use Rattle.timer_setting.specs.Phases.{periods_in}
-use Rattle.posix_timer.specs.declared.answers.AcceptAnswer.{AcceptAnswer}
-use Rattle.posix_timer.specs.declared.answers.AcceptAnswer.TheVariants as acceptances
-use Rattle.posix_timer.specs.declared.calls.Call.TheVariants as posix_calls
-use Rattle.posix_timer.specs.declared.calls.Reply.TheVariants as posix_replies
+use Rattle.timer_setting.specs.declared.answers.AcceptAnswer.{AcceptAnswer}
+use Rattle.timer_setting.specs.declared.answers.AcceptAnswer.TheVariants as acceptances
+use Rattle.timer_setting.specs.declared.answers.ReadAnswer.{ReadAnswer}
+use Rattle.timer_setting.specs.declared.answers.ReadAnswer.TheVariants as reads
+use Rattle.timer_setting.specs.declared.object_call.ObjectCall.{ObjectCall}
+use Rattle.timer_setting.specs.declared.object_call.ObjectCall.TheVariants as calls
+use Rattle.timer_setting.specs.declared.object_call.ObjectReply.{ObjectReply}
+use Rattle.timer_setting.specs.declared.object_call.ObjectReply.TheVariants as replies
 use Rattle.posix_timer.specs.States.{PosixTimer}
 use Rattle.posix_timer.specs.Steps.{overrun_of}
-use Rattle.timer_fd.specs.declared.answers.ReadAnswer.{ReadAnswer}
-use Rattle.timer_fd.specs.declared.answers.ReadAnswer.TheVariants as reads
-use Rattle.timer_fd.specs.declared.calls.Call.TheVariants as fd_calls
-use Rattle.timer_fd.specs.declared.calls.Reply.TheVariants as fd_replies
 use Rattle.timer_fd.specs.States.{Descriptor, is_canceled}
 use Rattle.timer_fd.specs.Steps.{total_in}
 use Rattle.base_row.specs.declared.view.Opening.{Opening}
@@ -24,10 +24,6 @@ use Rattle.timer_objects.specs.declared.answers.BlockingRead.{BlockingRead}
 use Rattle.timer_objects.specs.declared.answers.BlockingRead.TheVariants as blocking
 use Rattle.timer_objects.specs.declared.object.Object.{Object}
 use Rattle.timer_objects.specs.declared.object.Object.TheVariants as objects
-use Rattle.timer_objects.specs.declared.object.ObjectCall.TheVariants as calls
-use Rattle.timer_objects.specs.declared.object.ObjectReply.{ObjectReply}
-use Rattle.timer_objects.specs.declared.object.ObjectReply.TheVariants as replies
-use Rattle.timer_objects.specs.declared.object.ObjectCall.{ObjectCall}
 use Rattle.timer_objects.specs.declared.wanting.Rearming.{Rearming}
 use Rattle.timer_objects.specs.declared.wanting.Rearming.TheVariants as rearmings
 use Rattle.timer_objects.specs.Calls.{Accepts, Caller, RearmingMade, ReadsFd}
@@ -38,34 +34,34 @@ use Rattle.object_uses.specs.Callers.{AcceptFits, EndsWith, HasCounted, HasSigna
 
 -- the number that a reply has
 abbrev number_in : ObjectReply → Option ℕ
-number_in (replies.Posix (posix_replies.Accept (acceptances.Accepted overrun))) = Some overrun
-number_in (replies.Fd (fd_replies.Read (reads.Count total))) = Some total
+number_in (replies.Accept (acceptances.Accepted overrun)) = Some overrun
+number_in (replies.Read (reads.Count total)) = Some total
 number_in reply = None
 
 module _ (reading : ClockReading) (arm : Arm) (n : ℕ) where
   signal_by : (t : PosixTimer) (b : Bool) → t.pending ≡ b
-      → Some n ≡ number_in (replies.Posix (posix_replies.Accept (if b then acceptances.Accepted (overrun_of (periods_in t.phase t.interval reading)) else acceptances.NoSignal)))
+      → Some n ≡ number_in (replies.Accept (if b then acceptances.Accepted (overrun_of (periods_in t.phase t.interval reading)) else acceptances.NoSignal))
       → (t.pending ≡ true) × (n ≡ overrun_of (periods_in t.phase t.interval reading))
   signal_by t true is e = (is, ap (λ m. unwrap_or m 0) e)
   signal_by t false is e = absurd (none-some n (sym e))
 
-  signal_of : (object : Object) → Some n ≡ number_in (object_answer object (calls.Posix (posix_calls.Accept reading arm)))
+  signal_of : (object : Object) → Some n ≡ number_in (object_answer object (calls.Accept reading arm))
       → HasSignal object reading n
   signal_of objects.Raw e = absurd (none-some n (sym e))
   signal_of (objects.Posix t) e = let by = signal_by t t.pending refl e in record { timer = t; is = refl; pending = by.0; overrun = by.1 }
   signal_of (objects.Fd t) e = absurd (none-some n (sym e))
 
   count_by : (t : Descriptor) (off none nil : Bool) (a b c : Descriptor) → c.count ≡ 0
-      → Some n ≡ number_in (replies.Fd (fd_replies.Read (if off then reads.Canceled else (if none then reads.Again else (if nil then reads.Again
-      else reads.Count (total_in t reading))))))
+      → Some n ≡ number_in (replies.Read (if off then reads.Canceled else (if none then reads.Again else (if nil then reads.Again
+      else reads.Count (total_in t reading)))))
       → (n ≡ total_in t reading) × ((if off then a else (if none then b else c)).count ≡ 0)
   count_by t true none nil a b c z e = absurd (none-some n (sym e))
   count_by t false true nil a b c z e = absurd (none-some n (sym e))
   count_by t false false true a b c z e = absurd (none-some n (sym e))
   count_by t false false false a b c z e = (ap (λ m. unwrap_or m 0) e, z)
 
-  count_of : (object : Object) → Some n ≡ number_in (object_answer object (calls.Fd (fd_calls.Read reading arm)))
-      → HasCounted object (calls.Fd (fd_calls.Read reading arm)) reading n
+  count_of : (object : Object) → Some n ≡ number_in (object_answer object (calls.Read reading arm))
+      → HasCounted object (calls.Read reading arm) reading n
   count_of objects.Raw e = absurd (none-some n (sym e))
   count_of (objects.Posix t) e = absurd (none-some n (sym e))
   count_of (objects.Fd t) e =
@@ -90,11 +86,11 @@ ends_with p q id call commits = record {
 }
 
 module _ (x : ObjectsOf) (o : Opening) (old new : Caller) (id : ℕ) (reading : ClockReading) (n : ℕ) where
-  takes_signal : RearmingMade x o old new id rearmings.Accepting reading (replies.Posix (posix_replies.Accept (acceptances.Accepted n)))
+  takes_signal : RearmingMade x o old new id rearmings.Accepting reading (replies.Accept (acceptances.Accepted n))
       → TakesSignal old.objects new.objects id reading n
   takes_signal made = record { ends = ends_with _ _ _ _ made.enters.commits; had = signal_of reading made.arm n _ (ap number_in made.enters.reply) }
 
-  takes_count : RearmingMade x o old new id rearmings.Reading reading (replies.Fd (fd_replies.Read (reads.Count n)))
+  takes_count : RearmingMade x o old new id rearmings.Reading reading (replies.Read (reads.Count n))
       → TakesCount old.objects new.objects id reading n
   takes_count made = record { ends = ends_with _ _ _ _ made.enters.commits; had = count_of reading made.arm n _ (ap number_in made.enters.reply) }
 

@@ -11,13 +11,15 @@ use Rattle.base_row.specs.declared.log.Receipt.{Receipt}
 use Rattle.base_row.specs.Logs.{LogOf}
 use Rattle.timer_setting.specs.declared.arming.Arm.{Arm}
 use Rattle.timer_setting.specs.Phases.{periods_in}
+use Rattle.timer_setting.specs.declared.answers.AcceptAnswer.{AcceptAnswer}
+use Rattle.timer_setting.specs.declared.answers.AcceptAnswer.TheVariants as acceptances
+use Rattle.timer_setting.specs.declared.answers.ReadAnswer.{ReadAnswer}
+use Rattle.timer_setting.specs.declared.answers.ReadAnswer.TheVariants as reads
+use Rattle.timer_setting.specs.declared.object_call.ObjectCall.{ObjectCall}
+use Rattle.timer_setting.specs.declared.object_call.ObjectCall.TheVariants as calls
+use Rattle.timer_setting.specs.declared.object_call.ObjectReply.{ObjectReply}
 use Rattle.posix_timer.specs.States.{PosixTimer}
 use Rattle.posix_timer.specs.Steps.{overrun_of}
-use Rattle.posix_timer.specs.declared.answers.AcceptAnswer.{AcceptAnswer}
-use Rattle.posix_timer.specs.declared.answers.AcceptAnswer.TheVariants as acceptances
-use Rattle.timer_fd.specs.declared.answers.ReadAnswer.{ReadAnswer}
-use Rattle.timer_fd.specs.declared.answers.ReadAnswer.TheVariants as reads
-use Rattle.timer_fd.specs.declared.calls.Call.TheVariants as fd_calls
 use Rattle.timer_fd.specs.States.{Descriptor}
 use Rattle.timer_fd.specs.Steps.{fd_read, total_in}
 use Rattle.counted_row.specs.declared.view.Entry.{Entry}
@@ -26,9 +28,6 @@ use Rattle.timer_objects.specs.declared.answers.BlockingRead.{BlockingRead}
 use Rattle.timer_objects.specs.declared.answers.BlockingRead.TheVariants as blocking
 use Rattle.timer_objects.specs.declared.object.Object.{Object}
 use Rattle.timer_objects.specs.declared.object.Object.TheVariants as objects
-use Rattle.timer_objects.specs.declared.object.ObjectCall.{ObjectCall}
-use Rattle.timer_objects.specs.declared.object.ObjectCall.TheVariants as calls
-use Rattle.timer_objects.specs.declared.object.ObjectReply.{ObjectReply}
 use Rattle.timer_objects.specs.declared.log.ObjectReceipt.{ObjectReceipt}
 use Rattle.timer_objects.specs.declared.callback.Callback.{Callback}
 use Rattle.timer_objects.specs.Callbacks.{bases_of}
@@ -93,7 +92,7 @@ pub record HasSignal (object : Object) (reading : ClockReading) (n : ℕ) : Type
 -- A call reads a descriptor at this reading: the count is all that it had counted, and the periods that had passed. None is left in the state after it.
 pub record HasCounted (object : Object) (call : ObjectCall) (reading : ClockReading) (n : ℕ) : Type 0 where
   pub arm : Arm
-  pub is_read : call ≡ calls.Fd (fd_calls.Read reading arm)
+  pub is_read : call ≡ calls.Read reading arm
   pub descriptor : Descriptor
   pub is : object ≡ objects.Fd descriptor
   pub total : n ≡ total_in descriptor reading

@@ -7,18 +7,20 @@ use Rattle.timer_setting.specs.declared.arming.Wanted.{Wanted}
 use Rattle.timer_setting.specs.declared.arming.Arm.{Arm}
 use Rattle.timer_setting.specs.declared.arming.Arm.TheVariants as arms
 use Rattle.timer_setting.specs.Arguments.{abstime, bits_beyond, start_by}
+use Rattle.timer_setting.specs.declared.object_timer.ObjectTimer.{ObjectTimer}
+use Rattle.timer_setting.specs.Kinds.{ObjectKind}
 use Rattle.timer_setting.specs.Phases.{IsOutcomeOf, expired, is_expiry_of, next_start, periods_in, phase_by, rearmed}
 use Rattle.timer_setting.specs.Settimes.{start_wanted, trigger_answer}
 use Rattle.timer_setting.specs.StepTables.{StepTable, full_refusal, settime_refusal}
-use Rattle.posix_timer.specs.declared.answers.SettimeAnswer.{SettimeAnswer}
-use Rattle.posix_timer.specs.declared.answers.SettimeAnswer.TheVariants as settings
+use Rattle.timer_setting.specs.declared.answers.SettimeAnswer.{SettimeAnswer}
+use Rattle.timer_setting.specs.declared.answers.SettimeAnswer.TheVariants as settings
 use Rattle.timer_setting.specs.declared.settime_call.SettimeCall.{SettimeCall}
 use Rattle.timer_setting.specs.declared.trigger_answer.TriggerAnswer.TheVariants as triggers
-use Rattle.posix_timer.specs.declared.answers.AcceptAnswer.TheVariants as acceptances
-use Rattle.posix_timer.specs.declared.calls.Call.{Call}
-use Rattle.posix_timer.specs.declared.calls.Call.TheVariants as calls
-use Rattle.posix_timer.specs.declared.calls.Reply.{Reply}
-use Rattle.posix_timer.specs.declared.calls.Reply.TheVariants as replies
+use Rattle.timer_setting.specs.declared.answers.AcceptAnswer.TheVariants as acceptances
+use Rattle.timer_setting.specs.declared.object_call.ObjectCall.{ObjectCall}
+use Rattle.timer_setting.specs.declared.object_call.ObjectCall.TheVariants as calls
+use Rattle.timer_setting.specs.declared.object_call.ObjectReply.{ObjectReply}
+use Rattle.timer_setting.specs.declared.object_call.ObjectReply.TheVariants as replies
 use Rattle.posix_timer.specs.States.{PosixTimer, most_overrun, posix_left}
 
 -- the start that a settime wants
@@ -74,39 +76,56 @@ accepted t reading arm =
       stamp = t.stamp + 1;
     } else record t { stamp = t.stamp + 1 }
 
--- what a call needs
-abbrev pub PosixAllows : PosixTimer → Call → Type 0
+-- what a call needs: it is one of a POSIX timer's
+abbrev pub PosixAllows : PosixTimer → ObjectCall → Type 0
 PosixAllows t (calls.Settime c) =
     (t.stamp < t.limit) × (bits_beyond abstime c.flags ≡ 0) × (c.value ≤ last_time) × (c.interval ≤ last_time) × IsOutcomeOf c.arm (start_by c.flags c.value)
 PosixAllows t (calls.Trigger generation reading) = t.stamp < t.limit
 PosixAllows t (calls.Accept reading arm) = (t.stamp < t.limit) × IsOutcomeOf arm (accept_wanted t reading)
+PosixAllows t call = ⊥
 
 -- the timer after a call
-abbrev pub posix_step : PosixTimer → Call → PosixTimer
+abbrev pub posix_step : PosixTimer → ObjectCall → PosixTimer
 posix_step t (calls.Settime c) = posix_set t c
 posix_step t (calls.Trigger generation reading) = posix_triggered t generation reading
 posix_step t (calls.Accept reading arm) = accepted t reading arm
+posix_step t call = t
 
 -- what a call answers
-abbrev pub posix_answer : PosixTimer → Call → Reply
+abbrev pub posix_answer : PosixTimer → ObjectCall → ObjectReply
 posix_answer t (calls.Settime c) = replies.Settime (posix_settime_answer t c.reading c.arm)
 posix_answer t (calls.Trigger generation reading) = replies.Trigger (trigger_answer t.phase generation reading)
 posix_answer t (calls.Accept reading arm) =
     replies.Accept (if t.pending then acceptances.Accepted (overrun_of (periods_in t.phase t.interval reading)) else acceptances.NoSignal)
+posix_answer t call = replies.None
 
 -- the whole table
-abbrev pub posix_table : StepTable PosixTimer Call Reply
+abbrev pub posix_table : StepTable PosixTimer ObjectCall ObjectReply
 posix_table = record { allows = PosixAllows; next = posix_step; answer = posix_answer }
 
+-- the timer that it keeps
+abbrev pub posix_object_timer : PosixTimer → ObjectTimer
+posix_object_timer t = record { clock = t.clock; base = t.base; interval = t.interval; phase = t.phase; stamp = t.stamp; limit = t.limit }
+
+-- the start that a call with valid arguments wants
+abbrev pub posix_wanted : PosixTimer → ObjectCall → Option Wanted
+posix_wanted t (calls.Settime c) = start_by c.flags c.value
+posix_wanted t (calls.Accept reading arm) = accept_wanted t reading
+posix_wanted t call = None
+
+-- POSIX timers as a kind of object
+abbrev pub posix_kind : ObjectKind PosixTimer
+posix_kind = record { table = posix_table; timer = posix_object_timer; wanted = posix_wanted }
+
 -- why a settime is refused, if it is
-abbrev pub posix_settime_refusal : PosixTimer → ℕ → TimeSpec → TimeSpec → Option Reply
+abbrev pub posix_settime_refusal : PosixTimer → ℕ → TimeSpec → TimeSpec → Option ObjectReply
 posix_settime_refusal t flags value interval =
-    let spent : ℕ → Reply = λ stamp. replies.Settime (settings.Spent stamp) in
+    let spent : ℕ → ObjectReply = λ stamp. replies.Settime (settings.Spent stamp) in
     settime_refusal (replies.Settime settings.BadFlags) (replies.Settime settings.BadTime) spent (bits_beyond abstime flags) value interval t.stamp t.limit
 
 -- why an expiry is, and an acceptance
-abbrev pub posix_trigger_refusal : PosixTimer → Option Reply
+abbrev pub posix_trigger_refusal : PosixTimer → Option ObjectReply
 posix_trigger_refusal t = full_refusal (λ stamp. replies.Trigger (triggers.Spent stamp)) t.stamp t.limit
 
-abbrev pub accept_refusal : PosixTimer → Option Reply
+abbrev pub accept_refusal : PosixTimer → Option ObjectReply
 accept_refusal t = full_refusal (λ stamp. replies.Accept (acceptances.Spent stamp)) t.stamp t.limit

@@ -7,16 +7,15 @@ ghost use Rattle.timer_setting.specs.Settimes.{most_entries};
 ghost use Rattle.timer_setting.specs.StepTables.{IsAnswered};
 ghost use Rattle.posix_timer.specs.States.{PosixTimer, ArePosixArguments, PosixInvariant, posix_opening, setting_of};
 ghost use Rattle.posix_timer.specs.Steps.{PosixAllows, accept_refusal, accept_wanted, accepted, kept_by, posix_answer, posix_set, posix_settime_answer, posix_settime_wanted, posix_settime_refusal, posix_step, posix_table, posix_trigger_refusal};
-ghost use Rattle.posix_timer.specs.declared.calls.Call.TheVariants as calls;
-ghost use Rattle.posix_timer.specs.declared.calls.Reply.TheVariants as replies;
+ghost use Rattle.timer_setting.specs.declared.object_call.ObjectCall.TheVariants as calls;
+ghost use Rattle.timer_setting.specs.declared.object_call.ObjectReply.TheVariants as replies;
 
-use crate::answers::{AcceptAnswer, SettimeAnswer};
-use crate::calls::{Call, Reply};
 use crate::settime_arguments::{TIMER_ABSTIME, times_of};
 use ktime::{ClockId, Reading, TimeSpec};
 use std::marker::Model;
 use timer_setting::{
-    Arm, BadArgument, ObjectTimer, Phase, SettimeCall, Setting, TriggerAnswer, Wanted,
+    AcceptAnswer, Arm, BadArgument, ObjectCall, ObjectReply, ObjectTimer, Phase, SettimeAnswer,
+    SettimeCall, Setting, TriggerAnswer, Wanted,
 };
 
 /// The greatest overrun that is answered, `DELAYTIMER_MAX`.
@@ -166,18 +165,19 @@ impl PosixState {
     }
 
     /// Makes the entry of a call with valid arguments.
-    pub fn apply(&mut self, call: Call) -> Reply
+    pub fn apply(&mut self, call: ObjectCall) -> ObjectReply
         requires allowed { PosixAllows self.old call }
         ensures state { self.new ≡ posix_step self.old call }
         ensures reply { result ≡ posix_answer self.old call }
     {
         match call {
-            Call::Settime(call) => Reply::Settime(self.set(call)),
-            Call::Trigger {
+            ObjectCall::Settime(call) => ObjectReply::Settime(self.set(call)),
+            ObjectCall::Trigger {
                 generation,
                 reading,
-            } => Reply::Trigger(self.trigger(generation, reading)),
-            Call::Accept { reading, arm } => Reply::Accept(self.take(reading, arm)),
+            } => ObjectReply::Trigger(self.trigger(generation, reading)),
+            ObjectCall::Accept { reading, arm } => ObjectReply::Accept(self.take(reading, arm)),
+            ObjectCall::Read { .. } | ObjectCall::Gettime { .. } => ObjectReply::None,
         }
     }
 

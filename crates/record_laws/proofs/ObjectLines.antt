@@ -42,7 +42,7 @@ use Rattle.script_text.specs.declared.script.Kind.{Kind}
 use Rattle.record_laws.proofs.ClockLines.{clock_goes_on}
 use Rattle.record_laws.proofs.LastSeen.{objects_once, object_lines_are}
 use Rattle.record_laws.proofs.SeenThere.{many_objects, objects_past}
-use Rattle.lane_world.proofs.ObjectSeen.{fd_kind, leads_from, legal, posix_kind}
+use Rattle.lane_world.proofs.ObjectSeen.{fd_objects, leads_from, legal, posix_objects}
 use Rattle.record_laws.proofs.OwnLines.{at_line, lines_long, own_lines, ShowNotes, told_of}
 
 -- ---- the entries of an object
@@ -70,9 +70,9 @@ legal_lines : (s : Script) (r : RunRecord) (i : ℕ) (hs : List ObjectMove) (now
     → IsLegalObject s r i k
 legal_lines s r i hs now are (kinds.Raw context callback) leads = raw_none r.clock now hs (lines_of_object r i) leads are
 legal_lines s r i hs now are (kinds.Posix base) leads =
-    legal posix_kind r.clock (posix_opening (clock_of s i) base s.limit) now hs (lines_of_object r i) leads are
+    legal posix_objects r.clock (posix_opening (clock_of s i) base s.limit) now hs (lines_of_object r i) leads are
 legal_lines s r i hs now are (kinds.Fd base) leads =
-    legal fd_kind r.clock (fd_opening (clock_of s i) base s.limit) now hs (lines_of_object r i) leads are
+    legal fd_objects r.clock (fd_opening (clock_of s i) base s.limit) now hs (lines_of_object r i) leads are
 
 -- the entries that were seen of an object lead on from where its declaration opens it
 object_leads : {s : Script} {x : WorldOf} {q : WorldPass} → AreLastOf s x q → (i : ℕ)

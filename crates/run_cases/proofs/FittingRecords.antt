@@ -257,8 +257,8 @@ accepted_fits = fits_by accepted_witness (record {
   history = two tt (two (step refl (inr refl, inl (lt refl)) refl tt) (two tt (two tt
       (two (step refl (refl, refl, refl, refl, le refl) refl (refl, refl)) (two tt (two tt (two (step refl refl refl tt) (two tt (two tt
       (two (step refl (inr refl, inl (lt refl)) refl tt) (two tt (two tt (two tt tt)))))))))))));
-  object_histories = two (two (refl, (refl, (refl, (refl, tt)))) (three (lt refl, refl, le refl, le refl, (λ e. absurd (cc), λ e. absurd (cc))) refl
-      (three (lt refl) refl (three (lt refl, (λ e. absurd (cc), λ e. absurd (cc))) refl (three (lt refl, (λ e. refl, λ e. refl)) refl tt))))) tt;
+  object_histories = two (three (lt refl, refl, le refl, le refl, (λ e. absurd (cc), λ e. absurd (cc))) refl
+      (three (lt refl) refl (three (lt refl, (λ e. absurd (cc), λ e. absurd (cc))) refl (three (lt refl, (λ e. refl, λ e. refl)) refl tt)))) tt;
   placed = (refl, tt);
   calls = two (
       two (right refl refl refl (refl, tt) (refl, tt) (refl, tt) (armed_anew 0 1 (record { known = refl; good_value = lt refl; good_interval = lt refl })

@@ -72,8 +72,8 @@ unreadable_fits = fits_by unreadable_witness (record {
   objects = (refl, tt);
   history = two tt (two tt (two (step refl (inr refl, inl (lt refl)) refl tt) (two tt
       (two (step refl (refl, refl, refl, refl, le refl) refl (refl, refl)) (two tt (two tt (two (step refl refl refl tt) tt)))))));
-  object_histories = two (two (refl, (refl, tt)) (three (lt refl, refl, le refl, le refl, (λ e. absurd (cc), λ e. absurd (cc))) refl
-      (three (lt refl) refl tt))) tt;
+  object_histories = two (three (lt refl, refl, le refl, le refl, (λ e. absurd (cc), λ e. absurd (cc))) refl
+      (three (lt refl) refl tt)) tt;
   placed = (refl, (refl, tt));
   calls = two (
       two (right refl refl refl (refl, tt) (refl, tt) (refl, tt) refl (refl, tt) tt)
@@ -108,8 +108,8 @@ seen_fits = fits_by seen_witness (record {
   clock = refl;
   objects = (refl, (refl, tt));
   history = two tt (two tt (two tt (two tt tt)));
-  object_histories = two (two (refl, tt) (three (lt refl, refl, le refl, le refl, (λ e. refl, λ e. refl)) refl tt))
-      (two (two (refl, tt) (three (lt refl, refl, le refl, le refl, (λ e. refl, λ e. refl)) refl tt)) tt);
+  object_histories = two (three (lt refl, refl, le refl, le refl, (λ e. refl, λ e. refl)) refl tt)
+      (two (three (lt refl, refl, le refl, le refl, (λ e. refl, λ e. refl)) refl tt) tt);
   placed = (refl, (refl, tt));
   calls = two (
       two (right refl refl refl (refl, (refl, tt)) (refl, (refl, tt)) (refl, (refl, tt)) disarmed
@@ -143,8 +143,8 @@ accepts_fit = fits_by accepts_witness (record {
   clock = refl;
   objects = (refl, (refl, tt));
   history = two tt (two tt (two tt (two tt (two tt (two tt (two tt (two tt tt)))))));
-  object_histories = two (two (refl, (refl, tt)) (three (lt refl, (λ e. refl, λ e. refl)) refl (three (lt refl, (λ e. refl, λ e. refl)) refl tt)))
-      (two (two (refl, (refl, tt)) (three (lt refl, (λ e. refl, λ e. refl)) refl (three (lt refl, (λ e. refl, λ e. refl)) refl tt))) tt);
+  object_histories = two (three (lt refl, (λ e. refl, λ e. refl)) refl (three (lt refl, (λ e. refl, λ e. refl)) refl tt))
+      (two (three (lt refl, (λ e. refl, λ e. refl)) refl (three (lt refl, (λ e. refl, λ e. refl)) refl tt)) tt);
   placed = (refl, (refl, tt));
   calls = two (
       two (right refl refl refl (refl, (refl, tt)) (refl, (refl, tt)) (refl, (refl, tt))
@@ -182,8 +182,8 @@ skipped_fits = fits_by skipped_witness (record {
   objects = (refl, tt);
   history = two tt (two tt (two (step refl (inr refl, inl (lt refl)) refl tt) (two tt (two tt (two tt
       (two (step refl (refl, refl, refl, refl, le refl) refl (refl, refl)) (two (step refl refl refl tt) tt)))))));
-  object_histories = two (two (refl, (refl, tt)) (three (lt refl, refl, le refl, le refl, (λ e. absurd (cc), λ e. absurd (cc))) refl
-      (three (lt refl, (λ e. refl, λ e. refl)) refl tt))) tt;
+  object_histories = two (three (lt refl, refl, le refl, le refl, (λ e. absurd (cc), λ e. absurd (cc))) refl
+      (three (lt refl, (λ e. refl, λ e. refl)) refl tt)) tt;
   placed = (refl, (refl, tt));
   calls = two (
       two (right refl refl refl (refl, tt) (refl, tt) (refl, tt) refl (refl, tt) tt)
@@ -228,10 +228,9 @@ two_expiries_fit = fits_by two_expiries_witness (record {
       (two (step refl (refl, refl, refl, refl, le refl) refl (refl, refl)) (two tt (two tt (two (step refl refl refl tt)
       (two tt (two (step refl (inr refl, inl (lt refl)) refl tt) (two tt
       (two (step refl (refl, refl, refl, refl, le refl) refl (refl, refl)) (two tt (two tt (two tt (two tt (two (step refl refl refl tt) tt))))))))))))))));
-  object_histories = two (two (refl, (refl, (refl, (refl, (refl, tt)))))
-      (three (lt refl, refl, le refl, le refl, (λ e. absurd (cc), λ e. absurd (cc))) refl (three (lt refl) refl
+  object_histories = two (three (lt refl, refl, le refl, le refl, (λ e. absurd (cc), λ e. absurd (cc))) refl (three (lt refl) refl
       (three (lt refl, refl, le refl, le refl, (λ e. absurd (cc), λ e. absurd (cc))) refl
-      (three (lt refl, (λ e. refl, λ e. refl)) refl (three (lt refl) refl tt)))))) tt;
+      (three (lt refl, (λ e. refl, λ e. refl)) refl (three (lt refl) refl tt))))) tt;
   placed = (refl, (refl, tt));
   calls = two (
       two (right refl refl refl (refl, tt) (refl, tt) (refl, tt) refl (refl, tt) tt)
@@ -274,8 +273,8 @@ canceled_fits = fits_by canceled_witness (record {
   clock = refl;
   objects = (refl, tt);
   history = two tt (two (step refl (inr refl, inl (lt refl)) refl tt) (two tt (two tt (two tt (two tt tt)))));
-  object_histories = two (two (refl, (refl, tt)) (three (lt refl, refl, le refl, le refl, (λ e. absurd (cc), λ e. absurd (cc))) refl
-      (three (lt refl, (λ e. refl, λ e. refl)) refl tt))) tt;
+  object_histories = two (three (lt refl, refl, le refl, le refl, (λ e. absurd (cc), λ e. absurd (cc))) refl
+      (three (lt refl, (λ e. refl, λ e. refl)) refl tt)) tt;
   placed = (refl, (refl, tt));
   calls = two (
       two (right refl refl refl (refl, tt) (refl, tt) (refl, tt) (armed_anew 0 1 (record { known = refl; good_value = lt refl; good_interval = lt refl })
@@ -325,7 +324,7 @@ armed_fits = fits_by armed_witness (record {
   clock = refl;
   objects = (refl, tt);
   history = two tt (two (step refl (inr refl, inl (lt refl)) refl tt) (two tt tt));
-  object_histories = two (two (refl, tt) (three (lt refl, refl, le refl, le refl, (λ e. absurd (cc), λ e. absurd (cc))) refl tt)) tt;
+  object_histories = two (three (lt refl, refl, le refl, le refl, (λ e. absurd (cc), λ e. absurd (cc))) refl tt) tt;
   placed = (refl, (refl, tt));
   calls = two (
       two (set_right _ _ _) tt
@@ -354,7 +353,7 @@ set_fits = fits_by set_witness (record {
   clock = refl;
   objects = (refl, tt);
   history = two tt (two (step refl (inr refl, inl (lt refl)) refl tt) (two tt tt));
-  object_histories = two (two (refl, tt) (three (lt refl, refl, le refl, le refl, (λ e. absurd (cc), λ e. absurd (cc))) refl tt)) tt;
+  object_histories = two (three (lt refl, refl, le refl, le refl, (λ e. absurd (cc), λ e. absurd (cc))) refl tt) tt;
   placed = (refl, (refl, tt));
   calls = two (
       two (set_right _ _ _) tt

@@ -40,10 +40,9 @@ full_fits = fits_by full_witness (record {
   objects = (refl, tt);
   history = two tt (two (step refl (inr refl, inl (lt refl)) refl tt) (two tt (two tt (two (step refl (refl, refl, refl) refl tt)
       (two (step refl (inr refl, inl (lt refl)) refl tt) (two tt (two tt (two (step refl (refl, refl, refl) refl tt) (two tt tt)))))))));
-  object_histories = two (two (refl, (refl, (refl, tt)))
+  object_histories = two (three (lt refl, refl, le refl, le refl, (λ e. absurd (cc), λ e. absurd (cc))) refl
       (three (lt refl, refl, le refl, le refl, (λ e. absurd (cc), λ e. absurd (cc))) refl
-      (three (lt refl, refl, le refl, le refl, (λ e. absurd (cc), λ e. absurd (cc))) refl
-      (three (lt refl, refl, le refl, le refl, (λ e. absurd (cc), λ e. absurd (cc))) refl tt)))) tt;
+      (three (lt refl, refl, le refl, le refl, (λ e. absurd (cc), λ e. absurd (cc))) refl tt))) tt;
   placed = (refl, tt);
   calls = two (
       two (right refl refl refl (refl, tt) (refl, tt) (refl, tt) (armed_anew 0 1 (record { known = refl; good_value = lt refl; good_interval = lt refl })

@@ -58,8 +58,8 @@ abbrev pub full : ℕ → ℕ → Type 0 → CallRow
 full timer stamp IsSo = record { did = Where Nothing IsSo; tells = λ c. SawFull c.w timer stamp c.last }
 
 -- a settime made an entry, and had disarmed its timer first
-abbrev pub only_set : ℕ → Deed → CallRow
-only_set timer did = record { did = did; tells = λ c. DisarmedFirst c.w c.label c.first c.last timer c.actions }
+abbrev pub disarmed : ℕ → Deed → CallRow
+disarmed timer did = record { did = did; tells = λ c. DisarmedFirst c.w c.label c.first c.last timer c.actions }
 
 -- a POSIX timer
 abbrev pub IsPosix : Kind → Type 0
@@ -98,8 +98,8 @@ call_row s reading (calls.Settime timer flags value interval) answers.Invalid =
     only (Where Nothing (AreValidFor (kind_of s timer) flags value interval → ⊥))
 call_row s reading (calls.Settime timer flags value interval) (answers.Spent stamp) = full timer stamp (AreValidFor (kind_of s timer) flags value interval)
 call_row s reading (calls.Settime timer flags value interval) (answers.Old left old) =
-    only_set timer (Sets timer flags value interval (settings.Old left old))
-call_row s reading (calls.Settime timer flags value interval) answers.Canceled = only_set timer (Sets timer flags value interval settings.Canceled)
+    disarmed timer (Sets timer flags value interval (settings.Old left old))
+call_row s reading (calls.Settime timer flags value interval) answers.Canceled = disarmed timer (Sets timer flags value interval settings.Canceled)
 call_row s reading (calls.Settime timer flags value interval) (answers.Unarmed stamp) = record {
   did = Sets timer flags value interval (settings.Unarmed stamp);
   tells = λ c. DisarmedFirst c.w c.label c.first c.last timer c.actions × RefusedBefore c.w c.label c.first c.last c.actions timer stamp;

@@ -1,7 +1,6 @@
 pub mod Order
 pub mod Histories
-pub mod PosixHistories
-pub mod FdHistories
+pub mod ObjectEntries
 pub mod Objects
 pub mod Actions
 pub mod Starts

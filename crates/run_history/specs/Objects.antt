@@ -1,7 +1,6 @@
 -- The histories of a record's objects, which are POSIX timers and timer descriptors: each one's entries, and its state after each
 -- number of them.
-use Rattle.std.specs.Prelude.{ℕ, ◌≡◌, true, is_some, Option, Some, None, List, [], ◌∷◌, map, take, get_or}
-use Rattle.std.specs.List.{AllByRecursion}
+use Rattle.std.specs.Prelude.{ℕ, ◌≡◌, Option, Some, None, List, [], ◌∷◌, map, take, get_or}
 use Rattle.ktime.specs.declared.clock_id.ClockId.{ClockId}
 use Rattle.record_text.specs.declared.record.Label.{Label}
 use Rattle.record_text.specs.declared.record.ObjectEntry.{ObjectEntry}
@@ -10,20 +9,17 @@ use Rattle.record_text.specs.declared.record.RunRecord.{RunRecord}
 use Rattle.timer_setting.specs.declared.phase.Phase.{Phase}
 use Rattle.timer_setting.specs.declared.phase.Phase.TheVariants as phases
 use Rattle.timer_setting.specs.StepTables.{AnsweredCall}
-use Rattle.posix_timer.specs.declared.calls.Call as posix_call
-use Rattle.posix_timer.specs.declared.calls.Reply as posix_reply
+use Rattle.timer_setting.specs.declared.object_call.ObjectCall.{ObjectCall}
+use Rattle.timer_setting.specs.declared.object_call.ObjectReply.{ObjectReply}
 use Rattle.posix_timer.specs.States.{PosixTimer}
 use Rattle.posix_timer.specs.Histories as posix
-use Rattle.timer_fd.specs.declared.calls.Call as fd_call
-use Rattle.timer_fd.specs.declared.calls.Reply as fd_reply
 use Rattle.timer_fd.specs.States.{Descriptor}
 use Rattle.timer_fd.specs.Histories as fd
 use Rattle.script_text.specs.declared.script.Kind.{Kind}
 use Rattle.script_text.specs.declared.script.Kind.TheVariants as kinds
 use Rattle.script_text.specs.declared.script.Script.{Script}
 use Rattle.script_text.specs.Declarations.{clock_of}
-use Rattle.run_history.specs.PosixHistories as posix_lines
-use Rattle.run_history.specs.FdHistories as fd_lines
+use Rattle.run_history.specs.ObjectEntries.{object_entry_shown}
 
 -- an object's lines; none for a timer by itself, and for one that isn't there
 abbrev pub lines_of_object : RunRecord → ℕ → List ObjectLine
@@ -43,31 +39,23 @@ present [] = []
 present (None ∷ xs) = present xs
 present (Some x ∷ xs) = x ∷ present xs
 
--- an object's history, as a POSIX timer's
-abbrev pub posix_history : RunRecord → ℕ → List (AnsweredCall posix_call.Call posix_reply.Reply)
-posix_history r i = present (map (posix_lines.posix_entry r.clock) (object_entries r i))
+-- an object's history
+abbrev pub object_history : RunRecord → ℕ → List (AnsweredCall ObjectCall ObjectReply)
+object_history r i = map (object_entry_shown r.clock) (object_entries r i)
 
--- an object's history, as a descriptor's
-abbrev pub fd_history : RunRecord → ℕ → List (AnsweredCall fd_call.Call fd_reply.Reply)
-fd_history r i = present (map (fd_lines.fd_entry r.clock) (object_entries r i))
-
--- a timer by itself has no object's entries; those of an object are all of its kind, and make a history that one such object gives
+-- a timer by itself has no object's entries; those of an object make a history that one object of its kind gives
 abbrev pub IsLegalObject : Script → RunRecord → ℕ → Kind → Type 0
 IsLegalObject s r i (kinds.Raw context callback) = lines_of_object r i ≡ []
-IsLegalObject s r i (kinds.Posix base) =
-    AllByRecursion (λ e. is_some (posix_lines.posix_entry r.clock e) ≡ true) (object_entries r i)
-    × posix.IsPosixHistory (clock_of s i) base s.limit (posix_history r i)
-IsLegalObject s r i (kinds.Fd base) =
-    AllByRecursion (λ e. is_some (fd_lines.fd_entry r.clock e) ≡ true) (object_entries r i)
-    × fd.IsFdHistory (clock_of s i) base s.limit (fd_history r i)
+IsLegalObject s r i (kinds.Posix base) = posix.IsPosixHistory (clock_of s i) base s.limit (object_history r i)
+IsLegalObject s r i (kinds.Fd base) = fd.IsFdHistory (clock_of s i) base s.limit (object_history r i)
 
 -- a POSIX timer after its first so many entries
 abbrev pub posix_after : Script → RunRecord → ℕ → ℕ → ℕ → PosixTimer
-posix_after s r i base stamp = posix.posix_state_after (clock_of s i) base s.limit (take stamp (posix_history r i))
+posix_after s r i base stamp = posix.posix_state_after (clock_of s i) base s.limit (take stamp (object_history r i))
 
 -- a descriptor after its first so many entries
 abbrev pub fd_after : Script → RunRecord → ℕ → ℕ → ℕ → Descriptor
-fd_after s r i base stamp = fd.fd_state_after (clock_of s i) base s.limit (take stamp (fd_history r i))
+fd_after s r i base stamp = fd.fd_state_after (clock_of s i) base s.limit (take stamp (object_history r i))
 
 -- how an object has armed its timer: the generation, the clock and the expiry
 pub record ArmedAs : Type 0 where

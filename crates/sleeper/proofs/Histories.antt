@@ -11,10 +11,10 @@ room s (calls.Sleep c) allows = allows.0
 room s (calls.Trigger generation reading) allows = allows
 room s (calls.Interrupt reading) allows = allows.0
 
-counted : (s : Sleeper) (call : Call) → (sleeper_step s call).stamp ≡ s.stamp + 1
-counted s (calls.Sleep c) = refl
-counted s (calls.Trigger generation reading) = grind arith
-counted s (calls.Interrupt reading) = refl
+counted : (s : Sleeper) (call : Call) → SleeperAllows s call → (sleeper_step s call).stamp ≡ s.stamp + 1
+counted s (calls.Sleep c) allows = refl
+counted s (calls.Trigger generation reading) allows = grind arith
+counted s (calls.Interrupt reading) allows = refl
 
 kept : (s : Sleeper) (call : Call) → (sleeper_step s call).limit ≡ s.limit
 kept s (calls.Sleep c) = refl

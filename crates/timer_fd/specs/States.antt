@@ -1,6 +1,5 @@
 -- What a timer descriptor keeps, the arguments that its settime takes, and what can be said of it without a change.
-use Rattle.std.specs.Prelude.{ℕ, ◌-◌, ◌+◌, ◌^◌, ◌<◌, ◌≤◌, Bool, false, not, ◌&&◌, ◌||◌, nat_eq, nat_lt, List, Option, Some, None}
-use Rattle.std.specs.Int.{to_le_bytes, w64}
+use Rattle.std.specs.Prelude.{ℕ, ◌-◌, ◌+◌, ◌^◌, ◌<◌, ◌≤◌, Bool, false, not, ◌&&◌, ◌||◌, nat_eq, nat_lt}
 use Rattle.ktime.specs.declared.clock_id.ClockId.{ClockId}
 use Rattle.ktime.specs.declared.clock_id.ClockId.TheVariants as clocks
 use Rattle.ktime.specs.declared.timespec.TimeSpec.{TimeSpec}
@@ -11,8 +10,6 @@ use Rattle.timer_setting.specs.declared.phase.Phase.TheVariants as phases
 use Rattle.timer_setting.specs.Arguments.{AreValid, abstime, bits_beyond}
 use Rattle.timer_setting.specs.Phases.{left_in}
 use Rattle.timer_setting.specs.Settimes.{IsInLimits}
-use Rattle.timer_fd.specs.declared.answers.ReadAnswer.{ReadAnswer}
-use Rattle.timer_fd.specs.declared.answers.ReadAnswer.TheVariants as reads
 
 -- a timer descriptor: the clock it was made on, the base of its high-resolution timer, the interval and the phase, how many expiries wait to
 -- be read, whether a change of the real-time clock cancels the setting, how many changes of the real offset it has taken note of,
@@ -66,14 +63,6 @@ is_readable t reading = not (nat_eq t.count 0) || is_canceled t reading
 -- how long until the next expiry: nothing where it has come
 abbrev pub fd_left : Descriptor → ClockReading → ℕ
 fd_left t reading = left_in 0 t.phase t.interval reading
-
--- the bytes that a read puts into its buffer
-abbrev pub bytes_of : ReadAnswer → Option (List ℕ)
-bytes_of (reads.Count total) = Some (to_le_bytes w64 total)
-bytes_of reads.ShortBuffer = None
-bytes_of (reads.Spent stamp) = None
-bytes_of reads.Canceled = None
-bytes_of reads.Again = None
 
 -- what holds of a phase: only a periodic timer waits to be armed again, and then it has an expiry to be read
 abbrev pub IsFdPhase : Phase → ℕ → ℕ → Type 0

@@ -9,20 +9,22 @@ use Rattle.timer_setting.specs.declared.arming.Arm.TheVariants as arms
 use Rattle.timer_setting.specs.declared.phase.Phase.{Phase}
 use Rattle.timer_setting.specs.declared.phase.Phase.TheVariants as phases
 use Rattle.timer_setting.specs.Arguments.{bits_beyond, start_by}
+use Rattle.timer_setting.specs.declared.object_timer.ObjectTimer.{ObjectTimer}
+use Rattle.timer_setting.specs.Kinds.{ObjectKind}
 use Rattle.timer_setting.specs.Phases.{IsOutcomeOf, expired, is_expiry_of, next_start, periods_in, phase_by, rearmed}
 use Rattle.timer_setting.specs.Settimes.{start_wanted, trigger_answer}
 use Rattle.timer_setting.specs.StepTables.{StepTable, full_refusal, settime_refusal}
-use Rattle.timer_fd.specs.declared.answers.SettimeAnswer.{SettimeAnswer}
-use Rattle.timer_fd.specs.declared.answers.SettimeAnswer.TheVariants as settings
+use Rattle.timer_setting.specs.declared.answers.SettimeAnswer.{SettimeAnswer}
+use Rattle.timer_setting.specs.declared.answers.SettimeAnswer.TheVariants as settings
 use Rattle.timer_setting.specs.declared.settime_call.SettimeCall.{SettimeCall}
 use Rattle.timer_setting.specs.declared.trigger_answer.TriggerAnswer.TheVariants as triggers
-use Rattle.timer_fd.specs.declared.answers.ReadAnswer.{ReadAnswer}
-use Rattle.timer_fd.specs.declared.answers.ReadAnswer.TheVariants as reads
-use Rattle.timer_fd.specs.declared.answers.GettimeAnswer.TheVariants as lefts
-use Rattle.timer_fd.specs.declared.calls.Call.{Call}
-use Rattle.timer_fd.specs.declared.calls.Call.TheVariants as calls
-use Rattle.timer_fd.specs.declared.calls.Reply.{Reply}
-use Rattle.timer_fd.specs.declared.calls.Reply.TheVariants as replies
+use Rattle.timer_setting.specs.declared.answers.ReadAnswer.{ReadAnswer}
+use Rattle.timer_setting.specs.declared.answers.ReadAnswer.TheVariants as reads
+use Rattle.timer_setting.specs.declared.answers.GettimeAnswer.TheVariants as lefts
+use Rattle.timer_setting.specs.declared.object_call.ObjectCall.{ObjectCall}
+use Rattle.timer_setting.specs.declared.object_call.ObjectCall.TheVariants as calls
+use Rattle.timer_setting.specs.declared.object_call.ObjectReply.{ObjectReply}
+use Rattle.timer_setting.specs.declared.object_call.ObjectReply.TheVariants as replies
 use Rattle.timer_fd.specs.States.{Descriptor, fd_flags, fd_left, is_cancelable, is_canceled, most_count}
 
 -- the length in bytes of the buffer that a read needs
@@ -120,48 +122,66 @@ left_by arms.NotAsked t reading = fd_left t reading
 left_by (arms.Armed generation) t reading = fd_left t reading
 left_by (arms.Unarmed stamp) t reading = 0
 
--- what a call needs
-abbrev pub FdAllows : Descriptor → Call → Type 0
+-- what a call needs: it is one of a descriptor's
+abbrev pub FdAllows : Descriptor → ObjectCall → Type 0
 FdAllows t (calls.Settime c) =
     (t.stamp < t.limit) × (bits_beyond fd_flags c.flags ≡ 0) × (c.value ≤ last_time) × (c.interval ≤ last_time) × IsOutcomeOf c.arm (start_by c.flags c.value)
 FdAllows t (calls.Trigger generation reading) = t.stamp < t.limit
 FdAllows t (calls.Read reading arm) = (t.stamp < t.limit) × IsOutcomeOf arm (next_to_read t reading)
 FdAllows t (calls.Gettime reading arm) = (t.stamp < t.limit) × IsOutcomeOf arm (next_start t.phase t.interval reading)
+FdAllows t call = ⊥
 
 -- the descriptor after a call
-abbrev pub fd_step : Descriptor → Call → Descriptor
+abbrev pub fd_step : Descriptor → ObjectCall → Descriptor
 fd_step t (calls.Settime c) = fd_set t c
 fd_step t (calls.Trigger generation reading) = fd_triggered t generation reading
 fd_step t (calls.Read reading arm) = fd_read t reading arm
 fd_step t (calls.Gettime reading arm) = fd_got t reading arm
+fd_step t call = t
 
 -- what a call answers
-abbrev pub fd_answer : Descriptor → Call → Reply
+abbrev pub fd_answer : Descriptor → ObjectCall → ObjectReply
 fd_answer t (calls.Settime c) = replies.Settime (fd_settime_answer t c.flags c.value c.reading c.arm)
 fd_answer t (calls.Trigger generation reading) = replies.Trigger (trigger_answer t.phase generation reading)
 fd_answer t (calls.Read reading arm) = replies.Read (fd_read_answer t reading)
 fd_answer t (calls.Gettime reading arm) = replies.Gettime (lefts.Left (left_by arm t reading) t.interval)
+fd_answer t call = replies.None
 
 -- the whole table
-abbrev pub fd_table : StepTable Descriptor Call Reply
+abbrev pub fd_table : StepTable Descriptor ObjectCall ObjectReply
 fd_table = record { allows = FdAllows; next = fd_step; answer = fd_answer }
 
+-- the timer that it keeps
+abbrev pub fd_object_timer : Descriptor → ObjectTimer
+fd_object_timer t = record { clock = t.clock; base = t.base; interval = t.interval; phase = t.phase; stamp = t.stamp; limit = t.limit }
+
+-- the start that a call with valid arguments wants
+abbrev pub fd_wanted : Descriptor → ObjectCall → Option Wanted
+fd_wanted t (calls.Settime c) = start_by c.flags c.value
+fd_wanted t (calls.Read reading arm) = next_to_read t reading
+fd_wanted t (calls.Gettime reading arm) = next_start t.phase t.interval reading
+fd_wanted t call = None
+
+-- descriptors as a kind of object
+abbrev pub fd_kind : ObjectKind Descriptor
+fd_kind = record { table = fd_table; timer = fd_object_timer; wanted = fd_wanted }
+
 -- why a settime is refused, if it is
-abbrev pub fd_settime_refusal : Descriptor → ℕ → TimeSpec → TimeSpec → Option Reply
+abbrev pub fd_settime_refusal : Descriptor → ℕ → TimeSpec → TimeSpec → Option ObjectReply
 fd_settime_refusal t flags value interval =
-    let spent : ℕ → Reply = λ stamp. replies.Settime (settings.Spent stamp) in
+    let spent : ℕ → ObjectReply = λ stamp. replies.Settime (settings.Spent stamp) in
     settime_refusal (replies.Settime settings.BadFlags) (replies.Settime settings.BadTime) spent (bits_beyond fd_flags flags) value interval t.stamp t.limit
 
 -- why an expiry is
-abbrev pub fd_trigger_refusal : Descriptor → Option Reply
+abbrev pub fd_trigger_refusal : Descriptor → Option ObjectReply
 fd_trigger_refusal t = full_refusal (λ stamp. replies.Trigger (triggers.Spent stamp)) t.stamp t.limit
 
 -- why a read into a buffer of this length is: a buffer that is too short comes first
-abbrev pub read_refusal : Descriptor → ℕ → Option Reply
+abbrev pub read_refusal : Descriptor → ℕ → Option ObjectReply
 read_refusal t len =
     if nat_lt len count_length then Some (replies.Read reads.ShortBuffer)
     else full_refusal (λ stamp. replies.Read (reads.Spent stamp)) t.stamp t.limit
 
 -- why a gettime is
-abbrev pub gettime_refusal : Descriptor → Option Reply
+abbrev pub gettime_refusal : Descriptor → Option ObjectReply
 gettime_refusal t = full_refusal (λ stamp. replies.Gettime (lefts.Spent stamp)) t.stamp t.limit

@@ -7,15 +7,16 @@ ghost use Rattle.timer_setting.specs.Settimes.{most_entries};
 ghost use Rattle.timer_setting.specs.StepTables.{IsAnswered};
 ghost use Rattle.timer_fd.specs.States.{Descriptor, AreFdArguments, FdInvariant, fd_flags, fd_opening, is_canceled, is_readable};
 ghost use Rattle.timer_fd.specs.Steps.{FdAllows, count_length, fd_answer, fd_got, fd_read, fd_read_answer, fd_set, fd_settime_answer, fd_settime_wanted, fd_settime_refusal, fd_step, fd_table, fd_trigger_refusal, gettime_refusal, gettime_wanted, read_refusal, read_wanted, total_of};
-ghost use Rattle.timer_fd.specs.declared.calls.Call.TheVariants as calls;
-ghost use Rattle.timer_fd.specs.declared.calls.Reply.TheVariants as replies;
+ghost use Rattle.timer_setting.specs.declared.object_call.ObjectCall.TheVariants as calls;
+ghost use Rattle.timer_setting.specs.declared.object_call.ObjectReply.TheVariants as replies;
 
-use crate::answers::{GettimeAnswer, ReadAnswer, SettimeAnswer};
-use crate::calls::{Call, Reply};
 use crate::settime_arguments::{cancels_on_set, times_of, unknown_flags};
 use ktime::{ClockId, Reading, TimeSpec};
 use std::marker::Model;
-use timer_setting::{Arm, BadArgument, ObjectTimer, Phase, SettimeCall, TriggerAnswer, Wanted};
+use timer_setting::{
+    Arm, BadArgument, GettimeAnswer, ObjectCall, ObjectReply, ObjectTimer, Phase, ReadAnswer,
+    SettimeAnswer, SettimeCall, TriggerAnswer, Wanted,
+};
 
 /// The length in bytes of the buffer that a read needs.
 const COUNT_LENGTH: u64 = 8;
@@ -178,19 +179,20 @@ impl FdState {
     }
 
     /// Makes the entry of a call with valid arguments.
-    pub fn apply(&mut self, call: Call) -> Reply
+    pub fn apply(&mut self, call: ObjectCall) -> ObjectReply
         requires allowed { FdAllows self.old call }
         ensures state { self.new ≡ fd_step self.old call }
         ensures reply { result ≡ fd_answer self.old call }
     {
         match call {
-            Call::Settime(call) => Reply::Settime(self.set(call)),
-            Call::Trigger {
+            ObjectCall::Settime(call) => ObjectReply::Settime(self.set(call)),
+            ObjectCall::Trigger {
                 generation,
                 reading,
-            } => Reply::Trigger(self.trigger(generation, reading)),
-            Call::Read { reading, arm } => Reply::Read(self.take(reading, arm)),
-            Call::Gettime { reading, arm } => Reply::Gettime(self.get(reading, arm)),
+            } => ObjectReply::Trigger(self.trigger(generation, reading)),
+            ObjectCall::Read { reading, arm } => ObjectReply::Read(self.take(reading, arm)),
+            ObjectCall::Gettime { reading, arm } => ObjectReply::Gettime(self.get(reading, arm)),
+            ObjectCall::Accept { .. } => ObjectReply::None,
         }
     }
 

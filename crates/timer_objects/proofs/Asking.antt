@@ -1,5 +1,5 @@
 -- A call that makes an entry and may start its object's timer before that, in one turn of the object.
-use Rattle.std.proofs.Common.{refl, sym, subst, ◌≡◌, ◌≢◌, ℕ, ◌<◌, List, [], ◌∷◌, ◌++◌, length}
+use Rattle.std.proofs.Common.{refl, sym, subst, ◌≡◌, ◌∙◌, ◌≢◌, ℕ, ◌<◌, List, [], ◌∷◌, ◌++◌, length}
 use Rattle.ktime.specs.Readings.{ClockReading}
 use Rattle.base_row.specs.declared.view.Opening.{Opening}
 use Rattle.hr_timers.specs.Known.{KnownOfTimers}
@@ -7,15 +7,17 @@ use Rattle.base_row.specs.declared.log.Receipt.{Receipt}
 use Rattle.timer_setting.specs.declared.arming.Arm.{Arm}
 use Rattle.timer_setting.specs.Arguments.{start_by}
 use Rattle.timer_setting.specs.Phases.{IsOutcomeOf}
-use Rattle.timer_fd.specs.declared.answers.SettimeAnswer.{SettimeAnswer}
+use Rattle.timer_setting.specs.declared.answers.SettimeAnswer.{SettimeAnswer}
 use Rattle.counted_row.specs.declared.view.Locked.{Locked}
 use Rattle.counted_row.specs.Views.{IsPassOfRow, Locks}
 use Rattle.timer_objects.specs.declared.log.ObjectReceipt.{ObjectReceipt}
 use Rattle.timer_objects.specs.declared.object.Decl.{Decl}
 use Rattle.timer_objects.specs.declared.object.Kind.TheVariants as kinds
 use Rattle.timer_objects.specs.declared.object.Object.{Object}
-use Rattle.timer_objects.specs.declared.object.ObjectCall.{ObjectCall}
-use Rattle.timer_objects.specs.declared.object.ObjectReply.{ObjectReply}
+use Rattle.timer_setting.specs.declared.object_call.ObjectCall.{ObjectCall}
+use Rattle.timer_setting.specs.declared.object_call.ObjectCall.TheVariants as calls
+use Rattle.timer_setting.specs.declared.object_call.ObjectReply.TheVariants as replies
+use Rattle.timer_setting.specs.declared.object_call.ObjectReply.{ObjectReply}
 use Rattle.timer_objects.specs.declared.settime.ValidSettime.{ValidSettime}
 use Rattle.timer_objects.specs.declared.wanting.Rearming.{Rearming}
 use Rattle.timer_objects.specs.declared.wanting.Ended.{Ended}
@@ -29,17 +31,16 @@ use Rattle.timer_objects.specs.Calls.{
   Caller,
   HasWaited,
   RearmingMade,
+  EntersCall,
   SettimeMade,
-  SettimeTells,
   rearming_call,
-  settime_call,
   wanted_by,
 }
 use Rattle.timer_objects.specs.Turns.{HasTurn}
 use Rattle.timer_objects.specs.Valid.{IsSettimeReply, IsValidSettime, settime_with}
 use Rattle.timer_objects.specs.Rearming.{Ends, EndsAt, KeepsNames, MakesEntry, rearming_kind}
 use Rattle.timer_objects.proofs.Bearing.{allows, bears, replies_to}
-use Rattle.timer_objects.proofs.Entering.{commits, enters_call, stamp_before}
+use Rattle.timer_objects.proofs.Entering.{answered, commits, enters_call, stamp_before}
 use Rattle.timer_objects.proofs.Retrying.{arms_names, enters_after, turn_after, turn_names}
 use Rattle.timer_objects.proofs.Settings.{arms_bears, set_phase, settime_allowed, settime_grants, settime_replies}
 use Rattle.timer_objects.proofs.SettimeMade.{made_by}
@@ -57,12 +58,12 @@ module _ (x : ObjectsOf) (id : ℕ) (h : Locked Object) (index : h.index ≡ id)
     may_rearm r reading kind outcome = allows d x.limit h.stamp reading arm r h.state holds_it kind room outcome
 
     pub may_settime : (s : ValidSettime) → d.kind ≢ kinds.Raw → IsValidSettime d.kind s → IsOutcomeOf arm (start_by s.flags s.value)
-        → ObjectAllows h.state (settime_call d.kind (settime_with s arm))
+        → ObjectAllows h.state (calls.Settime (settime_with s arm))
     may_settime s kind valid outcome =
         settime_allowed d x.limit h.stamp h.state (settime_with s arm) holds_it kind room valid.flags valid.value valid.interval outcome
 
   pub replies_settime : (s : ValidSettime) (arm : Arm) (reply : ObjectReply) → d.kind ≢ kinds.Raw
-      → reply ≡ object_answer h.state (settime_call d.kind (settime_with s arm)) → IsSettimeReply reply
+      → reply ≡ object_answer h.state (calls.Settime (settime_with s arm)) → IsSettimeReply reply
   replies_settime s arm reply kind e = subst IsSettimeReply (sym e) (settime_replies d x.limit h.stamp h.state (settime_with s arm) holds_it kind)
 
   module _ (o : Opening) (u v w z : KnownOfTimers) (p m q : ObjectsPass) (arm : Arm) (log log' : List Receipt) (olog olog' : List ObjectReceipt)
@@ -103,17 +104,17 @@ module _ (x : ObjectsOf) (id : ℕ) (h : Locked Object) (index : h.index ≡ id)
     pub settimes : (s : ValidSettime) (a : SettimeAnswer) → Suits x o → id < length x.decls → d.kind ≢ kinds.Raw → IsValidSettime d.kind s
         → (disarmed : KnownOfTimers) (cancel_log : List Receipt) → Disarms o v disarmed id log cancel_log
         → ArmsFor o disarmed w id (start_by s.flags s.value) d.base s.reading arm cancel_log log'
-        → Enters m q h (settime_call d.kind (settime_with s arm)) reply
-        → olog' ≡ olog ++ receipt_of h (settime_call d.kind (settime_with s arm)) ∷ [] → SettimeTells reply a
+        → Enters m q h (calls.Settime (settime_with s arm)) reply
+        → olog' ≡ olog ++ receipt_of h (calls.Settime (settime_with s arm)) ∷ [] → reply ≡ replies.Settime a
         → SettimeMade x o begun done id s.flags s.value s.interval s.reading a
     settimes s a suits within kind valid disarmed cancel_log disarms arms e noted tells =
         let c = settime_with s arm in
         made_by x o begun done id _ _ _ _ a
-        (settime_grants d x.limit h.stamp h.state c a holds_it kind (subst (λ r. SettimeTells r a) e.reply tells))
+        (settime_grants h.state c a (sym e.reply ∙ tells))
         (record {
           arm = arm;
-          reply = reply;
-          enters = enters_call x p m q id h (settime_call d.kind c) reply locks row isq e begun done refl refl room noted;
+          enters = answered tells
+              (enters_call x p m q id h (calls.Settime c) reply locks row isq e begun done refl refl room noted);
           begun = v;
           worked = w;
           turn = turn_at e;
@@ -123,7 +124,6 @@ module _ (x : ObjectsOf) (id : ℕ) (h : Locked Object) (index : h.index ≡ id)
           arms = arms;
           bears = subst (λ f. BearsStart o w id arm f) (sym (set_phase d x.limit h.stamp h.state c holds_it kind))
               (arms_bears o disarmed w id d s.flags s.value d.base s.reading cancel_log log' (suits.clocks id within) valid.value arm arms);
-          answer = tells;
         })
 
 -- a call that found this object ends

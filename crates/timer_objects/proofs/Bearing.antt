@@ -1,5 +1,5 @@
 -- A call that arms its object's timer again: it may be made, its reply, and the phase that it leaves.
-use Rattle.std.proofs.Common.{arith, refl, sym, subst, ◌≡◌, ◌∙◌, ℕ, ◌<◌, Bool, true, false, nat_eq, nat_lt, ◌&&◌, ◌||◌, List}
+use Rattle.std.proofs.Common.{arith, refl, sym, subst, ◌≡◌, ◌≢◌, ◌∙◌, ℕ, ◌<◌, Bool, true, false, nat_eq, nat_lt, ◌&&◌, ◌||◌, List}
 use Rattle.std.specs.Prelude.{None, if◌then◌else◌}
 use Rattle.ktime.specs.Readings.{ClockReading, value_of}
 use Rattle.ktime.specs.Times.{next_after}
@@ -11,52 +11,58 @@ use Rattle.timer_setting.specs.declared.arming.Arm.TheVariants as arms
 use Rattle.timer_setting.specs.declared.phase.Phase.{Phase}
 use Rattle.timer_setting.specs.declared.phase.Phase.TheVariants as phases
 use Rattle.timer_setting.specs.Phases.{IsOutcomeOf, next_start, periods_in, rearmed}
-use Rattle.posix_timer.specs.declared.answers.AcceptAnswer.TheVariants as acceptances
+use Rattle.timer_setting.specs.declared.answers.AcceptAnswer.TheVariants as acceptances
 use Rattle.posix_timer.specs.States.{PosixTimer}
 use Rattle.posix_timer.specs.Steps.{overrun_of}
 use Rattle.timer_fd.specs.States.{Descriptor, is_canceled}
 use Rattle.timer_fd.specs.Steps.{fd_read_answer, left_by}
 use Rattle.timer_objects.specs.declared.object.Decl.{Decl}
+use Rattle.timer_objects.specs.declared.object.Kind.TheVariants as kinds
 use Rattle.timer_objects.specs.declared.object.Object.{Object}
 use Rattle.timer_objects.specs.declared.object.Object.TheVariants as objects
-use Rattle.timer_objects.specs.declared.object.ObjectReply.{ObjectReply}
+use Rattle.timer_setting.specs.declared.object_call.ObjectReply.{ObjectReply}
 use Rattle.timer_objects.specs.declared.wanting.Rearming.{Rearming}
 use Rattle.timer_objects.specs.declared.wanting.Rearming.TheVariants as rearmings
-use Rattle.timer_objects.specs.Steps.{IsObjectOf, ObjectAllows, object_answer, object_step}
+use Rattle.timer_objects.specs.Steps.{IsObjectOf, ObjectAllows, kind_over, object_answer, object_step, object_timer}
 use Rattle.timer_objects.specs.Arming.{ArmsFor}
 use Rattle.timer_objects.specs.Calls.{BearsRestart, phase_of, rearming_call, wanted_by}
 use Rattle.timer_objects.specs.Rearming.{RepliesTo, rearming_kind}
 use Rattle.timer_objects.proofs.Restarting.{expiry}
 
+rearming_kind-Raw : (r : Rearming) → rearming_kind r ≢ kinds.Raw
+rearming_kind-Raw rearmings.Accepting e = cc
+rearming_kind-Raw rearmings.Reading e = cc
+rearming_kind-Raw rearmings.Getting e = cc
+
 module _ (d : Decl) (limit n : ℕ) (reading : ClockReading) (arm : Arm) where
+  has_room : (x : Object) → IsObjectOf d limit n x → d.kind ≢ kinds.Raw → n < limit → (object_timer x).stamp < (object_timer x).limit
+  has_room x is other few = omega (arith, (is.timer other).limit, (is.timer other).stamp, few)
+
   pub allows : (r : Rearming) (x : Object) → IsObjectOf d limit n x → d.kind ≡ rearming_kind r → n < limit → IsOutcomeOf arm (wanted_by r x reading)
       → ObjectAllows x (rearming_call r reading arm)
-  allows rearmings.Accepting objects.Raw is k few outcome = cc
-  allows rearmings.Accepting (objects.Posix t) is k few outcome = (omega (arith, is.3, is.4), outcome)
-  allows rearmings.Accepting (objects.Fd t) is k few outcome = cc
-  allows rearmings.Reading objects.Raw is k few outcome = cc
-  allows rearmings.Reading (objects.Posix t) is k few outcome = cc
-  allows rearmings.Reading (objects.Fd t) is k few outcome = (omega (arith, is.3, is.4), outcome)
-  allows rearmings.Getting objects.Raw is k few outcome = cc
-  allows rearmings.Getting (objects.Posix t) is k few outcome = cc
-  allows rearmings.Getting (objects.Fd t) is k few outcome = (omega (arith, is.3, is.4), outcome)
+  allows r x is k few outcome =
+      at r x (sym k ∙ is.kind) (has_room x is (λ raw. rearming_kind-Raw r (sym k ∙ raw)) few) outcome
+    where
+      at : (r : Rearming) (x : Object) → rearming_kind r ≡ kind_over x → (object_timer x).stamp < (object_timer x).limit → IsOutcomeOf arm (wanted_by r x reading)
+          → ObjectAllows x (rearming_call r reading arm)
+      at rearmings.Accepting (objects.Posix t) k room outcome = (room, outcome)
+      at rearmings.Reading (objects.Fd t) k room outcome = (room, outcome)
+      at rearmings.Getting (objects.Fd t) k room outcome = (room, outcome)
+      at r x k room outcome = absurd cc
 
   pub replies_to : (r : Rearming) (x : Object) (reply : ObjectReply) → IsObjectOf d limit n x → d.kind ≡ rearming_kind r
       → reply ≡ object_answer x (rearming_call r reading arm) → RepliesTo r reply
-  replies_to rearmings.Accepting objects.Raw reply is k e = cc
-  replies_to rearmings.Accepting (objects.Posix t) reply is k e = (_, e, λ n. unspent n t.pending (overrun_of (periods_in t.phase t.interval reading)))
+  replies_to r x reply is k e = at r x reply (sym k ∙ is.kind) e
     where
       unspent : (n : ℕ) (b : Bool) (overrun : ℕ) → (if b then acceptances.Accepted overrun else acceptances.NoSignal) ≡ acceptances.Spent n → ⊥
       unspent n true overrun e = cc
       unspent n false overrun e = cc
-  replies_to rearmings.Accepting (objects.Fd t) reply is k e = cc
-  replies_to rearmings.Reading objects.Raw reply is k e = cc
-  replies_to rearmings.Reading (objects.Posix t) reply is k e = cc
-  replies_to rearmings.Reading (objects.Fd t) reply is k e =
-      (fd_read_answer t reading, e, λ n f. grind (arith, f), λ f. grind (arith, f))
-  replies_to rearmings.Getting objects.Raw reply is k e = cc
-  replies_to rearmings.Getting (objects.Posix t) reply is k e = cc
-  replies_to rearmings.Getting (objects.Fd t) reply is k e = (left_by arm t reading, t.interval, e)
+
+      at : (r : Rearming) (x : Object) (reply : ObjectReply) → rearming_kind r ≡ kind_over x → reply ≡ object_answer x (rearming_call r reading arm) → RepliesTo r reply
+      at rearmings.Accepting (objects.Posix t) reply k e = (_, e, λ n. unspent n t.pending (overrun_of (periods_in t.phase t.interval reading)))
+      at rearmings.Reading (objects.Fd t) reply k e = (fd_read_answer t reading, e, λ n f. grind (arith, f), λ f. grind (arith, f))
+      at rearmings.Getting (objects.Fd t) reply k e = (left_by arm t reading, t.interval, e)
+      at r x reply k e = absurd cc
 
 module _ (o : Opening) (v w : KnownOfTimers) (id base : ℕ) (reading : ClockReading) (arm : Arm) (log log' : List Receipt) where
   bears_none : (phase : Phase) → arm ≡ arms.NotAsked → BearsRestart o w id arm phase
@@ -93,12 +99,7 @@ module _ (o : Opening) (v w : KnownOfTimers) (id base : ℕ) (reading : ClockRea
 
   pub bears : (r : Rearming) (x : Object) → ArmsFor o v w id (wanted_by r x reading) base reading arm log log'
       → BearsRestart o w id arm (phase_of (object_step x (rearming_call r reading arm)))
-  bears rearmings.Accepting objects.Raw started = bears_none phases.Idle started.0
   bears rearmings.Accepting (objects.Posix t) started = bears_accept t.phase t.interval t.pending (nat_lt t.stamp t.limit) _ _ refl started
-  bears rearmings.Accepting (objects.Fd t) started = bears_none t.phase started.0
-  bears rearmings.Reading objects.Raw started = bears_none phases.Idle started.0
-  bears rearmings.Reading (objects.Posix t) started = bears_none t.phase started.0
   bears rearmings.Reading (objects.Fd t) started = bears_read t.phase t.interval (is_canceled t reading) (nat_eq t.count 0) _ _ _ refl started
-  bears rearmings.Getting objects.Raw started = bears_none phases.Idle started.0
-  bears rearmings.Getting (objects.Posix t) started = bears_none t.phase started.0
   bears rearmings.Getting (objects.Fd t) started = bears_expired arm t.phase t.interval started refl
+  bears r x started = bears_none _ started.0

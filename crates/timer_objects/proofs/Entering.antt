@@ -7,8 +7,8 @@ use Rattle.counted_row.specs.Views.{IsPassOfRow, Locks}
 use Rattle.counted_row.specs.Calls.{Commits}
 use Rattle.counted_row.proofs.Calls.{commits_of}
 use Rattle.timer_objects.specs.declared.object.Object.{Object}
-use Rattle.timer_objects.specs.declared.object.ObjectCall.{ObjectCall}
-use Rattle.timer_objects.specs.declared.object.ObjectReply.{ObjectReply}
+use Rattle.timer_setting.specs.declared.object_call.ObjectCall.{ObjectCall}
+use Rattle.timer_setting.specs.declared.object_call.ObjectReply.{ObjectReply}
 use Rattle.timer_objects.specs.Steps.{object_answer}
 use Rattle.timer_objects.specs.Meaning.{object_meaning}
 use Rattle.timer_objects.specs.Known.{Enters, IsObjectsPass, ObjectsOf, ObjectsPass, receipt_of, row_of, seen_of}
@@ -40,3 +40,15 @@ module _ (x : ObjectsOf) (p m q : ObjectsPass) (id : ℕ) (h : Locked Object) (c
         ∙ (ap (λ n. record { object = id; number = n + 1; call = call; reply = object_answer h.state call }) (sym stamp_before)
         ∙ ap (λ r. record { object = id; number = length commits.adds.before + 1; call = call; reply = r }) (sym enters.reply)));
   }
+
+-- the same call by its answer
+abbrev pub answered : {x : ObjectsOf} {old new : Caller} {id : ℕ} {call : ObjectCall} {r s : ObjectReply} → r ≡ s → EntersCall x old new id call r
+    → EntersCall x old new id call s
+answered {old = old} {id = id} {call = call} same e = record {
+  commits = e.commits;
+  may = e.may;
+  reply = sym same ∙ e.reply;
+  room = e.room;
+  object_log = e.object_log
+      ∙ ap (λ r. old.object_log ++ record { object = id; number = length e.commits.adds.before + 1; call = call; reply = r } ∷ []) same;
+}

@@ -9,7 +9,7 @@ use Rattle.expire_pass.specs.declared.expiry.ExpireAnswer.{ExpireAnswer}
 use Rattle.expire_pass.specs.declared.handler.Restart.{Restart}
 use Rattle.base_row.specs.declared.log.Receipt.{Receipt}
 use Rattle.counted_row.specs.Views.{IsPassOfRow, Knows}
-use Rattle.timer_objects.specs.declared.object.ObjectCall.{ObjectCall}
+use Rattle.timer_setting.specs.declared.object_call.ObjectCall.{ObjectCall}
 use Rattle.timer_objects.specs.Meaning.{object_meaning}
 use Rattle.timer_objects.specs.Firings.{Fires, FiresBy, Firing, IsSameLoan, LeavesPass, firing}
 use Rattle.timer_objects.specs.Known.{IsObjectsPass, KeepsObjectsPass, ObjectsOf, ObjectsPass, row_of}

@@ -2,8 +2,8 @@
 use Rattle.std.proofs.Common.{subst, ◌∙◌, ℕ}
 use Rattle.ktime.specs.Readings.{ClockReading}
 use Rattle.base_row.specs.declared.view.Opening.{Opening}
-use Rattle.timer_fd.specs.declared.answers.SettimeAnswer.{SettimeAnswer}
-use Rattle.timer_fd.specs.declared.answers.SettimeAnswer.TheVariants as settings
+use Rattle.timer_setting.specs.declared.answers.SettimeAnswer.{SettimeAnswer}
+use Rattle.timer_setting.specs.declared.answers.SettimeAnswer.TheVariants as settings
 use Rattle.timer_objects.specs.Known.{ObjectsOf}
 use Rattle.timer_objects.specs.Arming.{Disarms}
 use Rattle.timer_objects.specs.Calls.{Caller, HasWaited, SetsTimer, SettimeMade}
@@ -30,7 +30,6 @@ made_after x o first old new id flags value interval reading a waits made = at a
     sets : (a : SettimeAnswer) → SetsTimer x o old new id flags value interval reading a → SetsTimer x o first new id flags value interval reading a
     sets a s = record {
       arm = s.arm;
-      reply = s.reply;
       enters = enters_after waits s.enters;
       begun = s.begun;
       worked = s.worked;
@@ -40,7 +39,6 @@ made_after x o first old new id flags value interval reading a waits made = at a
       disarms = subst (λ l. Disarms o s.begun s.disarmed id l s.cancel_log) waits.log s.disarms;
       arms = s.arms;
       bears = s.bears;
-      answer = s.answer;
     }
 
     at : (a : SettimeAnswer) → SettimeMade x o old new id flags value interval reading a → SettimeMade x o first new id flags value interval reading a

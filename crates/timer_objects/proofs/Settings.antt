@@ -26,32 +26,56 @@ use Rattle.timer_setting.specs.declared.phase.Phase.{Phase}
 use Rattle.timer_setting.specs.declared.phase.Phase.TheVariants as phases
 use Rattle.timer_setting.specs.declared.settime_call.SettimeCall.{SettimeCall}
 use Rattle.timer_setting.specs.Arguments.{bits_beyond, is_absolute, mode_by, start_by}
-use Rattle.timer_setting.specs.Phases.{IsOutcomeOf, armed_by, clock_by, expiry_by}
-use Rattle.timer_fd.specs.declared.answers.SettimeAnswer.{SettimeAnswer}
-use Rattle.timer_fd.specs.declared.answers.SettimeAnswer.TheVariants as settings
-use Rattle.timer_fd.specs.Steps.{answers_canceled}
+use Rattle.timer_setting.specs.Phases.{IsOutcomeOf, armed_by, clock_by, expiry_by, phase_by}
+use Rattle.timer_setting.specs.declared.answers.SettimeAnswer.{SettimeAnswer}
+use Rattle.timer_setting.specs.declared.answers.SettimeAnswer.TheVariants as settings
+use Rattle.posix_timer.specs.Steps.{posix_settime_answer}
+use Rattle.timer_fd.specs.Steps.{answers_canceled, fd_settime_answer}
+use Rattle.timer_setting.specs.declared.object_call.ObjectCall.TheVariants as calls
+use Rattle.timer_setting.specs.declared.object_call.ObjectReply.TheVariants as replies
 use Rattle.timer_objects.specs.declared.object.Decl.{Decl}
 use Rattle.timer_objects.specs.declared.object.Kind.TheVariants as kinds
 use Rattle.timer_objects.specs.declared.object.Object.{Object}
 use Rattle.timer_objects.specs.declared.object.Object.TheVariants as objects
-use Rattle.timer_objects.specs.Steps.{IsObjectOf, ObjectAllows, object_answer, object_step}
+use Rattle.timer_objects.specs.Steps.{IsObjectOf, ObjectAllows, kind_over, object_answer, object_step, object_timer}
 use Rattle.timer_objects.specs.Arming.{ArmsFor, arm_of}
-use Rattle.timer_objects.specs.Calls.{BearsStart, SettimeTells, flags_of, phase_of, settime_call}
+use Rattle.timer_objects.specs.Calls.{BearsStart, flags_of, phase_of}
 use Rattle.timer_objects.specs.Valid.{IsSettimeReply}
 
 -- ---- the object
 
--- a settime with valid arguments is allowed
-pub settime_allowed : (d : Decl) (limit n : ℕ) (x : Object) (c : SettimeCall) → IsObjectOf d limit n x → d.kind ≢ kinds.Raw → n < limit
-    → bits_beyond (flags_of d.kind) c.flags ≡ 0 → c.value ≤ last_time → c.interval ≤ last_time → IsOutcomeOf c.arm (start_by c.flags c.value)
-    → ObjectAllows x (settime_call d.kind c)
-settime_allowed d limit n objects.Raw c is raw room flags value interval outcome = absurd (raw is.0)
-settime_allowed d limit n (objects.Posix t) c is raw room flags value interval outcome =
-    subst (λ k. ObjectAllows (objects.Posix t) (settime_call k c)) (sym is.0)
-    (omega (arith, is.3, is.4), subst (λ k. bits_beyond (flags_of k) c.flags ≡ 0) is.0 flags, value, interval, outcome)
-settime_allowed d limit n (objects.Fd t) c is raw room flags value interval outcome =
-    subst (λ k. ObjectAllows (objects.Fd t) (settime_call k c)) (sym is.0)
-    (omega (arith, is.3, is.4), subst (λ k. bits_beyond (flags_of k) c.flags ≡ 0) is.0 flags, value, interval, outcome)
+module _ (d : Decl) (limit n : ℕ) (x : Object) (c : SettimeCall) (is : IsObjectOf d limit n x) (other : d.kind ≢ kinds.Raw) where
+  -- a settime with valid arguments is allowed
+  pub settime_allowed : n < limit → bits_beyond (flags_of d.kind) c.flags ≡ 0 → c.value ≤ last_time → c.interval ≤ last_time
+      → IsOutcomeOf c.arm (start_by c.flags c.value) → ObjectAllows x (calls.Settime c)
+  settime_allowed room flags value interval outcome =
+      let timer = is.timer other in
+      at x (λ raw. other (is.kind ∙ raw)) (omega (arith, timer.limit, timer.stamp, room)) (subst (λ k. bits_beyond (flags_of k) c.flags ≡ 0) is.kind flags)
+    where
+      at : (x : Object) → kind_over x ≢ kinds.Raw → (object_timer x).stamp < (object_timer x).limit → bits_beyond (flags_of (kind_over x)) c.flags ≡ 0
+          → ObjectAllows x (calls.Settime c)
+      at objects.Raw other room flags = absurd (other refl)
+      at (objects.Posix t) other room flags = (room, flags, value, interval, outcome)
+      at (objects.Fd t) other room flags = (room, flags, value, interval, outcome)
+
+  -- its reply tells an answer
+  pub settime_replies : IsSettimeReply (object_answer x (calls.Settime c))
+  settime_replies = at x (λ raw. other (is.kind ∙ raw))
+    where
+      at : (x : Object) → kind_over x ≢ kinds.Raw → IsSettimeReply (object_answer x (calls.Settime c))
+      at objects.Raw other = absurd (other refl)
+      at (objects.Posix t) other = (_, refl)
+      at (objects.Fd t) other = (_, refl)
+
+  -- the phase after it
+  pub set_phase : phase_of (object_step x (calls.Settime c)) ≡ armed_by c.arm (clock_by d.clock c.flags) (expiry_by d.clock c.flags c.value c.reading)
+  set_phase =
+      at x (λ raw. other (is.kind ∙ raw)) ∙ ap (λ k. armed_by c.arm (clock_by k c.flags) (expiry_by k c.flags c.value c.reading)) (is.timer other).clock
+    where
+      at : (x : Object) → kind_over x ≢ kinds.Raw → phase_of (object_step x (calls.Settime c)) ≡ phase_by (object_timer x).clock c.flags c.value c.reading c.arm
+      at objects.Raw other = absurd (other refl)
+      at (objects.Posix t) other = refl
+      at (objects.Fd t) other = refl
 
 -- an answer that isn't a refusal
 abbrev pub IsGranted : SettimeAnswer → Type 0
@@ -62,51 +86,28 @@ IsGranted (settings.Spent n) = ⊥
 IsGranted settings.BadFlags = ⊥
 IsGranted settings.BadTime = ⊥
 
--- the reply of a settime tells an answer, which is no refusal
-pub settime_replies : (d : Decl) (limit n : ℕ) (x : Object) (c : SettimeCall) → IsObjectOf d limit n x → d.kind ≢ kinds.Raw
-    → IsSettimeReply (object_answer x (settime_call d.kind c))
-settime_replies d limit n objects.Raw c is raw = absurd (raw is.0)
-settime_replies d limit n (objects.Posix t) c is raw = subst (λ k. IsSettimeReply (object_answer (objects.Posix t) (settime_call k c))) (sym is.0) (at c.arm)
-  where
-    at : (arm : Arm) → IsSettimeReply (object_answer (objects.Posix t) (settime_call kinds.Posix (record c { arm = arm })))
-    at arms.NotAsked = (_, refl)
-    at (arms.Armed g) = (_, refl)
-    at (arms.Unarmed k) = (_, refl)
-settime_replies d limit n (objects.Fd t) c is raw =
-    subst (λ k. IsSettimeReply (object_answer (objects.Fd t) (settime_call k c))) (sym is.0) (_, refl)
+pub settime_same : {a b : SettimeAnswer} → replies.Settime a ≡ replies.Settime b → a ≡ b
+settime_same e = cc
 
-pub settime_grants : (d : Decl) (limit n : ℕ) (x : Object) (c : SettimeCall) (a : SettimeAnswer) → IsObjectOf d limit n x → d.kind ≢ kinds.Raw
-    → SettimeTells (object_answer x (settime_call d.kind c)) a → IsGranted a
-settime_grants d limit n objects.Raw c a is raw tells = absurd (raw is.0)
-settime_grants d limit n (objects.Posix t) c a is raw tells =
-    at c.arm (subst (λ k. SettimeTells (object_answer (objects.Posix t) (settime_call k c)) a) is.0 tells)
+-- that answer is no refusal
+pub settime_grants : (x : Object) (c : SettimeCall) (a : SettimeAnswer) → object_answer x (calls.Settime c) ≡ replies.Settime a → IsGranted a
+settime_grants objects.Raw c a tells = cc
+settime_grants (objects.Posix t) c a tells = at c.arm tells
   where
-    at : (arm : Arm) → SettimeTells (object_answer (objects.Posix t) (settime_call kinds.Posix (record c { arm = arm }))) a → IsGranted a
-    at arms.NotAsked e = subst IsGranted (sym e) tt
-    at (arms.Armed g) e = subst IsGranted (sym e) tt
-    at (arms.Unarmed k) e = subst IsGranted (sym e) tt
-settime_grants d limit n (objects.Fd t) c a is raw tells =
-    at c.arm (subst (λ k. SettimeTells (object_answer (objects.Fd t) (settime_call k c)) a) is.0 tells)
+    at : (arm : Arm) → replies.Settime (posix_settime_answer t c.reading arm) ≡ replies.Settime a → IsGranted a
+    at arms.NotAsked e = subst IsGranted (settime_same e) tt
+    at (arms.Armed g) e = subst IsGranted (settime_same e) tt
+    at (arms.Unarmed k) e = subst IsGranted (settime_same e) tt
+settime_grants (objects.Fd t) c a tells = at c.arm tells
   where
     old : (b : Bool) (left interval : ℕ) → IsGranted (if b then settings.Canceled else settings.Old left interval)
     old true left interval = tt
     old false left interval = tt
 
-    at : (arm : Arm) → SettimeTells (object_answer (objects.Fd t) (settime_call kinds.Fd (record c { arm = arm }))) a → IsGranted a
-    at arms.NotAsked e = subst IsGranted (sym e) (old (answers_canceled t c.flags c.value c.reading) _ _)
-    at (arms.Armed g) e = subst IsGranted (sym e) (old (answers_canceled t c.flags c.value c.reading) _ _)
-    at (arms.Unarmed k) e = subst IsGranted (sym e) tt
-
--- the phase after a settime
-pub set_phase : (d : Decl) (limit n : ℕ) (x : Object) (c : SettimeCall) → IsObjectOf d limit n x → d.kind ≢ kinds.Raw
-    → phase_of (object_step x (settime_call d.kind c)) ≡ armed_by c.arm (clock_by d.clock c.flags) (expiry_by d.clock c.flags c.value c.reading)
-set_phase d limit n objects.Raw c is raw = absurd (raw is.0)
-set_phase d limit n (objects.Posix t) c is raw =
-    ap (λ k. phase_of (object_step (objects.Posix t) (settime_call k c))) is.0
-    ∙ ap (λ k. armed_by c.arm (clock_by k c.flags) (expiry_by k c.flags c.value c.reading)) is.1
-set_phase d limit n (objects.Fd t) c is raw =
-    ap (λ k. phase_of (object_step (objects.Fd t) (settime_call k c))) is.0
-    ∙ ap (λ k. armed_by c.arm (clock_by k c.flags) (expiry_by k c.flags c.value c.reading)) is.1
+    at : (arm : Arm) → replies.Settime (fd_settime_answer t c.flags c.value c.reading arm) ≡ replies.Settime a → IsGranted a
+    at arms.NotAsked e = subst IsGranted (settime_same e) (old (answers_canceled t c.flags c.value c.reading) _ _)
+    at (arms.Armed g) e = subst IsGranted (settime_same e) (old (answers_canceled t c.flags c.value c.reading) _ _)
+    at (arms.Unarmed k) e = subst IsGranted (settime_same e) tt
 
 -- ---- the start
 

@@ -4,17 +4,15 @@ use Rattle.std.proofs.lemmas.Bool.{eqb-true}
 use Rattle.std.proofs.lemmas.Bool.Decides.{nat_tests}
 use Rattle.ktime.specs.Readings.{ClockReading}
 use Rattle.base_row.specs.declared.view.Opening.{Opening}
-use Rattle.timer_fd.specs.declared.answers.ReadAnswer.{ReadAnswer}
-use Rattle.timer_fd.specs.declared.answers.ReadAnswer.TheVariants as reads
-use Rattle.timer_fd.specs.declared.calls.Call.TheVariants as fd_calls
-use Rattle.timer_fd.specs.declared.calls.Reply.TheVariants as fd_replies
+use Rattle.timer_setting.specs.declared.answers.ReadAnswer.{ReadAnswer}
+use Rattle.timer_setting.specs.declared.answers.ReadAnswer.TheVariants as reads
+use Rattle.timer_setting.specs.declared.object_call.ObjectCall.TheVariants as calls
+use Rattle.timer_setting.specs.declared.object_call.ObjectReply.TheVariants as replies
 use Rattle.timer_fd.specs.States.{Descriptor, is_canceled}
 use Rattle.timer_fd.specs.Steps.{count_length, fd_read_answer, total_in}
 use Rattle.timer_objects.specs.declared.answers.BlockingRead.{BlockingRead}
 use Rattle.timer_objects.specs.declared.object.Object.{Object}
 use Rattle.timer_objects.specs.declared.object.Object.TheVariants as objects
-use Rattle.timer_objects.specs.declared.object.ObjectCall.TheVariants as calls
-use Rattle.timer_objects.specs.declared.object.ObjectReply.TheVariants as replies
 use Rattle.timer_objects.specs.declared.wanting.Ended.{Ended}
 use Rattle.timer_objects.specs.declared.wanting.Ended.TheVariants as ends
 use Rattle.timer_objects.specs.declared.wanting.Rearming.TheVariants as rearmings
@@ -55,14 +53,14 @@ cancels false false false n is = absurd (cc)
 
 module _ (x : ObjectsOf) (o : Opening) (old new : Caller) (id : ℕ) (reading : ClockReading) where
   -- the reply is that of a read of the descriptor that was found
-  told : (a : ReadAnswer) (m : RearmingMade x o old new id rearmings.Reading reading (replies.Fd (fd_replies.Read a))) (t : Descriptor)
+  told : (a : ReadAnswer) (m : RearmingMade x o old new id rearmings.Reading reading (replies.Read a)) (t : Descriptor)
       → m.enters.commits.state ≡ objects.Fd t → a ≡ fd_read_answer t reading
   told a m t found =
-      let is : replies.Fd (fd_replies.Read a) ≡ replies.Fd (fd_replies.Read (fd_read_answer t reading)) =
-      m.enters.reply ∙ ap (λ (k : Object). object_answer k (calls.Fd (fd_calls.Read reading m.arm))) found in
+      let is : replies.Read a ≡ replies.Read (fd_read_answer t reading) =
+      m.enters.reply ∙ ap (λ (k : Object). object_answer k (calls.Read reading m.arm)) found in
       cc
 
-  abbrev some_of : (a : ReadAnswer) (m : RearmingMade x o old new id rearmings.Reading reading (replies.Fd (fd_replies.Read a)))
+  abbrev some_of : (a : ReadAnswer) (m : RearmingMade x o old new id rearmings.Reading reading (replies.Read a))
       → (s : HasSome reading m.enters.commits.state) → ReadsSome x o old new id reading a
   some_of a m s = record { made = m; descriptor = s.0; found = s.1; some = s.2 }
 
@@ -70,12 +68,12 @@ module _ (x : ObjectsOf) (o : Opening) (old new : Caller) (id : ℕ) (reading : 
   pub reads_blocking : (len : ℕ) → count_length ≤ len → (e : Ended) (a : BlockingRead) → EndsRead x o old new id reading e → AnswersBy e a
       → ReadsBlocking x o old new id len reading a
   reads_blocking len long (ends.Full n) a full is = subst (ReadsBlocking x o old new id len reading) (sym is) (long, full)
-  reads_blocking len long (ends.Made n (replies.Fd (fd_replies.Read (reads.Count total)))) a ended is =
+  reads_blocking len long (ends.Made n (replies.Read (reads.Count total))) a ended is =
       let m = ended.0.0 in
       let t = ended.1.0 in
       let so = counts (is_canceled t reading) (nat_eq t.count 0) (nat_eq (total_in t reading) 0) (total_in t reading) total refl (told (reads.Count total) m t ended.1.1) in
       subst (ReadsBlocking x o old new id len reading) (sym is) (long, so.0, some_of (reads.Count total) m ended.1, so.1)
-  reads_blocking len long (ends.Made n (replies.Fd (fd_replies.Read reads.Again))) a ended is =
+  reads_blocking len long (ends.Made n (replies.Read reads.Again)) a ended is =
       let m = ended.0.0 in
       let t = ended.1.0 in
       subst (ReadsBlocking x o old new id len reading) (sym is) (
@@ -83,7 +81,7 @@ module _ (x : ObjectsOf) (o : Opening) (old new : Caller) (id : ℕ) (reading : 
         some_of reads.Again m ended.1,
         none_left (is_canceled t reading) (nat_eq t.count 0) (nat_eq (total_in t reading) 0) (total_in t reading) refl ended.1.2 (told reads.Again m t ended.1.1),
       )
-  reads_blocking len long (ends.Made n (replies.Fd (fd_replies.Read reads.Canceled))) a ended is =
+  reads_blocking len long (ends.Made n (replies.Read reads.Canceled)) a ended is =
       let m = ended.0.0 in
       let t = ended.1.0 in
       subst (ReadsBlocking x o old new id len reading) (sym is) (
@@ -91,13 +89,7 @@ module _ (x : ObjectsOf) (o : Opening) (old new : Caller) (id : ℕ) (reading : 
         some_of reads.Canceled m ended.1,
         cancels (is_canceled t reading) (nat_eq t.count 0) (nat_eq (total_in t reading) 0) (total_in t reading) (told reads.Canceled m t ended.1.1),
       )
-  reads_blocking len long (ends.Made n (replies.Fd (fd_replies.Read reads.ShortBuffer))) a ended is = absurd is
-  reads_blocking len long (ends.Made n (replies.Fd (fd_replies.Read (reads.Spent k)))) a ended is = absurd is
-  reads_blocking len long (ends.Made n (replies.Fd (fd_replies.Settime r))) a ended is = absurd is
-  reads_blocking len long (ends.Made n (replies.Fd (fd_replies.Trigger r))) a ended is = absurd is
-  reads_blocking len long (ends.Made n (replies.Fd (fd_replies.Gettime r))) a ended is = absurd is
-  reads_blocking len long (ends.Made n (replies.Posix r)) a ended is = absurd is
-  reads_blocking len long (ends.Made n replies.None) a ended is = absurd is
+  reads_blocking len long (ends.Made n reply) a ended is = absurd is
 
   -- law: a call that found a descriptor with something to read ended the read
   pub ends_read : (e : Ended) (object : Object) → HasSome reading object → EndsAt x o old new id rearmings.Reading reading e object

@@ -4,9 +4,9 @@ use Rattle.std.specs.Prelude.{get_or}
 use Rattle.ktime.specs.declared.clock_id.ClockId.TheVariants as clocks
 use Rattle.ktime.specs.Readings.{ClockReading}
 use Rattle.base_row.specs.declared.view.Opening.{Opening}
-use Rattle.timer_fd.specs.declared.answers.ReadAnswer.{ReadAnswer}
-use Rattle.timer_fd.specs.declared.answers.ReadAnswer.TheVariants as reads
-use Rattle.timer_fd.specs.declared.calls.Reply.TheVariants as fd_replies
+use Rattle.timer_setting.specs.declared.answers.ReadAnswer.{ReadAnswer}
+use Rattle.timer_setting.specs.declared.answers.ReadAnswer.TheVariants as reads
+use Rattle.timer_setting.specs.declared.object_call.ObjectReply.TheVariants as replies
 use Rattle.timer_fd.specs.States.{Descriptor, is_canceled, is_readable}
 use Rattle.timer_fd.specs.Steps.{count_length, total_in}
 use Rattle.timer_objects.specs.declared.answers.BlockingRead.{BlockingRead}
@@ -16,8 +16,7 @@ use Rattle.timer_objects.specs.declared.object.Kind.{Kind}
 use Rattle.timer_objects.specs.declared.object.Kind.TheVariants as kinds
 use Rattle.timer_objects.specs.declared.object.Object.{Object}
 use Rattle.timer_objects.specs.declared.object.Object.TheVariants as objects
-use Rattle.timer_objects.specs.declared.object.ObjectReply.{ObjectReply}
-use Rattle.timer_objects.specs.declared.object.ObjectReply.TheVariants as replies
+use Rattle.timer_setting.specs.declared.object_call.ObjectReply.{ObjectReply}
 use Rattle.timer_objects.specs.declared.wanting.Ended.{Ended}
 use Rattle.timer_objects.specs.declared.wanting.Ended.TheVariants as ends
 use Rattle.timer_objects.specs.declared.wanting.Rearming.TheVariants as rearmings
@@ -33,9 +32,8 @@ kind_at decls id = (get_or decls id (record { kind = kinds.Raw; clock = clocks.M
 
 -- the number, where it is a descriptor's
 abbrev pub if_descriptor : Kind → ℕ → List ℕ
-if_descriptor kinds.Raw id = []
-if_descriptor kinds.Posix id = []
 if_descriptor kinds.Fd id = id ∷ []
+if_descriptor kind id = []
 
 -- the descriptors among the objects of a number below this one, in the order of their numbers
 abbrev pub descriptors_below : List Decl → ℕ → List ℕ
@@ -47,7 +45,7 @@ descriptors_below decls (suc n) = descriptors_below decls n ++ if_descriptor (ki
 -- A read that made an entry at this reading, by the step of a read, and so answered; and the descriptor as it was before the entry, which had something
 -- to read: an expiry, or that the clock was set.
 pub record ReadsSome (x : ObjectsOf) (o : Opening) (old new : Caller) (id : ℕ) (reading : ClockReading) (a : ReadAnswer) : Type 0 where
-  pub made : RearmingMade x o old new id rearmings.Reading reading (replies.Fd (fd_replies.Read a))
+  pub made : RearmingMade x o old new id rearmings.Reading reading (replies.Read a)
   pub descriptor : Descriptor
   pub found : made.enters.commits.state ≡ objects.Fd descriptor
   pub some : is_readable descriptor reading ≡ true
@@ -85,16 +83,10 @@ EndedByRead (ends.Made n reply) = RepliesTo rearmings.Reading reply
 
 -- what the entry's reply is told as
 abbrev pub AnswersReply : ObjectReply → BlockingRead → Type 0
-AnswersReply (replies.Fd (fd_replies.Read (reads.Count total))) a = a ≡ blocking.Count total
-AnswersReply (replies.Fd (fd_replies.Read reads.Again)) a = a ≡ blocking.Zero
-AnswersReply (replies.Fd (fd_replies.Read reads.Canceled)) a = a ≡ blocking.Canceled
-AnswersReply (replies.Fd (fd_replies.Read reads.ShortBuffer)) a = ⊥
-AnswersReply (replies.Fd (fd_replies.Read (reads.Spent n))) a = ⊥
-AnswersReply (replies.Fd (fd_replies.Settime r)) a = ⊥
-AnswersReply (replies.Fd (fd_replies.Trigger r)) a = ⊥
-AnswersReply (replies.Fd (fd_replies.Gettime r)) a = ⊥
-AnswersReply (replies.Posix r) a = ⊥
-AnswersReply replies.None a = ⊥
+AnswersReply (replies.Read (reads.Count total)) a = a ≡ blocking.Count total
+AnswersReply (replies.Read reads.Again) a = a ≡ blocking.Zero
+AnswersReply (replies.Read reads.Canceled) a = a ≡ blocking.Canceled
+AnswersReply reply a = ⊥
 
 -- what a read that ended so answers
 abbrev pub AnswersBy : Ended → BlockingRead → Type 0

@@ -11,27 +11,21 @@ use Rattle.timer_setting.specs.declared.arming.Arm.TheVariants as arms
 use Rattle.timer_setting.specs.declared.arming.Wanted.{Wanted}
 use Rattle.timer_setting.specs.declared.phase.Phase.{Phase}
 use Rattle.timer_setting.specs.declared.phase.Phase.TheVariants as phases
-use Rattle.timer_setting.specs.declared.settime_call.SettimeCall.{SettimeCall}
 use Rattle.timer_setting.specs.Arguments.{abstime, bits_beyond, is_bad, start_by, time_of}
 use Rattle.counted_row.specs.Views.{Sees}
 use Rattle.counted_row.specs.Calls.{Commits, ReadsValue}
-use Rattle.posix_timer.specs.declared.answers.AcceptAnswer.{AcceptAnswer}
-use Rattle.posix_timer.specs.declared.answers.AcceptAnswer.TheVariants as acceptances
-use Rattle.posix_timer.specs.declared.answers.SettimeAnswer.TheVariants as posix_settings
-use Rattle.posix_timer.specs.declared.calls.Call.TheVariants as posix_calls
-use Rattle.posix_timer.specs.declared.calls.Reply.TheVariants as posix_replies
+use Rattle.timer_setting.specs.declared.answers.AcceptAnswer.{AcceptAnswer}
+use Rattle.timer_setting.specs.declared.answers.AcceptAnswer.TheVariants as acceptances
+use Rattle.timer_setting.specs.declared.object_call.ObjectCall.TheVariants as calls
+use Rattle.timer_setting.specs.declared.object_call.ObjectReply.TheVariants as replies
 use Rattle.posix_timer.specs.States.{setting_of}
-use Rattle.posix_timer.specs.Steps.{accept_wanted}
-use Rattle.timer_fd.specs.declared.answers.SettimeAnswer.{SettimeAnswer}
-use Rattle.timer_fd.specs.declared.answers.SettimeAnswer.TheVariants as settings
-use Rattle.timer_fd.specs.declared.answers.ReadAnswer.{ReadAnswer}
-use Rattle.timer_fd.specs.declared.answers.ReadAnswer.TheVariants as reads
-use Rattle.timer_fd.specs.declared.answers.GettimeAnswer.TheVariants as lefts
-use Rattle.timer_fd.specs.declared.calls.Call.TheVariants as fd_calls
-use Rattle.timer_fd.specs.declared.calls.Reply.TheVariants as fd_replies
+use Rattle.timer_setting.specs.declared.answers.SettimeAnswer.{SettimeAnswer}
+use Rattle.timer_setting.specs.declared.answers.SettimeAnswer.TheVariants as settings
+use Rattle.timer_setting.specs.declared.answers.ReadAnswer.{ReadAnswer}
+use Rattle.timer_setting.specs.declared.answers.ReadAnswer.TheVariants as reads
+use Rattle.timer_setting.specs.declared.answers.GettimeAnswer.TheVariants as lefts
 use Rattle.timer_fd.specs.States.{fd_flags, is_readable}
-use Rattle.timer_fd.specs.Steps.{count_length, next_to_read}
-use Rattle.timer_setting.specs.Phases.{next_start}
+use Rattle.timer_fd.specs.Steps.{count_length}
 use Rattle.timer_objects.specs.declared.answers.Gettime.{Gettime}
 use Rattle.timer_objects.specs.declared.answers.Gettime.TheVariants as gettimes
 use Rattle.timer_objects.specs.declared.answers.Overrun.{Overrun}
@@ -41,13 +35,11 @@ use Rattle.timer_objects.specs.declared.object.Kind.{Kind}
 use Rattle.timer_objects.specs.declared.object.Kind.TheVariants as kinds
 use Rattle.timer_objects.specs.declared.object.Object.{Object}
 use Rattle.timer_objects.specs.declared.object.Object.TheVariants as objects
-use Rattle.timer_objects.specs.declared.object.ObjectCall.{ObjectCall}
-use Rattle.timer_objects.specs.declared.object.ObjectCall.TheVariants as calls
-use Rattle.timer_objects.specs.declared.object.ObjectReply.{ObjectReply}
-use Rattle.timer_objects.specs.declared.object.ObjectReply.TheVariants as replies
+use Rattle.timer_setting.specs.declared.object_call.ObjectCall.{ObjectCall}
+use Rattle.timer_setting.specs.declared.object_call.ObjectReply.{ObjectReply}
 use Rattle.timer_objects.specs.declared.wanting.Rearming.{Rearming}
 use Rattle.timer_objects.specs.declared.wanting.Rearming.TheVariants as rearmings
-use Rattle.timer_objects.specs.Steps.{ObjectAllows, object_answer, object_step}
+use Rattle.timer_objects.specs.Steps.{ObjectAllows, object_answer, object_step, object_timer, object_wanted}
 use Rattle.timer_objects.specs.Meaning.{object_meaning}
 use Rattle.timer_objects.specs.Known.{ObjectsOf, ObjectsPass, decl_at, seen_of}
 use Rattle.timer_objects.specs.Arming.{ArmsFor, Disarms}
@@ -90,9 +82,7 @@ pub record EntersCall (x : ObjectsOf) (old new : Caller) (id : ℕ) (call : Obje
 
 -- the phase of an object
 abbrev pub phase_of : Object → Phase
-phase_of objects.Raw = phases.Idle
-phase_of (objects.Posix t) = t.phase
-phase_of (objects.Fd t) = t.phase
+phase_of object = (object_timer object).phase
 
 -- ---- settime
 
@@ -108,31 +98,10 @@ argument_refusal kind flags value interval =
     if not (nat_eq (bits_beyond (flags_of kind) flags) 0) then Some settings.BadFlags
     else (if is_bad value || is_bad interval then Some settings.BadTime else None)
 
--- a settime as a call on an object of this kind
-abbrev pub settime_call : Kind → SettimeCall → ObjectCall
-settime_call kinds.Raw c = calls.Posix (posix_calls.Settime c)
-settime_call kinds.Posix c = calls.Posix (posix_calls.Settime c)
-settime_call kinds.Fd c = calls.Fd (fd_calls.Settime c)
-
--- the same with its arguments
-abbrev pub settime_by : ObjectsOf → ℕ → ℕ → ℕ → ℕ → ClockReading → Arm → ObjectCall
-settime_by x id flags value interval reading arm =
-    settime_call (decl_at x id).kind (record { flags = flags; value = value; interval = interval; reading = reading; arm = arm })
-
--- what its reply answers to the caller
-abbrev pub SettimeTells : ObjectReply → SettimeAnswer → Type 0
-SettimeTells (replies.Posix (posix_replies.Settime (posix_settings.Old left interval))) a = a ≡ settings.Old left interval
-SettimeTells (replies.Posix (posix_replies.Settime (posix_settings.Unarmed stamp))) a = a ≡ settings.Unarmed stamp
-SettimeTells (replies.Posix (posix_replies.Settime posix_settings.BadFlags)) a = ⊥
-SettimeTells (replies.Posix (posix_replies.Settime posix_settings.BadTime)) a = ⊥
-SettimeTells (replies.Posix (posix_replies.Settime (posix_settings.Spent stamp))) a = ⊥
-SettimeTells (replies.Posix (posix_replies.Trigger r)) a = ⊥
-SettimeTells (replies.Posix (posix_replies.Accept r)) a = ⊥
-SettimeTells (replies.Fd (fd_replies.Settime r)) a = a ≡ r
-SettimeTells (replies.Fd (fd_replies.Trigger r)) a = ⊥
-SettimeTells (replies.Fd (fd_replies.Read r)) a = ⊥
-SettimeTells (replies.Fd (fd_replies.Gettime r)) a = ⊥
-SettimeTells replies.None a = ⊥
+-- a settime with these arguments
+abbrev pub settime_by : ℕ → ℕ → ℕ → ClockReading → Arm → ObjectCall
+settime_by flags value interval reading arm =
+    calls.Settime (record { flags = flags; value = value; interval = interval; reading = reading; arm = arm })
 
 -- a generation that a settime armed is the one that the object's phase has, with the timer's clock and expiry
 abbrev pub BearsStart : Opening → KnownOfTimers → ℕ → Arm → Phase → Type 0
@@ -144,8 +113,7 @@ BearsStart o k t (arms.Unarmed stamp) phase = phase ≡ phases.Idle
 -- isn't zero; then the object's entry was made. All of it is one turn of the object.
 pub record SetsTimer (x : ObjectsOf) (o : Opening) (old new : Caller) (id flags value interval : ℕ) (reading : ClockReading) (a : SettimeAnswer) : Type 0 where
   pub arm : Arm
-  pub reply : ObjectReply
-  pub enters : EntersCall x old new id (settime_by x id flags value interval reading arm) reply
+  pub enters : EntersCall x old new id (settime_by flags value interval reading arm) (replies.Settime a)
   pub begun : KnownOfTimers
   pub worked : KnownOfTimers
   pub turn : HasTurn id (length enters.commits.adds.before) old.timers begun worked new.timers
@@ -153,8 +121,7 @@ pub record SetsTimer (x : ObjectsOf) (o : Opening) (old new : Caller) (id flags 
   pub cancel_log : List Receipt
   pub disarms : Disarms o begun disarmed id old.log cancel_log
   pub arms : ArmsFor o disarmed worked id (start_by flags value) (decl_at x id).base reading arm cancel_log new.log
-  pub bears : BearsStart o worked id arm (phase_of (object_step enters.commits.state (settime_by x id flags value interval reading arm)))
-  pub answer : SettimeTells reply a
+  pub bears : BearsStart o worked id arm (phase_of (object_step enters.commits.state (settime_by flags value interval reading arm)))
 
 -- a settime with valid arguments: it is refused exactly where the object's history is full
 abbrev pub SettimeMade : ObjectsOf → Opening → Caller → Caller → ℕ → ℕ → ℕ → ℕ → ClockReading → SettimeAnswer → Type 0
@@ -181,18 +148,15 @@ BearsRestart o k t (arms.Armed generation) (phases.Armed armed clock expires) = 
 BearsRestart o k t (arms.Armed generation) (phases.Expired clock expires) = ⊥
 BearsRestart o k t (arms.Unarmed stamp) phase = phase ≡ phases.Idle
 
--- the start that a call of this kind wants of an object whose history has room
-abbrev pub wanted_by : Rearming → Object → ClockReading → Option Wanted
-wanted_by rearmings.Accepting (objects.Posix t) reading = accept_wanted t reading
-wanted_by rearmings.Reading (objects.Fd t) reading = next_to_read t reading
-wanted_by rearmings.Getting (objects.Fd t) reading = next_start t.phase t.interval reading
-wanted_by r object reading = None
-
--- the call, with the outcome of that start
+-- the call, with the outcome of the start that it wants
 abbrev pub rearming_call : Rearming → ClockReading → Arm → ObjectCall
-rearming_call rearmings.Accepting reading arm = calls.Posix (posix_calls.Accept reading arm)
-rearming_call rearmings.Reading reading arm = calls.Fd (fd_calls.Read reading arm)
-rearming_call rearmings.Getting reading arm = calls.Fd (fd_calls.Gettime reading arm)
+rearming_call rearmings.Accepting reading arm = calls.Accept reading arm
+rearming_call rearmings.Reading reading arm = calls.Read reading arm
+rearming_call rearmings.Getting reading arm = calls.Gettime reading arm
+
+-- that start, of an object whose history has room
+abbrev pub wanted_by : Rearming → Object → ClockReading → Option Wanted
+wanted_by r object reading = object_wanted object (rearming_call r reading arms.NotAsked)
 
 -- Such a call was made: while the object was locked its timer was started in the mode that keeps its clock, where the call wants that; then the
 -- object's entry was made. All of it is one turn of the object.
@@ -209,20 +173,20 @@ pub record RearmingMade (x : ObjectsOf) (o : Opening) (old new : Caller) (id : �
 abbrev pub Accepts : ObjectsOf → Opening → Caller → Caller → ℕ → ClockReading → AcceptAnswer → Type 0
 Accepts x o old new id reading (acceptances.Spent n) = FindsFull x old new id n
 Accepts x o old new id reading (acceptances.Accepted overrun) =
-    RearmingMade x o old new id rearmings.Accepting reading (replies.Posix (posix_replies.Accept (acceptances.Accepted overrun)))
+    RearmingMade x o old new id rearmings.Accepting reading (replies.Accept (acceptances.Accepted overrun))
 Accepts x o old new id reading acceptances.NoSignal =
-    RearmingMade x o old new id rearmings.Accepting reading (replies.Posix (posix_replies.Accept acceptances.NoSignal))
+    RearmingMade x o old new id rearmings.Accepting reading (replies.Accept acceptances.NoSignal)
 
 -- a read: a buffer that is too short is refused first, and nothing is other than before
 abbrev pub ReadsFd : ObjectsOf → Opening → Caller → Caller → ℕ → ℕ → ClockReading → ReadAnswer → Type 0
 ReadsFd x o old new id len reading reads.ShortBuffer = (len < count_length) × (new ≡ old)
 ReadsFd x o old new id len reading (reads.Spent n) = (count_length ≤ len) × FindsFull x old new id n
 ReadsFd x o old new id len reading (reads.Count total) =
-    (count_length ≤ len) × RearmingMade x o old new id rearmings.Reading reading (replies.Fd (fd_replies.Read (reads.Count total)))
+    (count_length ≤ len) × RearmingMade x o old new id rearmings.Reading reading (replies.Read (reads.Count total))
 ReadsFd x o old new id len reading reads.Canceled =
-    (count_length ≤ len) × RearmingMade x o old new id rearmings.Reading reading (replies.Fd (fd_replies.Read reads.Canceled))
+    (count_length ≤ len) × RearmingMade x o old new id rearmings.Reading reading (replies.Read reads.Canceled)
 ReadsFd x o old new id len reading reads.Again =
-    (count_length ≤ len) × RearmingMade x o old new id rearmings.Reading reading (replies.Fd (fd_replies.Read reads.Again))
+    (count_length ≤ len) × RearmingMade x o old new id rearmings.Reading reading (replies.Read reads.Again)
 
 -- ---- looks
 
@@ -242,7 +206,7 @@ Gettimes x o old new id reading kinds.Posix (gettimes.Left left interval stamp) 
     (t : _) × LooksAtObject old new id (objects.Posix t) stamp × (record { left = left; interval = interval } ≡ setting_of t reading)
 Gettimes x o old new id reading kinds.Posix (gettimes.Spent stamp) = ⊥
 Gettimes x o old new id reading kinds.Fd (gettimes.Left left interval stamp) =
-    RearmingMade x o old new id rearmings.Getting reading (replies.Fd (fd_replies.Gettime (lefts.Left left interval))) × (stamp ≡ length (seen_of new.objects id))
+    RearmingMade x o old new id rearmings.Getting reading (replies.Gettime (lefts.Left left interval)) × (stamp ≡ length (seen_of new.objects id))
 Gettimes x o old new id reading kinds.Fd (gettimes.Spent n) = FindsFull x old new id n
 Gettimes x o old new id reading kinds.Raw a = ⊥
 

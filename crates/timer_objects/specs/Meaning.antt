@@ -3,8 +3,8 @@ use Rattle.std.specs.Prelude.{ℕ, List, [], map}
 use Rattle.counted_row.specs.Meaning.{CallMeaning, plain}
 use Rattle.timer_objects.specs.declared.object.Decl.{Decl}
 use Rattle.timer_objects.specs.declared.object.Object.{Object}
-use Rattle.timer_objects.specs.declared.object.ObjectCall.{ObjectCall}
-use Rattle.timer_objects.specs.declared.object.ObjectReply.{ObjectReply}
+use Rattle.timer_setting.specs.declared.object_call.ObjectCall.{ObjectCall}
+use Rattle.timer_setting.specs.declared.object_call.ObjectReply.{ObjectReply}
 use Rattle.timer_objects.specs.Steps.{ObjectAllows, object_answer, object_step, opened_object}
 
 -- the calls of a row of objects; there are no claims

@@ -5,19 +5,17 @@ use Rattle.pass_names.specs.SharedHistory.{LooksOn}
 use Rattle.base_row.specs.Logs.{LogOf}
 use Rattle.hr_timers.specs.Known.{IsPassOf, PassOf}
 use Rattle.base_row.specs.declared.view.Opening.{Opening}
-use Rattle.posix_timer.specs.declared.answers.AcceptAnswer.{AcceptAnswer}
-use Rattle.posix_timer.specs.declared.answers.AcceptAnswer.TheVariants as acceptances
-use Rattle.posix_timer.specs.declared.calls.Reply.TheVariants as posix_replies
-use Rattle.timer_fd.specs.declared.answers.ReadAnswer.{ReadAnswer}
-use Rattle.timer_fd.specs.declared.answers.ReadAnswer.TheVariants as reads
-use Rattle.timer_fd.specs.declared.answers.GettimeAnswer.TheVariants as lefts
-use Rattle.timer_fd.specs.declared.calls.Reply.TheVariants as fd_replies
+use Rattle.timer_setting.specs.declared.answers.AcceptAnswer.{AcceptAnswer}
+use Rattle.timer_setting.specs.declared.answers.AcceptAnswer.TheVariants as acceptances
+use Rattle.timer_setting.specs.declared.object_call.ObjectReply.TheVariants as replies
+use Rattle.timer_setting.specs.declared.answers.ReadAnswer.{ReadAnswer}
+use Rattle.timer_setting.specs.declared.answers.ReadAnswer.TheVariants as reads
+use Rattle.timer_setting.specs.declared.answers.GettimeAnswer.TheVariants as lefts
 use Rattle.timer_objects.specs.declared.object.Kind.{Kind}
 use Rattle.timer_objects.specs.declared.object.Kind.TheVariants as kinds
 use Rattle.timer_objects.specs.declared.object.Object.{Object}
 use Rattle.timer_objects.specs.declared.object.Object.TheVariants as objects
-use Rattle.timer_objects.specs.declared.object.ObjectReply.{ObjectReply}
-use Rattle.timer_objects.specs.declared.object.ObjectReply.TheVariants as replies
+use Rattle.timer_setting.specs.declared.object_call.ObjectReply.{ObjectReply}
 use Rattle.timer_objects.specs.declared.wanting.Rearming.{Rearming}
 use Rattle.timer_objects.specs.declared.wanting.Rearming.TheVariants as rearmings
 use Rattle.timer_objects.specs.declared.wanting.Ended.{Ended}
@@ -29,6 +27,7 @@ use Rattle.timer_objects.specs.Meaning.{object_meaning}
 use Rattle.timer_objects.specs.declared.log.ObjectReceipt.{ObjectReceipt}
 use Rattle.timer_objects.specs.Known.{HoldsObject, IsObjectsPass, ObjectsOf, ObjectsPass, Suits, row_of, seen_of}
 use Rattle.timer_objects.specs.Calls.{Caller, FindsFull, RearmingMade}
+use Rattle.timer_objects.specs.Steps.{object_timer}
 use Rattle.timer_objects.specs.Turns.{turns_told}
 use Rattle.base_row.specs.declared.log.Receipt.{Receipt}
 use Rattle.base_row.specs.Calls.{BaseRowOf}
@@ -52,16 +51,15 @@ rearming_kind rearmings.Getting = kinds.Fd
 -- the history of an object that has one has room for an entry
 abbrev pub HasEntryRoom : Object → Type 0
 HasEntryRoom objects.Raw = Unit
-HasEntryRoom (objects.Posix t) = t.stamp < t.limit
-HasEntryRoom (objects.Fd t) = t.stamp < t.limit
+HasEntryRoom object = (object_timer object).stamp < (object_timer object).limit
 
 -- an entry of such a call has a reply of this form: a refusal makes no entry
 abbrev pub RepliesTo : Rearming → ObjectReply → Type 0
 RepliesTo rearmings.Accepting reply =
-    (a : AcceptAnswer) × (reply ≡ replies.Posix (posix_replies.Accept a)) × ((n : ℕ) → a ≡ acceptances.Spent n → ⊥)
+    (a : AcceptAnswer) × (reply ≡ replies.Accept a) × ((n : ℕ) → a ≡ acceptances.Spent n → ⊥)
 RepliesTo rearmings.Reading reply =
-    (a : ReadAnswer) × (reply ≡ replies.Fd (fd_replies.Read a)) × ((n : ℕ) → a ≡ reads.Spent n → ⊥) × (a ≡ reads.ShortBuffer → ⊥)
-RepliesTo rearmings.Getting reply = (left interval : ℕ) × (reply ≡ replies.Fd (fd_replies.Gettime (lefts.Left left interval)))
+    (a : ReadAnswer) × (reply ≡ replies.Read a) × ((n : ℕ) → a ≡ reads.Spent n → ⊥) × (a ≡ reads.ShortBuffer → ⊥)
+RepliesTo rearmings.Getting reply = (left interval : ℕ) × (reply ≡ replies.Gettime (lefts.Left left interval))
 
 -- ---- a caller and its passes
 

@@ -6,17 +6,13 @@ use Rattle.hr_timers.specs.declared.numbers.ClaimNumbers.{ClaimNumbers}
 use Rattle.hr_timers.specs.Known.{KnownOfTimers}
 use Rattle.timer_setting.specs.declared.trigger_answer.TriggerAnswer.TheVariants as triggers
 use Rattle.counted_row.specs.Calls.{Commits, ReadsValue}
-use Rattle.posix_timer.specs.declared.calls.Call.TheVariants as posix_calls
-use Rattle.posix_timer.specs.declared.calls.Reply.TheVariants as posix_replies
-use Rattle.timer_fd.specs.declared.calls.Call.TheVariants as fd_calls
-use Rattle.timer_fd.specs.declared.calls.Reply.TheVariants as fd_replies
+use Rattle.timer_setting.specs.declared.object_call.ObjectCall.TheVariants as calls
+use Rattle.timer_setting.specs.declared.object_call.ObjectReply.TheVariants as replies
 use Rattle.timer_objects.specs.declared.log.ObjectReceipt.{ObjectReceipt}
 use Rattle.timer_objects.specs.declared.object.Kind.{Kind}
 use Rattle.timer_objects.specs.declared.object.Kind.TheVariants as kinds
-use Rattle.timer_objects.specs.declared.object.ObjectCall.{ObjectCall}
-use Rattle.timer_objects.specs.declared.object.ObjectCall.TheVariants as calls
-use Rattle.timer_objects.specs.declared.object.ObjectReply.{ObjectReply}
-use Rattle.timer_objects.specs.declared.object.ObjectReply.TheVariants as replies
+use Rattle.timer_setting.specs.declared.object_call.ObjectCall.{ObjectCall}
+use Rattle.timer_setting.specs.declared.object_call.ObjectReply.{ObjectReply}
 use Rattle.timer_objects.specs.Steps.{ObjectAllows, object_answer}
 use Rattle.timer_objects.specs.Meaning.{object_meaning}
 use Rattle.timer_objects.specs.Known.{ObjectsOf, ObjectsPass, seen_of}
@@ -25,13 +21,11 @@ use Rattle.timer_objects.specs.Turns.{HasTurn, turns_told}
 -- the trigger of an object of this kind by a claim of its timer, at this reading; a timer by itself has none
 abbrev pub trigger_of : Kind → ClaimNumbers → ClockReading → Option ObjectCall
 trigger_of kinds.Raw c reading = None
-trigger_of kinds.Posix c reading = Some (calls.Posix (posix_calls.Trigger c.generation reading))
-trigger_of kinds.Fd c reading = Some (calls.Fd (fd_calls.Trigger c.generation reading))
+trigger_of kind c reading = Some (calls.Trigger c.generation reading)
 
 -- what a trigger answers where the object's history is full, with so many entries
-abbrev pub trigger_refused : ObjectCall → ℕ → ObjectReply
-trigger_refused (calls.Posix c) n = replies.Posix (posix_replies.Trigger (triggers.Spent n))
-trigger_refused (calls.Fd c) n = replies.Fd (fd_replies.Trigger (triggers.Spent n))
+abbrev pub trigger_refused : ℕ → ObjectReply
+trigger_refused n = replies.Trigger (triggers.Spent n)
 
 module _ (x : ObjectsOf) (p q : ObjectsPass) (log log' : List ObjectReceipt) (v w : KnownOfTimers) where
   -- The trigger stands last in the object's history, which had room for it, and a receipt of it was noted. It had a turn of the object, in which it did
@@ -53,7 +47,7 @@ module _ (x : ObjectsOf) (p q : ObjectsPass) (log log' : List ObjectReceipt) (v 
     pub looks : LooksOn v w
     pub told : turns_told id w ≡ length (seen_of q id) + length (seen_of q id)
     pub receipt : log'
-        ≡ log ++ record { object = id; number = length (seen_of q id); call = call; reply = trigger_refused call (length (seen_of q id)) } ∷ []
+        ≡ log ++ record { object = id; number = length (seen_of q id); call = call; reply = trigger_refused (length (seen_of q id)) } ∷ []
 
   -- a claim of its timer triggers the object, unless that one's history is full
   abbrev pub Triggers : ClaimNumbers → ObjectCall → Type 0

@@ -10,12 +10,13 @@ use Rattle.timer_setting.specs.declared.arming.Arm.{Arm}
 use Rattle.timer_setting.specs.declared.arming.Wanted.{Wanted}
 use Rattle.timer_setting.specs.declared.settime_call.SettimeCall.{SettimeCall}
 use Rattle.timer_objects.specs.declared.object.Kind.{Kind}
-use Rattle.timer_objects.specs.declared.object.ObjectReply.{ObjectReply}
+use Rattle.timer_setting.specs.declared.object_call.ObjectReply.{ObjectReply}
+use Rattle.timer_setting.specs.declared.object_call.ObjectReply.TheVariants as replies
 use Rattle.timer_objects.specs.declared.settime.ValidSettime.{ValidSettime}
 use Rattle.timer_objects.specs.Arming.{ArmsFor, Disarms}
-use Rattle.timer_objects.specs.Calls.{SettimeTells, flags_of}
+use Rattle.timer_objects.specs.Calls.{flags_of}
 use Rattle.timer_objects.specs.Turns.{BeginsTurn}
-use Rattle.timer_fd.specs.declared.answers.SettimeAnswer.{SettimeAnswer}
+use Rattle.timer_setting.specs.declared.answers.SettimeAnswer.{SettimeAnswer}
 
 -- the arguments are valid for an object of this kind
 pub record IsValidSettime (kind : Kind) (v : ValidSettime) : Type 0 where
@@ -25,7 +26,7 @@ pub record IsValidSettime (kind : Kind) (v : ValidSettime) : Type 0 where
 
 -- a settime that made an entry has this reply
 abbrev pub IsSettimeReply : ObjectReply → Type 0
-IsSettimeReply reply = (a : SettimeAnswer) × SettimeTells reply a
+IsSettimeReply reply = (a : SettimeAnswer) × (reply ≡ replies.Settime a)
 
 -- a settime, with the outcome of the start that it wanted
 abbrev pub settime_with : ValidSettime → Arm → SettimeCall

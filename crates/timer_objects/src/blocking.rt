@@ -11,7 +11,7 @@ ghost use Rattle.timer_objects.specs.BlockingReads.{AnswersBy, EndedByRead, Ends
 
 use crate::answers::BlockingRead;
 use crate::log::ObjectLog;
-use crate::object::{Object, ObjectReply};
+use crate::object::Object;
 use crate::objects::Objects;
 use crate::readers::Reader;
 use crate::wanting::{COUNT_LENGTH, Ended, Rearming};
@@ -21,7 +21,7 @@ use expire_pass::Log;
 use hr_timers::{Pass, Timers};
 use ktime::Reading;
 use std::sync::Wait;
-use timer_fd::ReadAnswer;
+use timer_setting::{ObjectReply, ReadAnswer};
 
 impl Objects {
     /// Reads how often a reader's descriptor has expired, as `read` does, but waits while there is nothing to read (`read(2)` of a descriptor
@@ -149,7 +149,7 @@ fn answer_of(ended: Ended) -> BlockingRead
         Ended::Full { stamp } => BlockingRead::Spent { stamp },
         Ended::Made {
             stamp: _,
-            reply: ObjectReply::Fd(timer_fd::Reply::Read(answer)),
+            reply: ObjectReply::Read(answer),
         } => match answer {
             ReadAnswer::Count { total } => BlockingRead::Count { total },
             ReadAnswer::Again => BlockingRead::Zero,

@@ -8,7 +8,7 @@ ghost use Rattle.timer_objects.specs.Rearming.{Ends, EndsAt, HasLocked, IsHoldin
 
 use crate::arming::arm;
 use crate::log::ObjectLog;
-use crate::object::{Object, ObjectCall, ObjectReply};
+use crate::object::Object;
 use crate::objects::Objects;
 use crate::turns::{begin, end};
 use crate::wanting::{COUNT_LENGTH, Ended, Rearming, wanted};
@@ -16,10 +16,8 @@ use counted_row::{Held, RowPass};
 use expire_pass::Log;
 use hr_timers::{Pass, Timers};
 use ktime::Reading;
-use posix_timer::AcceptAnswer;
 use std::sync::Wait;
-use timer_fd::ReadAnswer;
-use timer_setting::Arm;
+use timer_setting::{AcceptAnswer, Arm, ObjectCall, ObjectReply, ReadAnswer};
 
 impl Objects {
     /// Accepts the pending signal of a POSIX timer (`sigwaitinfo`). A periodic timer is then armed again.
@@ -61,7 +59,7 @@ impl Objects {
             Ended::Full { stamp } => AcceptAnswer::Spent { stamp },
             Ended::Made {
                 stamp: _,
-                reply: ObjectReply::Posix(posix_timer::Reply::Accept(answer)),
+                reply: ObjectReply::Accept(answer),
             } => answer,
             Ended::Made { .. } => unreachable!(),
         }
@@ -110,7 +108,7 @@ impl Objects {
             Ended::Full { stamp } => ReadAnswer::Spent { stamp },
             Ended::Made {
                 stamp: _,
-                reply: ObjectReply::Fd(timer_fd::Reply::Read(answer)),
+                reply: ObjectReply::Read(answer),
             } => answer,
             Ended::Made { .. } => unreachable!(),
         }
@@ -198,8 +196,8 @@ fn call_of(call: Rearming, reading: Reading, arm: Arm) -> ObjectCall
     ensures { result ≡ rearming_call call reading arm }
 {
     match call {
-        Rearming::Accepting => ObjectCall::Posix(posix_timer::Call::Accept { reading, arm }),
-        Rearming::Reading => ObjectCall::Fd(timer_fd::Call::Read { reading, arm }),
-        Rearming::Getting => ObjectCall::Fd(timer_fd::Call::Gettime { reading, arm }),
+        Rearming::Accepting => ObjectCall::Accept { reading, arm },
+        Rearming::Reading => ObjectCall::Read { reading, arm },
+        Rearming::Getting => ObjectCall::Gettime { reading, arm },
     }
 }

@@ -5,9 +5,10 @@ pub use answers::{BlockingRead, Gettime, Overrun, Readable};
 pub use callback::Callback;
 pub use firing::{Firing, FiringWith};
 pub use log::{ObjectLog, ObjectReceipt};
-pub use object::{Decl, Kind, Object, ObjectCall, ObjectReply};
+pub use object::{Decl, Kind, Object};
 pub use objects::Objects;
 pub use readers::Reader;
+pub use timer_setting::{ObjectCall, ObjectReply};
 
 mod answers;
 mod arming;

@@ -1,8 +1,8 @@
 //! A log of a caller's own entries of objects.
 ghost use Rattle.std.specs.Prelude.{◌≡◌, ◌<◌, ◌+◌, [], ◌∷◌, ◌++◌};
 
-use crate::object::{ObjectCall, ObjectReply};
 use expire_pass::ReceiptLog;
+use timer_setting::{ObjectCall, ObjectReply};
 
 /// An entry of an object, with its number among the object's; or, where the reply is that the object's history is full, a trigger that was
 /// refused, with the number of entries there.

@@ -11,7 +11,7 @@ ghost use Rattle.timer_objects.specs.Rearming.{FindsObject, IsCallerOf, KeepsNam
 
 use crate::answers::{Gettime, Overrun, Readable};
 use crate::log::ObjectLog;
-use crate::object::{Kind, Object, ObjectReply};
+use crate::object::{Kind, Object};
 use crate::objects::Objects;
 use crate::wanting::{Ended, Rearming};
 use counted_row::RowPass;
@@ -19,7 +19,7 @@ use expire_pass::Log;
 use hr_timers::{Pass, Timers};
 use ktime::Reading;
 use std::sync::Wait;
-use timer_fd::GettimeAnswer;
+use timer_setting::{GettimeAnswer, ObjectReply};
 
 impl Objects {
     /// How long until the next expiry, and the interval (`timer_gettime`, `timerfd_gettime`). A descriptor that is periodic and has expired is
@@ -103,9 +103,7 @@ impl Objects {
             Ended::Full { stamp } => Gettime::Spent { stamp },
             Ended::Made {
                 stamp,
-                reply: ObjectReply::Fd(
-                    timer_fd::Reply::Gettime(GettimeAnswer::Left { left, interval }),
-                ),
+                reply: ObjectReply::Gettime(GettimeAnswer::Left { left, interval }),
             } => Gettime::Left {
                 left,
                 interval,

@@ -1,4 +1,4 @@
-//! What an object is, and its calls that make an entry.
+//! What an object is, by its kind, and the entry of a call.
 ghost use Rattle.std.specs.Prelude.{◌≡◌, ◌≤◌, ◌<◌};
 ghost use Rattle.timer_setting.specs.Settimes.{most_entries};
 ghost use Rattle.timer_objects.specs.Steps.{opened_object};
@@ -6,6 +6,7 @@ ghost use Rattle.timer_objects.specs.Steps.{opened_object};
 use ktime::ClockId;
 use posix_timer::PosixState;
 use timer_fd::FdState;
+use timer_setting::{ObjectCall, ObjectReply};
 
 /// What stands over a timer.
 #[derive(Clone, Copy, Debug, PartialEq, Eq)]
@@ -34,22 +35,6 @@ pub enum Object {
     Fd(FdState),
 }
 
-/// A call that makes an entry in an object's history.
-#[derive(Clone, Copy, Debug, PartialEq, Eq, Drop)]
-pub enum ObjectCall {
-    Posix(posix_timer::Call),
-    Fd(timer_fd::Call),
-}
-
-/// What such a call answers.
-#[derive(Clone, Copy, Debug, PartialEq, Eq)]
-pub enum ObjectReply {
-    /// The object has no such call.
-    None,
-    Posix(posix_timer::Reply),
-    Fd(timer_fd::Reply),
-}
-
 impl Object {
     /// An object that was just made. At `limit` entries its history is full.
     pub fn make(decl: Decl, limit: u64) -> Object
@@ -75,12 +60,10 @@ impl counted_row::Object for Object {
     ghost meaning = { object_meaning };
 
     fn apply(&mut self, call: &ObjectCall) -> ObjectReply {
-        match (self, *call) {
-            (Object::Posix(timer), ObjectCall::Posix(call)) => {
-                ObjectReply::Posix(timer.apply(call))
-            }
-            (Object::Fd(timer), ObjectCall::Fd(call)) => ObjectReply::Fd(timer.apply(call)),
-            _ => ObjectReply::None,
+        match self {
+            Object::Raw => ObjectReply::None,
+            Object::Posix(timer) => timer.apply(*call),
+            Object::Fd(timer) => timer.apply(*call),
         }
     }
 

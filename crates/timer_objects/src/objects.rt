@@ -4,18 +4,18 @@ ghost use Rattle.pass_names.specs.Names.{AnswersFor, IsLast};
 ghost use Rattle.pass_names.specs.Passes.{HasEach, Meets, Retires};
 ghost use Rattle.timer_setting.specs.Settimes.{most_entries};
 ghost use Rattle.counted_row.specs.Views.{IsPassOfRow, Locks, first_view, new_view, released, split_view};
-ghost use Rattle.timer_objects.specs.declared.object.ObjectCall.TheVariants as calls;
 ghost use Rattle.timer_objects.specs.BlockingReads.{descriptors_below};
 ghost use Rattle.timer_objects.specs.Meaning.{object_meaning, opened_objects};
 ghost use Rattle.timer_objects.specs.Known.{Enters, HoldsObject, IsObjectsPass, MayEnter, decl_at, receipt_of, row_of, seen_of};
 
 use crate::log::{ObjectLog, note};
-use crate::object::{Decl, Kind, Object, ObjectCall, ObjectReply};
+use crate::object::{Decl, Kind, Object};
 use crate::readers::{Bells, Reader};
 use counted_row::{Held, Row, RowPass};
 use std::alloc::{AllocError, Global};
 use std::marker::Model;
 use std::sync::Wait;
+use timer_setting::{ObjectCall, ObjectReply};
 
 /// POSIX timers, timer descriptors and timers by themselves, each over the timer of the same number.
 #[derive(Drop)]
@@ -29,7 +29,6 @@ pub struct Objects {
 impl Model for Objects {
     ghost use Rattle.std.specs.Prelude.{◌≡◌, ◌≤◌, ◌<◌, length};
     ghost use Rattle.timer_setting.specs.Settimes.{most_entries};
-    ghost use Rattle.timer_objects.specs.declared.object.ObjectCall.TheVariants as calls;
     ghost use Rattle.timer_objects.specs.Meaning.{opened_objects};
     ghost use Rattle.timer_objects.specs.Known.{ObjectsOf};
 
@@ -169,11 +168,7 @@ impl Objects {
         ensures receipt { log.new.receipts ≡ log.old.receipts ++ receipt_of held call.now ∷ [] }
         ensures spare { log.new.spare + 1 ≡ log.old.spare }
     {
-        // Each kind by itself, since the check of a commit has to see the type of its calls.
-        let (number, reply) = match *call {
-            ObjectCall::Posix(call) => self.row.commit(pass, held, ObjectCall::Posix(call)),
-            ObjectCall::Fd(call) => self.row.commit(pass, held, ObjectCall::Fd(call)),
-        };
+        let (number, reply) = self.row.commit(pass, held, *call);
         note(log, id, number, *call, reply);
         reply
     }

@@ -8,7 +8,7 @@ ghost use Rattle.hr_timers.specs.Known.{IsPassOf, PassOf};
 ghost use Rattle.hr_timers.specs.Ways.{most_to_start};
 ghost use Rattle.timer_objects.specs.declared.object.Kind.TheVariants as kinds;
 ghost use Rattle.timer_objects.specs.Known.{IsObjectsPass, ObjectsPass, Suits, decl_at, most_noted};
-ghost use Rattle.timer_objects.specs.Calls.{HasWaited, SettimeMade, SettimeTells, Settimes, flags_of, settime_call};
+ghost use Rattle.timer_objects.specs.Calls.{HasWaited, SettimeMade, Settimes, flags_of};
 ghost use Rattle.timer_objects.specs.Rearming.{HasLocked, IsHolding, KeepsNames, LeavesPasses, IsCallerOf, caller_of};
 ghost use Rattle.timer_objects.specs.Turns.{turns_counter};
 ghost use Rattle.timer_objects.specs.Valid.{IsSettimeReply, IsValidSettime, SetsAnew, settime_with};
@@ -16,7 +16,7 @@ ghost use Rattle.timer_objects.specs.Waiting.{HasToWait, IsHindered};
 
 use crate::arming::{arm, disarm};
 use crate::log::ObjectLog;
-use crate::object::{Decl, Kind, Object, ObjectCall, ObjectReply};
+use crate::object::{Kind, Object};
 use crate::objects::Objects;
 use crate::turns::end;
 use counted_row::{Held, RowPass};
@@ -25,8 +25,9 @@ use hr_timers::{Pass, Timers};
 use ktime::{Mode, Reading, TimeSpec};
 use pass_names::Retries;
 use std::sync::Wait;
-use timer_fd::SettimeAnswer;
-use timer_setting::{ABSTIME, Arm, BadArgument, SettimeCall, Wanted};
+use timer_setting::{
+    ABSTIME, Arm, BadArgument, ObjectCall, ObjectReply, SettimeAnswer, SettimeCall, Wanted,
+};
 
 /// The arguments of a settime that are valid, times in nanoseconds.
 #[derive(Clone, Copy, Debug, PartialEq, Eq)]
@@ -182,14 +183,14 @@ impl Objects {
         ensures why { (first : PassOf) (begun : ObjectsPass) → HasLocked self.now first pass.old begun objects_pass.old id held → IfNone result (HasToWait self.now timers.now.about begun objects_pass.new pass.new.known id) }
         ensures room { (log.old.spare ≤ log.new.spare + most_noted self.now timers.now.about id) × (object_log.old.spare ≤ object_log.new.spare + 1) }
     {
-        let Decl { kind, base, .. } = self.decl(id);
+        let base = self.decl(id).base;
         let stamp = held.stamp();
         let Some(outcome) = set_anew(rt, timers, pass, log, id, stamp, valid, base) else {
             self.release(objects_pass, held);
             return None;
         };
         end(rt, timers, pass, id, stamp);
-        let call = call_of(kind, valid.with(outcome));
+        let call = ObjectCall::Settime(valid.with(outcome));
         let reply = self.enter(objects_pass, held, object_log, id, &call);
         Some(settime_answer(reply))
     }
@@ -224,16 +225,6 @@ fn set_anew<R: Wait>(
     }
     let wants = wanted_by(valid.flags, valid.value);
     Some(arm(rt, timers, pass, log, timer, wants, base, valid.reading))
-}
-
-/// The settime of an object of this kind as it is entered.
-fn call_of(kind: Kind, call: SettimeCall) -> ObjectCall
-    ensures { result ≡ settime_call kind call }
-{
-    match kind {
-        Kind::Raw | Kind::Posix => ObjectCall::Posix(posix_timer::Call::Settime(call)),
-        Kind::Fd => ObjectCall::Fd(timer_fd::Call::Settime(call)),
-    }
 }
 
 impl ValidSettime {
@@ -281,16 +272,10 @@ fn wanted_by(flags: u64, ns: u64) -> Option<Wanted>
 /// What a settime's reply answers to the caller.
 fn settime_answer(reply: ObjectReply) -> SettimeAnswer
     requires made { IsSettimeReply reply }
-    ensures { SettimeTells reply result }
+    ensures { reply ≡ ObjectReply.Settime result }
 {
     match reply {
-        ObjectReply::Posix(
-            posix_timer::Reply::Settime(posix_timer::SettimeAnswer::Old { left, interval }),
-        ) => { SettimeAnswer::Old { left, interval } }
-        ObjectReply::Posix(
-            posix_timer::Reply::Settime(posix_timer::SettimeAnswer::Unarmed { stamp }),
-        ) => { SettimeAnswer::Unarmed { stamp } }
-        ObjectReply::Fd(timer_fd::Reply::Settime(answer)) => answer,
+        ObjectReply::Settime(answer) => answer,
         _ => unreachable!(),
     }
 }

@@ -7,14 +7,14 @@ ghost use Rattle.timer_objects.specs.Known.{IsObjectsPass, decl_at, row_of, seen
 ghost use Rattle.timer_objects.specs.Triggers.{Triggers, trigger_of, trigger_refused};
 
 use crate::log::{ObjectLog, note};
-use crate::object::{Kind, Object, ObjectCall, ObjectReply};
+use crate::object::{Kind, Object};
 use crate::objects::Objects;
 use crate::turns::{begin, end};
 use counted_row::{Held, RowPass};
 use hr_timers::{Claim, Pass, Timers};
 use ktime::Reading;
 use std::sync::Wait;
-use timer_setting::TriggerAnswer;
+use timer_setting::{ObjectCall, ObjectReply, TriggerAnswer};
 
 /// The trigger of an object of this kind by the expiry of its timer. A timer by itself has none.
 pub(crate) fn trigger_of(kind: Kind, claim: &Claim, reading: Reading) -> Option<ObjectCall>
@@ -23,26 +23,18 @@ pub(crate) fn trigger_of(kind: Kind, claim: &Claim, reading: Reading) -> Option<
     let generation = claim.generation();
     match kind {
         Kind::Raw => None,
-        Kind::Posix => Some(ObjectCall::Posix(posix_timer::Call::Trigger {
+        Kind::Posix | Kind::Fd => Some(ObjectCall::Trigger {
             generation,
             reading,
-        })),
-        Kind::Fd => Some(ObjectCall::Fd(timer_fd::Call::Trigger {
-            generation,
-            reading,
-        })),
+        }),
     }
 }
 
-/// What a trigger of an object answers whose history is full, with so many entries.
-fn trigger_refused(call: &ObjectCall, stamp: u64) -> ObjectReply
-    ensures { result ≡ trigger_refused call.now stamp }
+/// What a trigger answers of an object whose history is full, with so many entries.
+fn trigger_refused(stamp: u64) -> ObjectReply
+    ensures { result ≡ trigger_refused stamp }
 {
-    let answer = TriggerAnswer::Spent { stamp };
-    match call {
-        ObjectCall::Posix(_) => ObjectReply::Posix(posix_timer::Reply::Trigger(answer)),
-        ObjectCall::Fd(_) => ObjectReply::Fd(timer_fd::Reply::Trigger(answer)),
-    }
+    ObjectReply::Trigger(TriggerAnswer::Spent { stamp })
 }
 
 /// Triggers the object over a claim's timer, or notes that its history is full.
@@ -83,9 +75,9 @@ pub(crate) fn trigger<R: Wait>(
     tell_reader(objects, id, &reply);
 }
 
-/// Tells a descriptor's reader where its trigger was counted: then there is something to read.
+/// Tells the object's reader, if it has one, where its trigger was counted: then there is something to read.
 fn tell_reader(objects: &Objects, id: u32, reply: &ObjectReply) {
-    if let ObjectReply::Fd(timer_fd::Reply::Trigger(TriggerAnswer::Counted)) = reply {
+    if let ObjectReply::Trigger(TriggerAnswer::Counted) = reply {
         objects.ring(id);
     }
 }
@@ -106,9 +98,9 @@ fn skip(
     ensures pass { IsObjectsPass objects.now pass.new }
     ensures knows { pass.new.knows ≡ released pass.old.knows }
     ensures count { held.stamp ≡ length (seen_of pass.new held.index) }
-    ensures receipt { log.new.receipts ≡ log.old.receipts ++ record { object = id; number = held.stamp; call = call.now; reply = trigger_refused call.now held.stamp } ∷ [] }
+    ensures receipt { log.new.receipts ≡ log.old.receipts ++ record { object = id; number = held.stamp; call = call.now; reply = trigger_refused held.stamp } ∷ [] }
     ensures spare { log.new.spare + 1 ≡ log.old.spare }
 {
     let stamp = objects.release(pass, held);
-    note(log, id, stamp, *call, trigger_refused(call, stamp));
+    note(log, id, stamp, *call, trigger_refused(stamp));
 }

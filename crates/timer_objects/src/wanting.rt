@@ -3,9 +3,9 @@ ghost use Rattle.std.specs.Prelude.{◌≡◌};
 ghost use Rattle.timer_objects.specs.Calls.{wanted_by};
 ghost use Rattle.timer_objects.specs.Rearming.{HasEntryRoom};
 
-use crate::object::{Object, ObjectReply};
+use crate::object::Object;
 use ktime::Reading;
-use timer_setting::Wanted;
+use timer_setting::{ObjectReply, Wanted};
 
 /// The length in bytes of a buffer that holds a count.
 pub const COUNT_LENGTH: u64 = 8;

@@ -9,7 +9,7 @@ module _ {S C R : Type 0} where
   AreCalls-length table entries most counts s [] within calls = omega (arith, within)
   AreCalls-length table entries most counts s (e ∷ es) within calls =
       let room = counts.room s e.call calls.0 in
-      let counted = counts.counted s e.call in
+      let counted = counts.counted s e.call calls.0 in
       let kept = counts.kept s e.call in
       let rest = AreCalls-length table entries most counts (table.next s e.call) es (omega (arith, room, counted, kept)) calls.2 in
       omega (arith, rest, counted, kept)

@@ -33,7 +33,7 @@ module _ {S C R : Type 0} where
   -- a state counts its entries up to its limit, and each call is one
   pub record CountsCalls (table : StepTable S C R) (entries most : S → ℕ) : Type 0 where
     pub room : (s : S) (call : C) → table.allows s call → entries s < most s
-    pub counted : (s : S) (call : C) → entries (table.next s call) ≡ entries s + 1
+    pub counted : (s : S) (call : C) → table.allows s call → entries (table.next s call) ≡ entries s + 1
     pub kept : (s : S) (call : C) → most (table.next s call) ≡ most s
 
 module _ {R : Type 0} where

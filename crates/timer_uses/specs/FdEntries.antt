@@ -5,38 +5,38 @@ use Rattle.timer_setting.specs.declared.arming.Arm.TheVariants as arms
 use Rattle.timer_setting.specs.declared.trigger_answer.TriggerAnswer.{TriggerAnswer}
 use Rattle.timer_setting.specs.declared.trigger_answer.TriggerAnswer.TheVariants as triggers
 use Rattle.timer_setting.specs.StepTables.{AnsweredCall}
-use Rattle.timer_fd.specs.declared.answers.GettimeAnswer.TheVariants as lefts
-use Rattle.timer_fd.specs.declared.answers.ReadAnswer.{ReadAnswer}
-use Rattle.timer_fd.specs.declared.answers.ReadAnswer.TheVariants as reads
-use Rattle.timer_fd.specs.declared.answers.SettimeAnswer.TheVariants as settings
-use Rattle.timer_fd.specs.declared.calls.Call.{Call}
-use Rattle.timer_fd.specs.declared.calls.Call.TheVariants as calls
-use Rattle.timer_fd.specs.declared.calls.Reply.{Reply}
-use Rattle.timer_fd.specs.declared.calls.Reply.TheVariants as replies
+use Rattle.timer_setting.specs.declared.answers.GettimeAnswer.TheVariants as lefts
+use Rattle.timer_setting.specs.declared.answers.ReadAnswer.{ReadAnswer}
+use Rattle.timer_setting.specs.declared.answers.ReadAnswer.TheVariants as reads
+use Rattle.timer_setting.specs.declared.answers.SettimeAnswer.TheVariants as settings
+use Rattle.timer_setting.specs.declared.object_call.ObjectCall.{ObjectCall}
+use Rattle.timer_setting.specs.declared.object_call.ObjectCall.TheVariants as calls
+use Rattle.timer_setting.specs.declared.object_call.ObjectReply.{ObjectReply}
+use Rattle.timer_setting.specs.declared.object_call.ObjectReply.TheVariants as replies
 use Rattle.timer_uses.specs.Moments.{at}
 
 -- a settime of so long, with an interval of 10, on a descriptor that was just made
-abbrev pub set : ℕ → ℕ → Arm → AnsweredCall Call Reply
+abbrev pub set : ℕ → ℕ → Arm → AnsweredCall ObjectCall ObjectReply
 set value now arm = record {
   call = calls.Settime (record { flags = 0; value = value; interval = 10; reading = at now; arm = arm });
   reply = replies.Settime (settings.Old 0 0);
 }
 
 -- the timer's function ran for this generation
-abbrev pub trigger : ℕ → ℕ → TriggerAnswer → AnsweredCall Call Reply
+abbrev pub trigger : ℕ → ℕ → TriggerAnswer → AnsweredCall ObjectCall ObjectReply
 trigger generation now answer = record { call = calls.Trigger generation (at now); reply = replies.Trigger answer }
 
 -- a look at the setting, which answers so much time left
-abbrev pub look : ℕ → Arm → ℕ → AnsweredCall Call Reply
+abbrev pub look : ℕ → Arm → ℕ → AnsweredCall ObjectCall ObjectReply
 look now arm left = record { call = calls.Gettime (at now) arm; reply = replies.Gettime (lefts.Left left 10) }
 
 -- a read
-abbrev pub read : ℕ → ReadAnswer → AnsweredCall Call Reply
+abbrev pub read : ℕ → ReadAnswer → AnsweredCall ObjectCall ObjectReply
 read now answer = record { call = calls.Read (at now) arms.NotAsked; reply = replies.Read answer }
 
 -- an expiry is stale of an earlier generation and before its time; a look counts the periods that have passed, and a timer that it can't arm anew has
 -- none to come, but those that were counted are read
-abbrev pub stale_and_counted : List (AnsweredCall Call Reply)
+abbrev pub stale_and_counted : List (AnsweredCall ObjectCall ObjectReply)
 stale_and_counted =
     set 100 20 (arms.Armed 2)
     ∷ look 70 arms.NotAsked 50

@@ -5,33 +5,33 @@ use Rattle.timer_setting.specs.declared.arming.Arm.TheVariants as arms
 use Rattle.timer_setting.specs.declared.trigger_answer.TriggerAnswer.{TriggerAnswer}
 use Rattle.timer_setting.specs.declared.trigger_answer.TriggerAnswer.TheVariants as triggers
 use Rattle.timer_setting.specs.StepTables.{AnsweredCall}
-use Rattle.posix_timer.specs.declared.answers.AcceptAnswer.{AcceptAnswer}
-use Rattle.posix_timer.specs.declared.answers.AcceptAnswer.TheVariants as acceptances
-use Rattle.posix_timer.specs.declared.answers.SettimeAnswer.TheVariants as settings
-use Rattle.posix_timer.specs.declared.calls.Call.{Call}
-use Rattle.posix_timer.specs.declared.calls.Call.TheVariants as calls
-use Rattle.posix_timer.specs.declared.calls.Reply.{Reply}
-use Rattle.posix_timer.specs.declared.calls.Reply.TheVariants as replies
+use Rattle.timer_setting.specs.declared.answers.AcceptAnswer.{AcceptAnswer}
+use Rattle.timer_setting.specs.declared.answers.AcceptAnswer.TheVariants as acceptances
+use Rattle.timer_setting.specs.declared.answers.SettimeAnswer.TheVariants as settings
+use Rattle.timer_setting.specs.declared.object_call.ObjectCall.{ObjectCall}
+use Rattle.timer_setting.specs.declared.object_call.ObjectCall.TheVariants as calls
+use Rattle.timer_setting.specs.declared.object_call.ObjectReply.{ObjectReply}
+use Rattle.timer_setting.specs.declared.object_call.ObjectReply.TheVariants as replies
 use Rattle.timer_uses.specs.Moments.{at}
 
 -- a settime for a time of the clock, with an interval of 10, that answers so much time left and this interval
-abbrev pub set : ℕ → ℕ → Arm → ℕ → ℕ → AnsweredCall Call Reply
+abbrev pub set : ℕ → ℕ → Arm → ℕ → ℕ → AnsweredCall ObjectCall ObjectReply
 set value now arm left interval = record {
   call = calls.Settime (record { flags = 1; value = value; interval = 10; reading = at now; arm = arm });
   reply = replies.Settime (settings.Old left interval);
 }
 
 -- the timer's function ran for this generation
-abbrev pub trigger : ℕ → ℕ → TriggerAnswer → AnsweredCall Call Reply
+abbrev pub trigger : ℕ → ℕ → TriggerAnswer → AnsweredCall ObjectCall ObjectReply
 trigger generation now answer = record { call = calls.Trigger generation (at now); reply = replies.Trigger answer }
 
 -- an acceptance of the signal
-abbrev pub accept : ℕ → Arm → AcceptAnswer → AnsweredCall Call Reply
+abbrev pub accept : ℕ → Arm → AcceptAnswer → AnsweredCall ObjectCall ObjectReply
 accept now arm answer = record { call = calls.Accept (at now) arm; reply = replies.Accept answer }
 
 -- an expiry is stale of an earlier generation and before its time, and counts of a later generation; the value 0 disarms and clears the signal; a timer
 -- that can't be armed anew has no further periods
-abbrev pub stale_and_cleared : List (AnsweredCall Call Reply)
+abbrev pub stale_and_cleared : List (AnsweredCall ObjectCall ObjectReply)
 stale_and_cleared =
     set 100 0 (arms.Armed 2) 0 0
     ∷ trigger 1 100 triggers.Stale

@@ -1,9 +1,9 @@
 //! A timer descriptor over its high-resolution timer, and a read of its expiries.
 ghost use Rattle.std.specs.Prelude.{◌≡◌, ◌<◌, ◌≤◌, ◌↔◌, ◌⊎◌, IfNone, IfSome, IsTrue, Some, None, length};
 ghost use Rattle.timer_setting.specs.Phases.{is_expiry_of};
+ghost use Rattle.timer_setting.specs.declared.object_call.ObjectReply.{ObjectReply};
+ghost use Rattle.timer_setting.specs.declared.object_call.ObjectReply.TheVariants as replies;
 ghost use Rattle.timer_core.specs.Kept.{IsSameSize};
-ghost use Rattle.timer_fd.specs.declared.calls.Reply.{Reply};
-ghost use Rattle.timer_fd.specs.declared.calls.Reply.TheVariants as replies;
 ghost use Rattle.timer_fd.specs.Steps.{fd_read_answer, fd_settime_refusal, total_in};
 
 use crate::starts::make_start;
@@ -23,7 +23,7 @@ pub fn set_descriptor<Q: Queue>(
 ) -> SettimeAnswer
     requires timer { id < length core.old.timers }
     requires base { descriptor.old.base < length core.old.bases }
-    ensures refused { (reply : Reply) → fd_settime_refusal descriptor.old 0 value interval ≡ Some reply → (replies.Settime result ≡ reply) × (descriptor.new ≡ descriptor.old) }
+    ensures refused { (reply : ObjectReply) → fd_settime_refusal descriptor.old 0 value interval ≡ Some reply → (replies.Settime result ≡ reply) × (descriptor.new ≡ descriptor.old) }
     ensures count { fd_settime_refusal descriptor.old 0 value interval ≡ None → descriptor.new.count ≡ 0 }
     ensures kept { (descriptor.new.base ≡ descriptor.old.base) × (descriptor.new.limit ≡ descriptor.old.limit) }
     ensures sizes { IsSameSize core.old core.new }

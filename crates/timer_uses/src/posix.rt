@@ -5,8 +5,8 @@ ghost use Rattle.timer_setting.specs.Phases.{is_expiry_of, periods_in};
 ghost use Rattle.timer_core.specs.Kept.{IsSameSize, timer_in};
 ghost use Rattle.ktime.specs.declared.clock_id.ClockId.{ClockId};
 ghost use Rattle.timer_setting.specs.declared.phase.Phase.TheVariants as phases;
-ghost use Rattle.posix_timer.specs.declared.calls.Reply.{Reply};
-ghost use Rattle.posix_timer.specs.declared.calls.Reply.TheVariants as replies;
+ghost use Rattle.timer_setting.specs.declared.object_call.ObjectReply.{ObjectReply};
+ghost use Rattle.timer_setting.specs.declared.object_call.ObjectReply.TheVariants as replies;
 ghost use Rattle.posix_timer.specs.Steps.{overrun_of, posix_settime_refusal};
 
 use crate::starts::make_start;
@@ -26,7 +26,7 @@ pub fn arm_periodic<Q: Queue>(
 ) -> SettimeAnswer
     requires timer { id < length core.old.timers }
     requires base { timer.old.base < length core.old.bases }
-    ensures refused { (reply : Reply) → posix_settime_refusal timer.old abstime at interval ≡ Some reply → (replies.Settime result ≡ reply) × (timer.new ≡ timer.old) }
+    ensures refused { (reply : ObjectReply) → posix_settime_refusal timer.old abstime at interval ≡ Some reply → (replies.Settime result ≡ reply) × (timer.new ≡ timer.old) }
     ensures armed { (generation expires : ℕ) (clock : ClockId) → posix_settime_refusal timer.old abstime at interval ≡ None → timer.new.phase ≡ phases.Armed generation clock expires → ((timer_in core.new id).armed ≡ Some generation) × (expires ≡ time_of at) }
     ensures cleared { posix_settime_refusal timer.old abstime at interval ≡ None → (timer.new.pending ≡ false) × (timer.new.overrun ≡ 0) }
     ensures kept { (timer.new.base ≡ timer.old.base) × (timer.new.limit ≡ timer.old.limit) }

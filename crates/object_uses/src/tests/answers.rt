@@ -14,7 +14,9 @@ use std::process::Abort;
 use std::sync::Wait;
 use std::test::Fail;
 use timer_fd::{ReadAnswer, SettimeAnswer};
-use timer_objects::{Gettime, ObjectLog, ObjectReceipt, Overrun, Readable};
+use timer_objects::{
+    Gettime, ObjectCall, ObjectLog, ObjectReceipt, ObjectReply, Overrun, Readable,
+};
 use timer_setting::{Arm, TriggerAnswer};
 
 /// The reading of a clock whose real time alone was set, so often.
@@ -123,10 +125,10 @@ fn a_periodic_timer_tells_its_overrun(rt: HostRuntime) -> Result<(), Fail> {
         (Step::Overrun, late, Told::Overrun(overrun)),
     ];
     let entries = armed_again(POSIX, ClockId::Monotonic, (100, zero), due, (140, late));
-    let set = posix_timer::Call::Settime(settime(1, 100, 10, zero, Arm::Armed(1)));
-    let was = posix_timer::Reply::Settime(posix_old(0));
-    let took = posix_timer::Reply::Accept(accepted);
-    let none = posix_timer::Reply::Accept(AcceptAnswer::NoSignal);
+    let set = ObjectCall::Settime(settime(1, 100, 10, zero, Arm::Armed(1)));
+    let was = ObjectReply::Settime(posix_old(0));
+    let took = ObjectReply::Accept(accepted);
+    let none = ObjectReply::Accept(AcceptAnswer::NoSignal);
     let calls = [
         posix(1, set, was),
         posix(3, taken(late, Arm::Armed(4)), took),
@@ -278,7 +280,7 @@ fn a_full_history_refuses_a_settime(rt: HostRuntime) -> Result<(), Fail> {
         start(POSIX, 3, Mode::Abs, 100, zero, ClockId::Monotonic, 100),
         cancel(POSIX, 4, 3),
     ];
-    let unarmed = posix_timer::SettimeAnswer::Unarmed { stamp: 4 };
+    let unarmed = SettimeAnswer::Unarmed { stamp: 4 };
     let calls = [
         posix_set(1, zero, Arm::Armed(1), posix_old(0)),
         posix_set(2, zero, Arm::Armed(3), posix_old(100)),

@@ -85,18 +85,13 @@ fn call_of(object: u32, number: u64, call: ObjectCall, reply: ObjectReply) -> Ob
 }
 
 /// The entry of a call of the POSIX timer.
-pub(super) fn posix(
-    number: u64,
-    call: posix_timer::Call,
-    reply: posix_timer::Reply,
-) -> ObjectReceipt {
-    let (call, reply) = (ObjectCall::Posix(call), ObjectReply::Posix(reply));
+pub(super) fn posix(number: u64, call: ObjectCall, reply: ObjectReply) -> ObjectReceipt {
     call_of(POSIX, number, call, reply)
 }
 
 /// The entry of a call of the descriptor.
-pub(super) fn fd(number: u64, call: timer_fd::Call, reply: timer_fd::Reply) -> ObjectReceipt {
-    call_of(FD, number, ObjectCall::Fd(call), ObjectReply::Fd(reply))
+pub(super) fn fd(number: u64, call: ObjectCall, reply: ObjectReply) -> ObjectReceipt {
+    call_of(FD, number, call, reply)
 }
 
 /// A settime with these arguments.
@@ -117,8 +112,8 @@ pub(super) fn settime(
 }
 
 /// An acceptance.
-pub(super) fn taken(reading: Reading, arm: Arm) -> posix_timer::Call {
-    posix_timer::Call::Accept { reading, arm }
+pub(super) fn taken(reading: Reading, arm: Arm) -> ObjectCall {
+    ObjectCall::Accept { reading, arm }
 }
 
 /// The entry of a settime of the POSIX timer to 100, with no interval.
@@ -126,21 +121,21 @@ pub(super) fn posix_set(
     number: u64,
     at: Reading,
     arm: Arm,
-    answer: posix_timer::SettimeAnswer,
+    answer: SettimeAnswer,
 ) -> ObjectReceipt {
-    let call = posix_timer::Call::Settime(settime(1, 100, 0, at, arm));
-    posix(number, call, posix_timer::Reply::Settime(answer))
+    let call = ObjectCall::Settime(settime(1, 100, 0, at, arm));
+    posix(number, call, ObjectReply::Settime(answer))
 }
 
 /// What a settime of the POSIX timer tells that replaces a setting without an interval.
-pub(super) fn posix_old(left: u64) -> posix_timer::SettimeAnswer {
-    posix_timer::SettimeAnswer::Old { left, interval: 0 }
+pub(super) fn posix_old(left: u64) -> SettimeAnswer {
+    SettimeAnswer::Old { left, interval: 0 }
 }
 
 /// The entry of a settime of the descriptor.
 pub(super) fn fd_set(number: u64, call: SettimeCall, answer: SettimeAnswer) -> ObjectReceipt {
-    let call = timer_fd::Call::Settime(call);
-    fd(number, call, timer_fd::Reply::Settime(answer))
+    let call = ObjectCall::Settime(call);
+    fd(number, call, ObjectReply::Settime(answer))
 }
 
 /// The entry of a read.
@@ -150,8 +145,8 @@ pub(super) fn fd_read(
     arm: Arm,
     answer: ReadAnswer,
 ) -> ObjectReceipt {
-    let call = timer_fd::Call::Read { reading, arm };
-    fd(number, call, timer_fd::Reply::Read(answer))
+    let call = ObjectCall::Read { reading, arm };
+    fd(number, call, ObjectReply::Read(answer))
 }
 
 /// The receipt of the trigger of the POSIX timer by generation 1.
@@ -160,21 +155,21 @@ pub(super) fn posix_triggered(
     reading: Reading,
     answer: TriggerAnswer,
 ) -> ObjectReceipt {
-    let call = posix_timer::Call::Trigger {
+    let call = ObjectCall::Trigger {
         generation: 1,
         reading,
     };
-    posix(number, call, posix_timer::Reply::Trigger(answer))
+    posix(number, call, ObjectReply::Trigger(answer))
 }
 
 /// The receipt of such a trigger of a descriptor, which is its second entry.
 pub(super) fn fd_triggered(object: u32, reading: Reading) -> ObjectReceipt {
-    let call = timer_fd::Call::Trigger {
+    let call = ObjectCall::Trigger {
         generation: 1,
         reading,
     };
-    let reply = timer_fd::Reply::Trigger(TriggerAnswer::Counted);
-    call_of(object, 2, ObjectCall::Fd(call), ObjectReply::Fd(reply))
+    let reply = ObjectReply::Trigger(TriggerAnswer::Counted);
+    call_of(object, 2, call, reply)
 }
 
 /// What a run tells that found so many timers due and no more.

@@ -172,40 +172,34 @@ fn of_object(object: u32, number: u64, call: ObjectCall, reply: ObjectReply) -> 
 
 /// An expiry of a POSIX timer.
 fn trigger(number: u64, generation: u64, answer: TriggerAnswer) -> ObjectReceipt {
-    let call = posix_timer::Call::Trigger {
+    let call = ObjectCall::Trigger {
         generation,
         reading: Reading::at(100),
     };
-    let reply = posix_timer::Reply::Trigger(answer);
-    of_object(
-        1,
-        number,
-        ObjectCall::Posix(call),
-        ObjectReply::Posix(reply),
-    )
+    of_object(1, number, call, ObjectReply::Trigger(answer))
 }
 
 /// An acceptance of its signal.
 fn accept() -> ObjectReceipt {
-    let call = posix_timer::Call::Accept {
+    let call = ObjectCall::Accept {
         reading: Reading::at(100),
         arm: Arm::Armed(5),
     };
-    let reply = posix_timer::Reply::Accept(AcceptAnswer::Accepted { overrun: 2 });
-    of_object(1, 2, ObjectCall::Posix(call), ObjectReply::Posix(reply))
+    let reply = ObjectReply::Accept(AcceptAnswer::Accepted { overrun: 2 });
+    of_object(1, 2, call, reply)
 }
 
 /// A look at a descriptor's setting.
 fn gettime() -> ObjectReceipt {
-    let call = timer_fd::Call::Gettime {
+    let call = ObjectCall::Gettime {
         reading: Reading::at(40),
         arm: Arm::NotAsked,
     };
-    let reply = timer_fd::Reply::Gettime(GettimeAnswer::Left {
+    let reply = ObjectReply::Gettime(GettimeAnswer::Left {
         left: 60,
         interval: 10,
     });
-    of_object(0, 1, ObjectCall::Fd(call), ObjectReply::Fd(reply))
+    of_object(0, 1, call, reply)
 }
 
 const OBJECTS: &str = "record 1

@@ -8,8 +8,8 @@ ghost use Rattle.timer_uses.specs.PosixEntries.{stale_and_cleared};
 use super::{assert_equal, ns, wanted};
 use ktime::{ClockId, Mode, Reading};
 use posix_timer::{
-    AcceptAnswer, Arm, Call, PosixState, Reply, SettimeAnswer, Setting, TriggerAnswer, few_entries,
-    one_more_entry,
+    AcceptAnswer, Arm, ObjectCall, ObjectReply, PosixState, SettimeAnswer, Setting, TriggerAnswer,
+    few_entries, one_more_entry, posix_timers_are_a_kind,
 };
 
 #[test]
@@ -26,11 +26,11 @@ fn periods_that_passed_before_the_acceptance_are_overruns(rt: HostRuntime) {
         interval: 10,
     };
     assert_equal(&rt, timer.gettime(Reading::at(40)), setting);
-    let call = Call::Trigger {
+    let call = ObjectCall::Trigger {
         generation: 1,
         reading: Reading::at(100),
     };
-    let counted = Reply::Trigger(TriggerAnswer::Counted);
+    let counted = ObjectReply::Trigger(TriggerAnswer::Counted);
     assert_equal(&rt, timer.apply(call), counted);
     assert!(rt; timer.is_pending());
     let start = timer.accept_wants(Reading::at(135));
@@ -40,6 +40,7 @@ fn periods_that_passed_before_the_acceptance_are_overruns(rt: HostRuntime) {
     let again = timer.accept(Reading::at(135), Arm::NotAsked);
     assert_equal(&rt, again, AcceptAnswer::NoSignal);
     assert_equal(&rt, timer.getoverrun(), 3);
+    posix_timers_are_a_kind();
     few_entries();
     one_more_entry();
 }

@@ -6,8 +6,8 @@ ghost use Rattle.timer_uses.specs.FdEntries.{stale_and_counted};
 use super::{assert_equal, ns, wanted};
 use ktime::{ClockId, Mode, Reading};
 use timer_fd::{
-    Arm, Call, FdState, GettimeAnswer, ReadAnswer, Reply, SettimeAnswer, TriggerAnswer,
-    few_entries, one_more_entry,
+    Arm, FdState, GettimeAnswer, ObjectCall, ObjectReply, ReadAnswer, SettimeAnswer, TriggerAnswer,
+    descriptors_are_a_kind, few_entries, one_more_entry,
 };
 
 #[test]
@@ -33,12 +33,13 @@ fn periods_that_passed_are_counted_and_read_once(rt: HostRuntime) {
     let three = descriptor.read(8, now, Arm::NotAsked);
     assert_equal(&rt, three, ReadAnswer::Count { total: 3 });
     assert_equal(&rt, three.bytes(), Some([3, 0, 0, 0, 0, 0, 0, 0]));
-    let call = Call::Read {
+    let call = ObjectCall::Read {
         reading: now,
         arm: Arm::NotAsked,
     };
-    let again = Reply::Read(ReadAnswer::Again);
+    let again = ObjectReply::Read(ReadAnswer::Again);
     assert_equal(&rt, descriptor.apply(call), again);
+    descriptors_are_a_kind();
     few_entries();
     one_more_entry();
 }

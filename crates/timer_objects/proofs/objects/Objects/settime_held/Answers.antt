@@ -3,12 +3,11 @@ use Rattle.pass_names.proofs.SharedHistory.{looks_trans}
 use Rattle.base_row.specs.Logs.{LogOf}
 use Rattle.base_row.specs.declared.log.Receipt.{Receipt}
 use Rattle.timer_setting.specs.Arguments.{start_by}
-use Rattle.timer_setting.specs.declared.settime_call.SettimeCall.{SettimeCall}
+use Rattle.timer_setting.specs.declared.object_call.ObjectCall.TheVariants as calls
 use Rattle.timer_objects.specs.declared.object.Decl.{Decl}
-use Rattle.timer_objects.specs.Calls.{settime_call}
 use Rattle.timer_objects.specs.Known.{Enters, MayEnter, receipt_of}
 use Rattle.timer_objects.specs.Turns.{EndsTurn, HasTurn}
-use Rattle.timer_objects.specs.Valid.{SetsAnew, settime_with}
+use Rattle.timer_objects.specs.Valid.{SetsAnew}
 use Rattle.timer_objects.proofs.Asking.{may_settime, replies_settime, settimes}
 use Rattle.timer_objects.proofs.Retrying.{begins_after, held_up, waits_held}
 use Rattle.timer_objects.proofs.objects.Objects.settime_held.Goals as goal
@@ -18,9 +17,7 @@ enter-reply-requires-clause-may g c =
     let x = c.args.self.now in
     let holding = c.requires.holding in
     let arm = c.in-Some.outcome in
-    let named = c.call_of-call.ensures
-    ∙ (ap (λ (s : SettimeCall). settime_call c.decl-kind.result.kind s) c.with.ensures
-    ∙ ap (λ (d : Decl). settime_call d.kind (settime_with c.args.valid.now arm)) c.decl-kind.ensures) in
+    let named = ap calls.Settime c.with.ensures in
     subst (λ call. MayEnter x c.args.objects_pass.now c.args.held c.args.id call) (sym named) (record {
       row = holding.row;
       unclaimed = holding.unclaimed;
@@ -35,9 +32,7 @@ pub settime_answer-requires : goal.settime_answer-requires
 settime_answer-requires g c =
     let holding = c.requires.holding in
     let arm = c.in-Some.outcome in
-    let named = c.call_of-call.ensures
-    ∙ (ap (λ (s : SettimeCall). settime_call c.decl-kind.result.kind s) c.with.ensures
-    ∙ ap (λ (d : Decl). settime_call d.kind (settime_with c.args.valid.now arm)) c.decl-kind.ensures) in
+    let named = ap calls.Settime c.with.ensures in
     record {
       made = replies_settime c.args.self.now c.args.id c.args.held holding.index holding.holds c.args.valid.now arm c.enter-reply.result c.requires.kind
           (subst (λ call. Enters c.args.objects_pass.now c.enter-reply.new.pass c.args.held call c.enter-reply.result) named
@@ -56,12 +51,10 @@ returns-clause-made g c = λ first begun took.
     let holding = c.requires.holding in
     let log = c.args.object_log.now.receipts in
     let w = c.set_anew.new.pass.known in
-    let named = c.call_of-call.ensures
-    ∙ (ap (λ (s : SettimeCall). settime_call c.decl-kind.result.kind s) c.with.ensures
-    ∙ ap (λ (d : Decl). settime_call d.kind (settime_with c.args.valid.now arm)) c.decl-kind.ensures) in
+    let named = ap calls.Settime c.with.ensures in
     let sets = subst (λ (d : Decl). SetsAnew o c.args.pass.now.known w c.args.id h.stamp (start_by s.flags s.value) d.base s.reading arm c.args.log.now.receipts
-    c.set_anew.new.log.receipts) c.decl-kind.ensures
-    (subst (λ n. SetsAnew o c.args.pass.now.known w c.args.id n (start_by s.flags s.value) c.decl-kind.result.base s.reading arm c.args.log.now.receipts
+    c.set_anew.new.log.receipts) c.decl-base.ensures
+    (subst (λ n. SetsAnew o c.args.pass.now.known w c.args.id n (start_by s.flags s.value) c.decl-base.result.base s.reading arm c.args.log.now.receipts
     c.set_anew.new.log.receipts) c.stamp-stamp.ensures c.in-Some.ensures.sets) in
     let turn : HasTurn c.args.id h.stamp first.known sets.begun w c.end.new.pass.known = record {
       begins = begins_after took.looks sets.begins;

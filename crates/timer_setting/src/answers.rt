@@ -1,13 +1,13 @@
-//! What the calls of a timer descriptor answer.
+//! What the calls of objects answer, whatever the object's kind.
 ghost use Rattle.std.specs.Prelude.{◌≡◌};
-ghost use Rattle.timer_fd.specs.States.{bytes_of};
+ghost use Rattle.timer_setting.specs.Answers.{bytes_of};
 
-/// What `timerfd_settime` answers. A time left and an interval are in nanoseconds.
+/// What a settime answers (`timer_settime`, `timerfd_settime`). A time left and an interval are in nanoseconds.
 #[derive(Clone, Copy, Debug, PartialEq, Eq)]
 pub enum SettimeAnswer {
     /// The setting before the call.
     Old { left: u64, interval: u64 },
-    /// A flag is neither `TFD_TIMER_ABSTIME` nor `TFD_TIMER_CANCEL_ON_SET` (EINVAL).
+    /// A flag is none of the call's: `TIMER_ABSTIME`; of a descriptor `TFD_TIMER_ABSTIME` and `TFD_TIMER_CANCEL_ON_SET` (EINVAL).
     BadFlags,
     /// The value or the interval has a second or more of nanoseconds (EINVAL).
     BadTime,
@@ -15,11 +15,23 @@ pub enum SettimeAnswer {
     Spent { stamp: u64 },
     /// The high-resolution timer has as many entries as its limit allows, so it was not started. The object is disarmed.
     Unarmed { stamp: u64 },
-    /// The real-time clock was set, or the machine slept, since the last setting or read (ECANCELED). The new setting stands all the same.
+    /// Of a descriptor alone: the real-time clock was set, or the machine slept, since the last setting or read (ECANCELED). The new setting stands all
+    /// the same.
     Canceled,
 }
 
-/// What a read answers.
+/// What the acceptance of a POSIX timer's signal answers (`sigwaitinfo`, `timer_getoverrun`).
+#[derive(Clone, Copy, Debug, PartialEq, Eq)]
+pub enum AcceptAnswer {
+    /// How many further periods had passed when the signal was accepted.
+    Accepted { overrun: u64 },
+    /// No signal is pending.
+    NoSignal,
+    /// The object has as many entries as its limit allows.
+    Spent { stamp: u64 },
+}
+
+/// What a read of a descriptor answers.
 #[derive(Clone, Copy, Debug, PartialEq, Eq)]
 pub enum ReadAnswer {
     /// How often the timer has expired since the last setting or read.

@@ -1,4 +1,4 @@
--- A refused start may lose its stamp in a line: nothing that a state or an answer keeps depends on it.
+-- A refused start may lose its stamp, as a record's line tells it: nothing that a state or an answer keeps depends on it.
 use Rattle.std.proofs.Common.{◌≡◌, ℕ, Option, refl}
 use Rattle.ktime.specs.Readings.{ClockReading}
 use Rattle.timer_setting.specs.declared.arming.Arm.{Arm}
@@ -7,7 +7,7 @@ use Rattle.timer_setting.specs.declared.arming.Wanted.{Wanted}
 use Rattle.timer_setting.specs.declared.phase.Phase.{Phase}
 use Rattle.timer_setting.specs.declared.phase.Phase.TheVariants as phases
 use Rattle.timer_setting.specs.Phases.{IsOutcomeOf, rearmed}
-use Rattle.lane_notes.specs.Arms.{arm_told}
+use Rattle.timer_setting.specs.Kinds.{arm_told}
 
 asked : (n : ℕ) → arms.Unarmed n ≡ arms.NotAsked → ⊥
 asked n e = absurd (cc)

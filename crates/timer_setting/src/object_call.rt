@@ -1,0 +1,33 @@
+//! The calls that make an entry in an object's history, whatever the object's kind.
+use crate::answers::{AcceptAnswer, GettimeAnswer, ReadAnswer, SettimeAnswer};
+use crate::arming::Arm;
+use crate::settime_call::SettimeCall;
+use crate::trigger_answer::TriggerAnswer;
+use ktime::Reading;
+
+/// A call that makes an entry in an object's history. `arm` is the outcome of the start that the call wanted. A kind of object has some of them.
+#[derive(Clone, Copy, Debug, PartialEq, Eq)]
+pub enum ObjectCall {
+    /// A POSIX timer or a descriptor is set.
+    Settime(SettimeCall),
+    /// The function of the object's timer runs.
+    Trigger { generation: u64, reading: Reading },
+    /// The signal of a POSIX timer is accepted.
+    Accept { reading: Reading, arm: Arm },
+    /// A descriptor is read.
+    Read { reading: Reading, arm: Arm },
+    /// A descriptor's setting is asked for.
+    Gettime { reading: Reading, arm: Arm },
+}
+
+/// What such a call answers.
+#[derive(Clone, Copy, Debug, PartialEq, Eq)]
+pub enum ObjectReply {
+    /// The object's kind has no such call.
+    None,
+    Settime(SettimeAnswer),
+    Trigger(TriggerAnswer),
+    Accept(AcceptAnswer),
+    Read(ReadAnswer),
+    Gettime(GettimeAnswer),
+}
