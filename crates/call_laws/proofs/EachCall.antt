@@ -5,7 +5,7 @@ use Rattle.call_laws.proofs.Noted.{with_done-joins}
 use Rattle.call_laws.proofs.OffLine.{keeps_offline, keeps_online}
 use Rattle.call_laws.proofs.RearmedCalls.{keeps_accept, keeps_read, keeps_gettime-fd}
 use Rattle.call_laws.proofs.Settimes.{keeps_settime}
-use Rattle.call_laws.proofs.Sights.{keeps_peek}
+use Rattle.call_laws.proofs.Sights.{keeps_seen}
 use Rattle.call_laws.proofs.TimerCalls.{keeps_cancel, keeps_start}
 use Rattle.call_laws.proofs.Turns.{next_begun, turn_plain, turn_read}
 use Rattle.call_laws.proofs.Writing.{keeps_write}
@@ -18,8 +18,7 @@ use Rattle.lane_world.specs.Worlds.{WorldOf}
 use Rattle.posix_timer.specs.States.{PosixTimer, setting_of}
 use Rattle.record_text.specs.declared.record.Answer.TheVariants as answers
 use Rattle.record_text.specs.declared.record.Answer.{Answer}
-use Rattle.run_history.specs.Calls.{IsPosix}
-use Rattle.run_history.specs.Fits.{reads_clock}
+use Rattle.run_history.specs.Calls.{IsPosix, reads_clock}
 use Rattle.run_history.specs.Histories.{reading_at}
 use Rattle.script_text.specs.Declarations.{kind_of}
 use Rattle.script_text.specs.declared.script.Call.TheVariants as calls
@@ -125,7 +124,8 @@ keeps_reading takes reads next c =
 -- law: a lane keeps each call in its turn
 pub keeps_call : (s : Script) (x : WorldOf) (l m : LaneOf) (call : Call) (a : Answer) → IsNextCall s x l call → Called x l call a m → KeepsTurn s l call a m
 keeps_call s x l m (calls.Cancel timer) a next c = turn_plain refl (keeps_cancel next c)
-keeps_call s x l m (calls.Peek timer) a next c = turn_plain refl (keeps_peek next c)
+keeps_call s x l m (calls.Peek timer) a next c =
+    turn_plain refl (subst (λ a. KeepsCall s l (calls.Peek timer) a m) (sym c.2) (keeps_seen next _ c.1 (λ e. refl) (λ e saw. saw)))
 keeps_call s x l m (calls.Overrun timer) a next c = turn_plain refl (keeps_overrun next c)
 keeps_call s x l m (calls.Online base) a next c = turn_plain refl (keeps_online next c)
 keeps_call s x l m (calls.Clock write) a next c = keeps_write next c

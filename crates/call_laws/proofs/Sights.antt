@@ -12,7 +12,7 @@ use Rattle.record_text.specs.declared.record.Answer.{Answer}
 use Rattle.script_text.specs.declared.script.Call.{Call}
 use Rattle.script_text.specs.declared.script.Script.{Script}
 use Rattle.run_history.specs.Calls.{Does, AnswerHolds}
-use Rattle.run_history.specs.Truths.{SawFull, WasOffLine}
+use Rattle.run_history.specs.Truths.{Saw, SawFull, WasOffLine}
 use Rattle.run_history.specs.Witnesses.{Trace}
 use Rattle.run_history.specs.Promises.{HasLog}
 use Rattle.run_history.specs.Runs.{witness_of, Ending, IsJoined}
@@ -28,6 +28,7 @@ use Rattle.call_laws.proofs.PartKept.{keeps_part}
 use Rattle.call_laws.proofs.Parts.{part_seen, IsPart}
 use Rattle.hr_timers.specs.Known.{MadeAt, timer_then}
 use Rattle.seq_timer.specs.declared.observation.Observation.TheVariants as observations
+use Rattle.seq_timer.specs.declared.observation.Peek.{Peek}
 use Rattle.seq_timer.specs.declared.system.SystemEntry.{SystemEntry}
 use Rattle.record_text.specs.declared.record.Answer.TheVariants as answers
 use Rattle.record_text.specs.declared.record.ClockLine.{ClockLine}
@@ -35,7 +36,7 @@ use Rattle.run_history.specs.Actions.{made}
 use Rattle.script_text.specs.declared.script.Call.TheVariants as calls
 use Rattle.run_history.specs.Promises.{GoesOnClock}
 use Rattle.run_history.specs.Receipts.{PlacedEntry}
-use Rattle.lane_world.specs.Called.{CallsPeek}
+use Rattle.lane_world.specs.Called.{LooksAtTimer}
 use Rattle.call_laws.proofs.Entering.{looks_made}
 use Rattle.run_history.proofs.Stamped.{HaveReadings}
 use Rattle.call_laws.proofs.CallKept.{opened_timers}
@@ -145,14 +146,13 @@ keeps_entered {s = s} {x = x} {l = l} IsSo {timer = timer} {at = moment} {es = e
     (joins ∙ with_done-joins l.notes l.label (receipts_of timer (timer_then x.timers.about moment timer).stamp es) []) last at
     (subst HasWholeTurns (sym are) (none.0 ∙ sym none.1)) (fits part.0)
 
--- ---- peek
+-- ---- looks at timers
 
--- law: a lane keeps a peek
-pub keeps_peek : {s : Script} {x : WorldOf} {l m : LaneOf} {a : Answer} {timer : ℕ} → IsNextCall s x l (calls.Peek timer) → CallsPeek x l m a timer
-    → KeepsCall s l (calls.Peek timer) a m
-keeps_peek {s = s} {l = l} {m = m} {timer = timer} next c =
-    let made = c.peeks.made in
-    subst (λ a. KeepsCall s l (calls.Peek timer) a m) (sym c.told)
-    (keeps_sight next (answers.Peek c.seen.stamp c.seen.base c.seen.enqueued c.seen.running c.seen.moving)
-    (looks_at made c.objects (clock_left c.clock) c.notes) (λ e. refl) (λ e follows joined has.
-    saw_quiet next.world.timers joined follows.timers made c.seen.stamp (observations.Peek c.seen) (ap (λ p. p.stamp) c.peeks.fits) c.peeks.fits))
+-- law: a lane keeps a look at a timer, where its answer tells no more than what was seen
+pub keeps_seen : {s : Script} {x : WorldOf} {l m : LaneOf} {call : Call} {timer : ℕ} {seen : Peek} (next : IsNextCall s x l call) (a : Answer)
+    → LooksAtTimer x l m timer seen → DoesNothing s m call a
+    → ((e : Ending) → Saw (witness_of s e) timer seen.stamp (observations.Peek seen) (length m.pass.timers.known.seen) → IsToldSo s l m call a e)
+    → KeepsCall s l call a m
+keeps_seen {seen = seen} next a c does tells =
+    keeps_sight next a (looks_at c.peeks.made c.objects (clock_left c.clock) c.notes) does (λ e follows joined has.
+    tells e (saw_quiet next.world.timers joined follows.timers c.peeks.made seen.stamp (observations.Peek seen) (ap (λ p. p.stamp) c.peeks.fits) c.peeks.fits))

@@ -10,7 +10,8 @@ use Rattle.record_text.specs.declared.record.Answer.{Answer}
 use Rattle.record_text.specs.declared.record.Label.{Label}
 use Rattle.std.specs.List.{slice_get}
 use Rattle.run_history.specs.Actions.{wrote}
-use Rattle.run_history.specs.Fits.{FitsCall, HasRead, reads_clock, ReadsInTurn}
+use Rattle.run_history.specs.Calls.{reads_clock}
+use Rattle.run_history.specs.Fits.{FitsCall, HasRead, ReadsInTurn}
 use Rattle.run_history.specs.Order.{calls_of, NeverFall}
 use Rattle.run_history.specs.Promises.{GoesOn, HasLog}
 use Rattle.run_history.specs.Runs.{Ending, IsJoined, witness_of}

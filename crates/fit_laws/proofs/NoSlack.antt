@@ -158,17 +158,7 @@ DeedAsksNone did = Unit {0}
 row_none : (s : Script) (reading : ℕ) (call : Call) (answer : Answer) → CallAsksNone call → DeedAsksNone (call_row s reading call answer).did
 row_none s reading (calls.Start timer request) (answers.Started generation on was_armed) none = none
 row_none s reading (calls.Offline base heir budget) answer none = absurd none
-row_none s reading (calls.Cancel timer) (answers.Idle stamp) none = tt
-row_none s reading (calls.Peek timer) (answers.Idle stamp) none = tt
-row_none s reading (calls.Expire context base budget) (answers.Idle stamp) none = tt
-row_none s reading (calls.Clock write) (answers.Idle stamp) none = tt
-row_none s reading (calls.Settime timer flags value interval) (answers.Idle stamp) none = tt
-row_none s reading (calls.Gettime timer) (answers.Idle stamp) none = tt
-row_none s reading (calls.Accept timer) (answers.Idle stamp) none = tt
-row_none s reading (calls.Overrun timer) (answers.Idle stamp) none = tt
-row_none s reading (calls.Read timer len) (answers.Idle stamp) none = tt
-row_none s reading (calls.Readable timer) (answers.Idle stamp) none = tt
-row_none s reading (calls.Online base) (answers.Idle stamp) none = tt
+row_none s reading call (answers.Idle stamp) none = tt
 row_none s reading call answer none = tt
 
 -- what the calls of a script did, by what they saw of bases off line

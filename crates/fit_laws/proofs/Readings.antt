@@ -10,7 +10,8 @@ use Rattle.std.proofs.lemmas.Option.{same_Some}
 use Rattle.record_text.specs.declared.record.Answer.{Answer}
 use Rattle.record_text.specs.declared.record.Label.{Label}
 use Rattle.script_text.specs.declared.script.Call.{Call}
-use Rattle.run_history.specs.Fits.{FitsIn, FitsInTurn, FitsLane, HasRead, ReadsInTurn, Seen, reads_clock, unseen}
+use Rattle.run_history.specs.Calls.{reads_clock}
+use Rattle.run_history.specs.Fits.{FitsIn, FitsInTurn, FitsLane, HasRead, ReadsInTurn, Seen, unseen}
 use Rattle.run_history.specs.Histories.{answers_of}
 use Rattle.run_history.specs.Order.{CallInRound, calls_of, made_by}
 use Rattle.run_history.specs.Truths.{IsMoment}

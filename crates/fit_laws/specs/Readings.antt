@@ -3,7 +3,7 @@ use Rattle.std.specs.Prelude.{ℕ, ◌≡◌, ◌+◌, ◌<◌, true, Some}
 use Rattle.std.specs.List.{slice_get}
 use Rattle.record_text.specs.declared.record.Label.{Label}
 use Rattle.script_text.specs.declared.script.Script.{Script}
-use Rattle.run_history.specs.Fits.{reads_clock}
+use Rattle.run_history.specs.Calls.{reads_clock}
 use Rattle.run_history.specs.Order.{CallInRound, calls_of}
 use Rattle.run_history.specs.Witnesses.{Move, OfRise, Witness}
 

@@ -64,8 +64,6 @@ module _ {s : Script} {x : WorldOf} (range : IsInRange s) (is : IsWorldOf s x) w
 
   can_call : (lane : ℕ) (c : Call) → IsCallInRange lane s.bases s.timers c → (s.version ≡ versions.One → IsHardCall c) → CanCall x lane c
   can_call lane (calls.Start timer request) ok hard = (timer_there ok.0.0, base_there ok.1)
-  can_call lane (calls.Cancel timer) ok hard = timer_there ok.0
-  can_call lane (calls.Peek timer) ok hard = timer_there ok.0
   can_call lane (calls.Expire context base budget) ok hard = (base_there ok.0, ok.1)
   can_call lane (calls.Clock write) ok hard = tt
   can_call lane (calls.Settime timer flags value interval) ok hard =
@@ -78,6 +76,7 @@ module _ {s : Script} {x : WorldOf} (range : IsInRange s) (is : IsWorldOf s x) w
   can_call lane (calls.Readable timer) ok hard = on_object timer forms.Readable (λ k. k ≡ over.Fd) ok (λ y c e. absurd cc) (λ b e. absurd cc) (λ b e. refl)
   can_call lane (calls.Offline base heir budget) ok hard = (ok.0, base_there ok.1, ok.2, ok.3, evacuable hard)
   can_call lane (calls.Online base) ok hard = (ok.0, base_there ok.1, evacuable hard)
+  can_call lane call ok hard = timer_there ok.0
 
   -- so can those of each round
   pub round_can : (rs : List Round) (i : ℕ) (r : Round) → i < length rs

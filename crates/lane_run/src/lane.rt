@@ -10,7 +10,7 @@ use crate::expiring::expire;
 use crate::gate::{Gate, Point};
 use crate::object_calls::{accept, gettime, overrun, read, readable, settime};
 use crate::reading::read_clock;
-use crate::timer_calls::{cancel, peek, start, write};
+use crate::timer_calls::{cancel, look, start, write};
 use crate::world::World;
 use ktime::Reading;
 use lane_world::Lane;
@@ -112,7 +112,16 @@ fn make<R: Wait, G: Gate>(
 {
     match call {
         Call::Cancel { timer } => cancel(rt, alloc, world, lane, timer),
-        Call::Peek { timer } => Ok(peek(world, lane, timer)),
+        Call::Peek { timer } => {
+            let seen = look(world, lane, timer);
+            Ok(Answer::Peek {
+                stamp: seen.stamp,
+                base: seen.base,
+                enqueued: seen.enqueued,
+                running: seen.running,
+                moving: seen.moving,
+            })
+        }
         Call::Overrun { timer } => Ok(overrun(rt, alloc, world, lane, timer)),
         Call::Online { base } => online(rt, world, lane, base),
         Call::Clock { write: wanted } => write(rt, world, lane, wanted),

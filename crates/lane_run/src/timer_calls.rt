@@ -1,6 +1,6 @@
 //! The calls on timers by themselves, and the writes of the clock.
 ghost use Rattle.std.specs.Prelude.{◌≡◌, ◌≤◌, ◌<◌, [], IfOk, length};
-ghost use Rattle.lane_world.specs.Called.{CallsCancel, CallsPeek, CallsStart, CallsWrite, LeavesLane, ReadsClock, cancel_told, lane_of, start_told};
+ghost use Rattle.lane_world.specs.Called.{CallsCancel, CallsStart, CallsWrite, LeavesLane, LooksAtTimer, ReadsClock, cancel_told, lane_of, start_told};
 ghost use Rattle.lane_world.specs.Worlds.{ArePassesOf};
 
 use crate::world::World;
@@ -11,7 +11,7 @@ use lane_notes::note_receipts;
 use lane_world::Lane;
 use record_text::{Answer, ClockLine};
 use script_text::StartRequest;
-use seq_timer::{Asked, CancelAnswer};
+use seq_timer::{Asked, CancelAnswer, Peek};
 use std::alloc::{AllocError, Global};
 use std::sync::Wait;
 
@@ -108,20 +108,13 @@ fn cancel_answer(answer: CancelAnswer) -> Answer
 }
 
 /// A look at a timer.
-pub(crate) fn peek(world: &World, lane: &mut Lane, timer: u32) -> Answer
+pub(crate) fn look(world: &World, lane: &mut Lane, timer: u32) -> Peek
     requires pass { ArePassesOf world.now lane.old.pass }
     requires timer { timer < length world.now.timers.about.timers }
     ensures leaves { LeavesLane world.now lane.old lane.new }
-    ensures call { CallsPeek world.now (lane_of lane.old) (lane_of lane.new) result timer }
+    ensures looks { LooksAtTimer world.now (lane_of lane.old) (lane_of lane.new) timer result }
 {
-    let seen = world.timers.peek(&mut lane.pass.timers, timer);
-    Answer::Peek {
-        stamp: seen.stamp,
-        base: seen.base,
-        enqueued: seen.enqueued,
-        running: seen.running,
-        moving: seen.moving,
-    }
+    world.timers.peek(&mut lane.pass.timers, timer)
 }
 
 /// A write of the clock.

@@ -103,8 +103,7 @@ module _ {S : Type 0} (k : KindOfObject S) (clock : List ClockLine) where
       let same = k.law.told t h.call (k.allows t h.call leads.0) in
       let rest = legal (table.next t h.call) to hs lines (subst (λ o. Leads object_meaning o hs to) (k.step t h.call) leads.2) are.1 in
       subst (λ (a : AnsweredCall ObjectCall ObjectReply). table.allows t a.call × (a.reply ≡ table.answer t a.call) × AreCalls table (table.next t a.call) (calls_in lines))
-      (sym are.0)
-      (
+      (sym are.0) (
         same.allows,
         leads.1 ∙ (k.answer t h.call ∙ sym same.answer),
         subst (λ u. AreCalls table u (calls_in lines)) (sym same.next) rest,

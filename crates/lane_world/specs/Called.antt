@@ -7,7 +7,7 @@ use Rattle.clock_cell.specs.Views.{AnswersWrite, seen_reading, writes}
 use Rattle.pass_names.specs.Passes.{Looks}
 use Rattle.pass_names.specs.SharedHistory.{LooksOn}
 use Rattle.ordered_clock.specs.Moments.{HasPlace, ReadsAt}
-use Rattle.run_history.specs.Fits.{reads_clock}
+use Rattle.run_history.specs.Calls.{reads_clock}
 use Rattle.seq_timer.specs.declared.event.EventBy.TheVariants as events
 use Rattle.seq_timer.specs.Events.{Asked, Event}
 use Rattle.seq_timer.specs.Calls.{asked_for}
@@ -221,6 +221,13 @@ with_online_told notes label base (ons.AlreadyOnline stamp) = notes
 abbrev pub asked_in : StartRequest → ClockReading → Asked
 asked_in request reading = asked_for request.mode request.ns (asked_slack request) request.base reading
 
+-- a look at a timer found this
+pub record LooksAtTimer (x : WorldOf) (l m : LaneOf) (timer : ℕ) (seen : Peek) : Type 0 where
+  pub clock : LeavesClock l.pass m.pass
+  pub peeks : Peeks x.timers.about l.pass.timers.known m.pass.timers.known timer seen
+  pub objects : m.pass.objects ≡ l.pass.objects
+  pub notes : m.notes ≡ l.notes
+
 module _ (x : WorldOf) (l m : LaneOf) (a : Answer) where
   pub record CallsStart (timer : ℕ) (request : StartRequest) : Type 0 where
     pub reading : ClockReading
@@ -239,14 +246,6 @@ module _ (x : WorldOf) (l m : LaneOf) (a : Answer) where
     pub objects : m.pass.objects ≡ l.pass.objects
     pub notes : m.notes ≡ with_done l.notes l.label (receipts_of timer (timer_then x.timers.about cancels.at timer).stamp (cancel_entries answer)) []
     pub told : a ≡ cancel_told answer
-
-  pub record CallsPeek (timer : ℕ) : Type 0 where
-    pub clock : LeavesClock l.pass m.pass
-    pub seen : Peek
-    pub peeks : Peeks x.timers.about l.pass.timers.known m.pass.timers.known timer seen
-    pub objects : m.pass.objects ≡ l.pass.objects
-    pub notes : m.notes ≡ l.notes
-    pub told : a ≡ answers.Peek seen.stamp seen.base seen.enqueued seen.running seen.moving
 
   -- ---- the clock
 
@@ -347,7 +346,8 @@ CanCall x lane (calls.Online base) = (lane ≡ 0) × (base < x.timers.about.base
 abbrev pub CalledThen : WorldOf → LaneOf → Call → Answer → LaneOf → Type 0
 CalledThen x l (calls.Start timer request) a m = CallsStart x l m a timer request
 CalledThen x l (calls.Cancel timer) a m = CallsCancel x l m a timer
-CalledThen x l (calls.Peek timer) a m = CallsPeek x l m a timer
+CalledThen x l (calls.Peek timer) a m =
+    (seen : Peek) × LooksAtTimer x l m timer seen × (a ≡ answers.Peek seen.stamp seen.base seen.enqueued seen.running seen.moving)
 CalledThen x l (calls.Expire context base budget) a m = CallsExpire x l m a context base budget
 CalledThen x l (calls.Clock write) a m = ⊥
 CalledThen x l (calls.Settime timer flags value interval) a m =

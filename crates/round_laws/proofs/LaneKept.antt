@@ -13,7 +13,8 @@ use Rattle.run_history.specs.Order.{CallInRound}
 use Rattle.script_text.specs.declared.script.Call.{Call}
 use Rattle.script_text.specs.declared.script.Script.{Script}
 use Rattle.run_history.specs.Witnesses.{Witness}
-use Rattle.run_history.specs.Fits.{FitsCall, FitsLane, HasRead, ReadsInTurn, Seen, reads_clock}
+use Rattle.run_history.specs.Calls.{reads_clock}
+use Rattle.run_history.specs.Fits.{FitsCall, FitsLane, HasRead, ReadsInTurn, Seen}
 use Rattle.run_history.specs.Rounds.{label_at}
 use Rattle.lane_world.specs.Called.{Called, LaneOf}
 use Rattle.lane_world.proofs.Kept.{AddsPlaces, Follows, IsNextCall, KeepsTurn, log_of, seen_by}

@@ -1,5 +1,5 @@
 -- The table of calls: for each call and each answer that it may have, what the call then did, and what the answer tells.
-use Rattle.std.specs.Prelude.{ℕ, ◌≡◌, ◌≤◌, ◌<◌, true, Some, None, IsSome, List, [], ◌∷◌}
+use Rattle.std.specs.Prelude.{ℕ, ◌≡◌, ◌≤◌, ◌<◌, Bool, true, false, Some, None, IsSome, List, [], ◌∷◌}
 use Rattle.clock_model.specs.Clocks.{after_write, greatest}
 use Rattle.timer_fd.specs.Steps.{count_length}
 use Rattle.posix_timer.specs.States.{setting_of}
@@ -159,6 +159,14 @@ call_row s reading (calls.Online base) (answers.Online stamp) = only (Shifts bas
 call_row s reading (calls.Online base) (answers.Already stamp) =
     looked (λ c. StandsAt c.w base stamp c.last × ((standing_along c.w c.last base).heir ≡ None))
 call_row s reading call answer = only Never
+
+-- whether a call reads the clock
+abbrev pub reads_clock : Call → Bool
+reads_clock (calls.Cancel timer) = false
+reads_clock (calls.Peek timer) = false
+reads_clock (calls.Overrun timer) = false
+reads_clock (calls.Online base) = false
+reads_clock call = true
 
 -- ---- what the rows say
 

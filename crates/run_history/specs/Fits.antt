@@ -1,10 +1,9 @@
 -- What it means that a record fits a script: each call is there once, in the order of its lane; all timers' and bases' entries are one history, in which
 -- the clock's writes and readings and the objects' entries have their places; and each object's are one history.
-use Rattle.std.specs.Prelude.{ℕ, ◌≡◌, ◌≤◌, ◌+◌, Bool, true, false, MatchBool, List, [], ◌∷◌, length, map}
+use Rattle.std.specs.Prelude.{ℕ, ◌≡◌, ◌≤◌, ◌+◌, false, MatchBool, List, [], ◌∷◌, length, map}
 use Rattle.std.specs.List.{AllByRecursion}
 use Rattle.clock_model.specs.Clocks.{at_stamp}
 use Rattle.script_text.specs.declared.script.Call.{Call}
-use Rattle.script_text.specs.declared.script.Call.TheVariants as calls
 use Rattle.script_text.specs.declared.script.Script.{Script}
 use Rattle.record_text.specs.declared.record.Label.{Label}
 use Rattle.record_text.specs.declared.record.Answer.{Answer}
@@ -16,7 +15,7 @@ use Rattle.script_text.specs.Declarations.{kind_of}
 use Rattle.run_history.specs.Actions.{wrote}
 use Rattle.run_history.specs.Witnesses.{Move, Trace, Witness, IsOneHistory, labels, witness_with, writes_along}
 use Rattle.run_history.specs.Traces.{HasTraced}
-use Rattle.run_history.specs.Calls.{AnswerHolds, Does}
+use Rattle.run_history.specs.Calls.{AnswerHolds, Does, reads_clock}
 use Rattle.run_history.specs.Deeds.{AllKeepExpiries, AllMoved}
 use Rattle.run_history.specs.Truths.{AreTrue, IsMoment, WasFront, WasOffLine}
 
@@ -50,14 +49,6 @@ pub record FitsTrace (w : Witness) (c : Label) (t : Trace) (call : Call) (answer
 -- the same, by what the witness says that the call did
 abbrev pub FitsCall : Witness → Label → Call → Answer → Seen → Seen → Type 0
 FitsCall w c call answer before after = FitsTrace w c (w.traces c) call answer before after
-
--- whether a call reads the clock
-abbrev pub reads_clock : Call → Bool
-reads_clock (calls.Cancel timer) = false
-reads_clock (calls.Peek timer) = false
-reads_clock (calls.Overrun timer) = false
-reads_clock (calls.Online base) = false
-reads_clock call = true
 
 -- A call read the clock at a moment behind all that its lane had seen, and no later than its first, at which it had made no entry: so many of the clock's
 -- writes as its reading has stood before that moment.

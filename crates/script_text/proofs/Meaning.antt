@@ -26,7 +26,7 @@ use Rattle.script_text.specs.declared.script.LaneCall.{LaneCall}
 use Rattle.script_text.specs.Forms.{Spot, Key, At, Sort, ClockName, ModeName, Numeral, sort, row, called, part, suits}
 use Rattle.script_text.specs.Grammar.{IsOfSort, Fills}
 use Rattle.script_text.specs.Scripts.{declaration_line, IsKindInRange}
-use Rattle.script_text.specs.CallLines.{most_budget, asking_line, call_line, IsGivenMode, IsCallInRange, HasTimerFor, plain_call_of, object_call_of, call_of}
+use Rattle.script_text.specs.CallLines.{most_budget, asking_line, call_line, IsGivenMode, IsCallInRange, HasTimerFor, plain_call_of, object_call_of, on_timer_of, timer_call_of, call_of}
 use Rattle.script_text.specs.Drafts.{declaration_of}
 use Rattle.script_text.specs.Refusals.{check_number, check_values, check_kind}
 use Rattle.script_text.proofs.Checks.{neither, holds}
@@ -223,7 +223,7 @@ offline_call : (d : Draft) (some : 0 < d.lanes) (k b h n : ℕ)
     → check_values d 0 (row forms.Offline) (values.Number k ∷ values.Number b ∷ values.Number h ∷ values.Number n ∷ []) ≡ None
     → Calls d forms.Offline (values.Number k ∷ values.Number b ∷ values.Number h ∷ values.Number n ∷ [])
     (record { lane = k; call = calls.Offline b h n })
-unfolding call_of plain_call_of object_call_of check_values check_number
+unfolding call_of on_timer_of timer_call_of plain_call_of object_call_of check_values check_number
 offline_call d some k b h n none =
     let lane = neither _ _ none in
     let base = neither _ _ lane.1 in
@@ -245,7 +245,7 @@ offline_call d some k b h n none =
 online_call : (d : Draft) (some : 0 < d.lanes) (k b : ℕ)
     → check_values d 0 (row forms.Online) (values.Number k ∷ values.Number b ∷ []) ≡ None
     → Calls d forms.Online (values.Number k ∷ values.Number b ∷ []) (record { lane = k; call = calls.Online b })
-unfolding call_of plain_call_of object_call_of check_values check_number
+unfolding call_of on_timer_of timer_call_of plain_call_of object_call_of check_values check_number
 online_call d some k b none =
     let lane = neither _ _ none in
     let first = eqb-true k 0 (holds _ _ lane.0) in
@@ -272,7 +272,7 @@ pub calls_for : (d : Draft) → 0 < d.lanes → (f : Form) (vs : List Value) →
     → check_values d 0 (row f) vs ≡ None
     → check_kind d f (row f) vs ≡ None
     → (c : LaneCall) × Calls d f vs c
-unfolding call_of plain_call_of object_call_of check_values check_number check_kind
+unfolding call_of on_timer_of timer_call_of plain_call_of object_call_of check_values check_number check_kind
 calls_for d some forms.Start
     (values.Number k ∷ values.Number i ∷ values.Mode modes.Rel ∷ values.Number n ∷ values.Number b ∷ []) is fit e kind =
     timer_call d forms.Start _ _ k i _ (calls.Start i (record { mode = modes.Rel; ns = n; slack = None; base = b })) refl refl refl
@@ -289,10 +289,6 @@ calls_for d some forms.StartRange
     (values.Number k ∷ values.Number i ∷ values.Mode modes.Abs ∷ values.Number n ∷ values.Number s ∷ values.Number b ∷ []) is fit e kind =
     timer_call d forms.StartRange _ _ k i _ (calls.Start i (record { mode = modes.Abs; ns = n; slack = Some s; base = b })) refl refl refl
     (λ none suit. (as_start d.timers i suit, ltb-true b d.bases (holds _ _ (neither _ _ none).0), tt)) e kind
-calls_for d some forms.Cancel (values.Number k ∷ values.Number i ∷ []) is fit e kind =
-    timer_call d forms.Cancel _ _ k i _ (calls.Cancel i) refl refl refl (λ none suit. suit) e kind
-calls_for d some forms.Peek (values.Number k ∷ values.Number i ∷ []) is fit e kind =
-    timer_call d forms.Peek _ _ k i _ (calls.Peek i) refl refl refl (λ none suit. suit) e kind
 calls_for d some forms.Expire (values.Number k ∷ values.Number b ∷ values.Number n ∷ []) is fit e kind =
     expire_call d forms.Expire _ k b n contexts.Hard refl refl refl e
 calls_for d some forms.SoftExpire (values.Number k ∷ values.Number b ∷ values.Number n ∷ []) is fit e kind =
@@ -308,27 +304,44 @@ calls_for d some forms.Settime
     []) call fit e kind =
     timer_call d forms.Settime _ _ k i _ (calls.Settime i f (record { sec = vs; nsec = vn }) (record { sec = is; nsec = in_ })) refl refl refl
     (λ none suit. suit) e kind
-calls_for d some forms.Gettime (values.Number k ∷ values.Number i ∷ []) is fit e kind =
-    timer_call d forms.Gettime _ _ k i _ (calls.Gettime i) refl refl refl (λ none suit. suit) e kind
-calls_for d some forms.Accept (values.Number k ∷ values.Number i ∷ []) is fit e kind =
-    timer_call d forms.Accept _ _ k i _ (calls.Accept i) refl refl refl (λ none suit. suit) e kind
-calls_for d some forms.Overrun (values.Number k ∷ values.Number i ∷ []) is fit e kind =
-    timer_call d forms.Overrun _ _ k i _ (calls.Overrun i) refl refl refl (λ none suit. suit) e kind
 calls_for d some forms.Read (values.Number k ∷ values.Number i ∷ values.Number n ∷ []) is fit e kind =
     timer_call d forms.Read _ _ k i _ (calls.Read i n) refl refl refl (λ none suit. suit) e kind
-calls_for d some forms.Readable (values.Number k ∷ values.Number i ∷ []) is fit e kind =
-    timer_call d forms.Readable _ _ k i _ (calls.Readable i) refl refl refl (λ none suit. suit) e kind
 calls_for d some forms.Offline (values.Number k ∷ values.Number b ∷ values.Number h ∷ values.Number n ∷ []) is fit e kind =
     (record { lane = k; call = calls.Offline b h n }, offline_call d some k b h n e)
 calls_for d some forms.Online (values.Number k ∷ values.Number b ∷ []) is fit e kind =
     (record { lane = k; call = calls.Online b }, online_call d some k b e)
+calls_for d some forms.Start vs is fit e kind = absurd cc
+calls_for d some forms.StartRange vs is fit e kind = absurd cc
+calls_for d some forms.Expire vs is fit e kind = absurd cc
+calls_for d some forms.SoftExpire vs is fit e kind = absurd cc
+calls_for d some forms.Advance vs is fit e kind = absurd cc
+calls_for d some forms.Set vs is fit e kind = absurd cc
+calls_for d some forms.Suspend vs is fit e kind = absurd cc
+calls_for d some forms.Settime vs is fit e kind = absurd cc
+calls_for d some forms.Read vs is fit e kind = absurd cc
+calls_for d some forms.Offline vs is fit e kind = absurd cc
+calls_for d some forms.Online vs is fit e kind = absurd cc
+calls_for d some forms.Version vs is fit e kind = absurd cc
+calls_for d some forms.Bases vs is fit e kind = absurd cc
+calls_for d some forms.Lanes vs is fit e kind = absurd cc
+calls_for d some forms.Limit vs is fit e kind = absurd cc
+calls_for d some forms.RawOnce vs is fit e kind = absurd cc
+calls_for d some forms.RawEvery vs is fit e kind = absurd cc
+calls_for d some forms.RawCancels vs is fit e kind = absurd cc
+calls_for d some forms.RawStarts vs is fit e kind = absurd cc
+calls_for d some forms.SoftOnce vs is fit e kind = absurd cc
+calls_for d some forms.SoftEvery vs is fit e kind = absurd cc
+calls_for d some forms.Posix vs is fit e kind = absurd cc
+calls_for d some forms.Fd vs is fit e kind = absurd cc
+calls_for d some forms.Round vs is fit e kind = absurd cc
+calls_for d some f (values.Number k ∷ values.Number i ∷ []) is fit e kind = timer_call d f _ _ k i _ _ refl refl refl (λ none suit. suit) e kind
 calls_for d some _ _ is fit e kind = absurd cc
 
 start_again : (d : Draft) (lane timer : ℕ) (mode : Mode) (ns base : ℕ) (slack : Option ℕ) → lane < d.lanes
     → HasTimerFor d.timers timer forms.Start × (base < d.bases) × IsGivenMode mode
     → IsCallOf d (asking_line lane timer mode ns base slack).form (asking_line lane timer mode ns base slack).values
     (record { lane = lane; call = calls.Start timer (record { mode = mode; ns = ns; slack = slack; base = base }) })
-unfolding call_of plain_call_of object_call_of check_values check_number check_kind
+unfolding call_of on_timer_of timer_call_of plain_call_of object_call_of check_values check_number check_kind
 start_again d lane timer mode ns base None own range =
     timer_call_again d forms.Start _ _ lane timer _ (calls.Start timer (record { mode = mode; ns = ns; slack = None; base = base })) refl refl
     refl own range.0 (rw (lt-ltb base d.bases range.1) refl)
@@ -339,7 +352,7 @@ start_again d lane timer mode ns base (Some slack) own range =
 
 pub call_again : (d : Draft) (lane : ℕ) (call : Call) → lane < d.lanes → IsCallInRange lane d.bases d.timers call
     → IsCallOf d (call_line lane call).form (call_line lane call).values (record { lane = lane; call = call })
-unfolding call_of plain_call_of object_call_of check_values check_number check_kind
+unfolding call_of on_timer_of timer_call_of plain_call_of object_call_of check_values check_number check_kind
 call_again d lane (calls.Start timer request) own range = start_again d lane timer request.mode request.ns request.base request.slack own range
 call_again d lane (calls.Expire contexts.Hard base budget) own range = record {
   means = refl;

@@ -52,15 +52,20 @@ call_line lane (calls.Online base) = of_numbers forms.Online (lane ∷ base ∷ 
 
 -- ---- the call of a line
 
--- the call of a timer that has no other argument, by the form of its line
-unfoldable pub timer_call_of : Form → ℕ → Option Call
-timer_call_of forms.Cancel i = Some (calls.Cancel i)
-timer_call_of forms.Peek i = Some (calls.Peek i)
-timer_call_of forms.Gettime i = Some (calls.Gettime i)
-timer_call_of forms.Accept i = Some (calls.Accept i)
-timer_call_of forms.Overrun i = Some (calls.Overrun i)
-timer_call_of forms.Readable i = Some (calls.Readable i)
-timer_call_of form i = None
+-- the call that this lane makes on a timer, where it has no other argument, by the form of its line
+unfoldable pub timer_call_of : Form → ℕ → ℕ → Option LaneCall
+timer_call_of forms.Cancel k i = Some (record { lane = k; call = calls.Cancel i })
+timer_call_of forms.Peek k i = Some (record { lane = k; call = calls.Peek i })
+timer_call_of forms.Gettime k i = Some (record { lane = k; call = calls.Gettime i })
+timer_call_of forms.Accept k i = Some (record { lane = k; call = calls.Accept i })
+timer_call_of forms.Overrun k i = Some (record { lane = k; call = calls.Overrun i })
+timer_call_of forms.Readable k i = Some (record { lane = k; call = calls.Readable i })
+timer_call_of form k i = None
+
+-- that of a line that has a lane's and a timer's number and nothing else
+unfoldable pub on_timer_of : Form → List Value → Option LaneCall
+on_timer_of form (values.Number k ∷ values.Number i ∷ []) = timer_call_of form k i
+on_timer_of form vs = None
 
 -- the call of a raw timer, of a base or of the clock that a line asks for, and its lane, by its form and values
 unfoldable pub plain_call_of : Form → List Value → Option LaneCall
@@ -68,8 +73,6 @@ plain_call_of forms.Start (values.Number k ∷ values.Number i ∷ values.Mode m
     Some (record { lane = k; call = calls.Start i (record { mode = m; ns = n; slack = None; base = b }) })
 plain_call_of forms.StartRange (values.Number k ∷ values.Number i ∷ values.Mode m ∷ values.Number n ∷ values.Number s ∷ values.Number b ∷ []) =
     Some (record { lane = k; call = calls.Start i (record { mode = m; ns = n; slack = Some s; base = b }) })
-plain_call_of forms.Cancel (values.Number k ∷ values.Number i ∷ []) = Some (record { lane = k; call = calls.Cancel i })
-plain_call_of forms.Peek (values.Number k ∷ values.Number i ∷ []) = Some (record { lane = k; call = calls.Peek i })
 plain_call_of forms.Expire (values.Number k ∷ values.Number b ∷ values.Number n ∷ []) =
     Some (record { lane = k; call = calls.Expire contexts.Hard b n })
 plain_call_of forms.SoftExpire (values.Number k ∷ values.Number b ∷ values.Number n ∷ []) =
@@ -87,16 +90,12 @@ unfoldable pub object_call_of : Form → List Value → Option LaneCall
 object_call_of forms.Settime
     (values.Number k ∷ values.Number i ∷ values.Number f ∷ values.Number vs ∷ values.Number vn ∷ values.Number is ∷ values.Number in_ ∷ []) =
     Some (record { lane = k; call = calls.Settime i f (record { sec = vs; nsec = vn }) (record { sec = is; nsec = in_ }) })
-object_call_of forms.Gettime (values.Number k ∷ values.Number i ∷ []) = Some (record { lane = k; call = calls.Gettime i })
-object_call_of forms.Accept (values.Number k ∷ values.Number i ∷ []) = Some (record { lane = k; call = calls.Accept i })
-object_call_of forms.Overrun (values.Number k ∷ values.Number i ∷ []) = Some (record { lane = k; call = calls.Overrun i })
 object_call_of forms.Read (values.Number k ∷ values.Number i ∷ values.Number n ∷ []) = Some (record { lane = k; call = calls.Read i n })
-object_call_of forms.Readable (values.Number k ∷ values.Number i ∷ []) = Some (record { lane = k; call = calls.Readable i })
 object_call_of form vs = None
 
 -- the call that a line asks for, and its lane
 unfoldable pub call_of : Form → List Value → Option LaneCall
-call_of form vs = option_or (plain_call_of form vs) (object_call_of form vs)
+call_of form vs = option_or (option_or (on_timer_of form vs) (plain_call_of form vs)) (object_call_of form vs)
 
 -- ---- the range of a call
 

@@ -1,8 +1,11 @@
 //! The forms of line of a script, as the rows of one table, and the words that choose them.
-ghost use Rattle.std.specs.Prelude.{◌≡◌, map};
+ghost use Rattle.std.specs.Prelude.{◌≡◌, ◌∷◌, [], map};
+ghost use Rattle.script_text.specs.CallLines.{timer_call_of};
+ghost use Rattle.script_text.specs.Drafts.{AreShort};
+ghost use Rattle.script_text.specs.declared.form.Value.TheVariants as values;
 ghost use Rattle.script_text.specs.Forms.{field_at, has_form, part, comes_by, row, since, suits};
 
-use crate::script::Kind;
+use crate::script::{Call, Kind, LaneCall};
 use ktime::{ClockId, Mode};
 use record_text::{ItemList, Version};
 
@@ -247,6 +250,42 @@ impl Form {
             Form::Round => Part::Round,
             _ => Part::Call,
         }
+    }
+
+    /// The call that a line of it asks for, where it has the number of a timer and nothing else.
+    #[tactic(auto, unfolding(crate::specs::CallLines::timer_call_of))]
+    pub(crate) fn timer_call(self, lane: u64, timer: u64) -> Option<LaneCall>
+        requires { AreShort (row self) (values.Number lane ∷ values.Number timer ∷ []) }
+        ensures { result ≡ timer_call_of self lane timer }
+    {
+        let (lane, call) = match self {
+            Form::Cancel => {
+                let (lane, timer) = (lane as u32, timer as u32);
+                (lane, Call::Cancel { timer })
+            }
+            Form::Peek => {
+                let (lane, timer) = (lane as u32, timer as u32);
+                (lane, Call::Peek { timer })
+            }
+            Form::Gettime => {
+                let (lane, timer) = (lane as u32, timer as u32);
+                (lane, Call::Gettime { timer })
+            }
+            Form::Accept => {
+                let (lane, timer) = (lane as u32, timer as u32);
+                (lane, Call::Accept { timer })
+            }
+            Form::Overrun => {
+                let (lane, timer) = (lane as u32, timer as u32);
+                (lane, Call::Overrun { timer })
+            }
+            Form::Readable => {
+                let (lane, timer) = (lane as u32, timer as u32);
+                (lane, Call::Readable { timer })
+            }
+            _ => return None,
+        };
+        Some(LaneCall { lane, call })
     }
 
     /// Whether its call can be made on a timer of this kind.

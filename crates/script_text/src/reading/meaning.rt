@@ -6,7 +6,7 @@ ghost use Rattle.script_text.specs.declared.script.Kind.TheVariants as kinds;
 ghost use Rattle.seq_timer.specs.declared.context.Context.TheVariants as contexts;
 ghost use Rattle.script_text.specs.declared.script.Call.TheVariants as calls;
 ghost use Rattle.script_text.specs.Drafts.{AreShort, declaration_of};
-ghost use Rattle.script_text.specs.CallLines.{call_of, object_call_of, plain_call_of, timer_call_of};
+ghost use Rattle.script_text.specs.CallLines.{call_of, object_call_of, plain_call_of};
 
 use crate::form::Form;
 use crate::form::Value::{self, Clock, Mode, Number};
@@ -66,25 +66,28 @@ fn soft(callback: Callback) -> Kind
 }
 
 /// The call that a line asks for, and its lane, by its form and values.
-#[tactic(auto, unfolding(crate::specs::CallLines::call_of))]
+#[tactic(auto, unfolding(crate::specs::CallLines::call_of, crate::specs::CallLines::on_timer_of))]
 pub fn call(form: Form, values: &[Value]) -> Option<LaneCall>
     requires { AreShort (row form) values.now }
     ensures { result ≡ call_of form values.now }
 {
-    plain_call(form, values).or(object_call(form, values))
+    let on_timer = match values {
+        [Number(lane), Number(timer)] => form.timer_call(*lane, *timer),
+        _ => None,
+    };
+    on_timer
+        .or(plain_call(form, values))
+        .or(object_call(form, values))
 }
 
 /// The call of a raw timer, of a base or of the clock that a line asks for.
-#[tactic(auto, unfolding(crate::specs::CallLines::plain_call_of, crate::specs::CallLines::timer_call_of))]
+#[tactic(auto, unfolding(crate::specs::CallLines::plain_call_of))]
 fn plain_call(form: Form, values: &[Value]) -> Option<LaneCall>
     requires { AreShort (row form) values.now }
     ensures { result ≡ plain_call_of form values.now }
 {
     let (lane, call) = match (form, values) {
         (Form::Start | Form::StartRange, values) => return start(form, values),
-        (Form::Cancel | Form::Peek, [Number(lane), Number(timer)]) => {
-            (lane, timer_call(form, *timer as u32)?)
-        }
         (Form::Expire, [Number(lane), Number(base), Number(budget)]) => {
             (lane, expire(Context::Hard, *base as u32, *budget))
         }
@@ -168,22 +171,6 @@ fn online(base: u32) -> Call
     Call::Online { base }
 }
 
-/// The call that a line of this form asks for, where it has the number of a timer and nothing else.
-#[tactic(auto, unfolding(crate::specs::CallLines::timer_call_of))]
-fn timer_call(form: Form, timer: u32) -> Option<Call>
-    ensures { result ≡ timer_call_of form timer }
-{
-    match form {
-        Form::Cancel => Some(Call::Cancel { timer }),
-        Form::Peek => Some(Call::Peek { timer }),
-        Form::Gettime => Some(Call::Gettime { timer }),
-        Form::Accept => Some(Call::Accept { timer }),
-        Form::Overrun => Some(Call::Overrun { timer }),
-        Form::Readable => Some(Call::Readable { timer }),
-        _ => None,
-    }
-}
-
 fn write(write: Write) -> Call
     ensures { result ≡ calls.Clock write }
 {
@@ -191,7 +178,7 @@ fn write(write: Write) -> Call
 }
 
 /// The call of an object that a line asks for.
-#[tactic(auto, unfolding(crate::specs::CallLines::object_call_of, crate::specs::CallLines::timer_call_of))]
+#[tactic(auto, unfolding(crate::specs::CallLines::object_call_of))]
 fn object_call(form: Form, values: &[Value]) -> Option<LaneCall>
     requires { AreShort (row form) values.now }
     ensures { result ≡ object_call_of form values.now }
@@ -202,10 +189,6 @@ fn object_call(form: Form, values: &[Value]) -> Option<LaneCall>
             let (timer, len) = (*timer as u32, *len);
             (lane, Call::Read { timer, len })
         }
-        (
-            Form::Gettime | Form::Accept | Form::Overrun | Form::Readable,
-            [Number(lane), Number(timer)],
-        ) => (lane, timer_call(form, *timer as u32)?),
         _ => return None,
     };
     let lane = *lane as u32;
