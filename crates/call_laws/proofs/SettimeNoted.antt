@@ -69,6 +69,7 @@ module _ (flags value interval : ℕ) (reading : ClockReading) (answer : Settime
   pub settime_noted : (x : Object) (arm : Arm) → ObjectAllows x (call_by arm reading) → replies.Settime answer ≡ object_answer x (call_by arm reading)
       → SettimeNoted arm (object_answer x (call_by arm reading))
   settime_noted objects.Raw arm allows tells = absurd allows
+  settime_noted (objects.Sleeper s) arm allows tells = absurd allows
   settime_noted (objects.Posix t) (arms.Unarmed stamp) allows tells = refused_so stamp tells
   settime_noted (objects.Posix t) arm allows tells =
       noted_so arm _ (settimes.Old (posix_left t reading) t.interval) (refl, refl, λ clock. refl) (ap settime_told (settime_same tells))

@@ -29,6 +29,7 @@ pub(crate) fn told(call: ObjectCall, reply: ObjectReply) -> NoteOrSkip
         ObjectCall::Accept { reading, arm } => (accept(reading, arm, reply), None),
         ObjectCall::Read { reading, arm } => (read(reading, arm, reply), None),
         ObjectCall::Gettime { reading, arm } => (gettime(reading, arm, reply), None),
+        ObjectCall::Sleep(_) | ObjectCall::Interrupt { .. } => (None, None),
     }
 }
 

@@ -28,6 +28,7 @@ use Rattle.hr_timers.specs.Known.{IsEvacuable}
 use Rattle.hr_timers.proofs.Shifts.{evacuable_on}
 use Rattle.record_text.specs.declared.version.Version.{Version}
 use Rattle.record_text.specs.declared.version.Version.TheVariants as versions
+use Rattle.timer_objects.specs.Calls.{HasSetting}
 use Rattle.script_text.specs.VersionOne.{IsHardCall}
 use Rattle.script_text.specs.Declarations.{declareds_of, kind_of, reach_of, terms_of}
 use Rattle.script_text.specs.declared.script.Callback.{Callback}
@@ -67,9 +68,9 @@ module _ {s : Script} {x : WorldOf} (range : IsInRange s) (is : IsWorldOf s x) w
   can_call lane (calls.Expire context base budget) ok hard = (base_there ok.0, ok.1)
   can_call lane (calls.Clock write) ok hard = tt
   can_call lane (calls.Settime timer flags value interval) ok hard =
-      on_object timer forms.Settime (λ k. k ≢ over.Raw) ok (λ y c e. absurd cc) (λ b e raw. absurd cc) (λ b e raw. absurd cc)
+      on_object timer forms.Settime HasSetting ok (λ y c e. absurd cc) (λ b e. (λ is. cc, λ is. cc)) (λ b e. (λ is. cc, λ is. cc))
   can_call lane (calls.Gettime timer) ok hard =
-      on_object timer forms.Gettime (λ k. k ≢ over.Raw) ok (λ y c e. absurd cc) (λ b e raw. absurd cc) (λ b e raw. absurd cc)
+      on_object timer forms.Gettime HasSetting ok (λ y c e. absurd cc) (λ b e. (λ is. cc, λ is. cc)) (λ b e. (λ is. cc, λ is. cc))
   can_call lane (calls.Accept timer) ok hard = on_object timer forms.Accept (λ k. k ≡ over.Posix) ok (λ y c e. absurd cc) (λ b e. refl) (λ b e. absurd cc)
   can_call lane (calls.Overrun timer) ok hard = on_object timer forms.Overrun (λ k. k ≡ over.Posix) ok (λ y c e. absurd cc) (λ b e. refl) (λ b e. absurd cc)
   can_call lane (calls.Read timer len) ok hard = on_object timer forms.Read (λ k. k ≡ over.Fd) ok (λ y c e. absurd cc) (λ b e. absurd cc) (λ b e. refl)

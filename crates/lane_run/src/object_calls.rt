@@ -9,7 +9,7 @@ ghost use Rattle.timer_setting.specs.declared.answers.SettimeAnswer.{SettimeAnsw
 ghost use Rattle.timer_objects.specs.declared.answers.Gettime.{Gettime};
 ghost use Rattle.timer_objects.specs.declared.answers.Readable.{Readable};
 ghost use Rattle.record_text.specs.declared.record.Answer.TheVariants as answers;
-ghost use Rattle.lane_world.specs.Called.{CallsObject, CallsOverrun, LeavesLane, LeavesRest, ReadsClock, accept_told, gettime_told, lane_of, read_told, settime_told, with_done, IsObject, IsOfKind};
+ghost use Rattle.lane_world.specs.Called.{CallsObject, CallsOverrun, LeavesLane, LeavesRest, ReadsClock, accept_told, gettime_told, lane_of, read_told, settime_told, with_done, IsSettable, IsOfKind};
 ghost use Rattle.lane_world.specs.Worlds.{ArePassesOf};
 
 use crate::world::World;
@@ -93,7 +93,7 @@ pub(crate) fn settime<R: Wait>(
 ) -> Result<Answer, AllocError>
     requires pass { ArePassesOf world.now lane.old.pass }
     requires reading { ReadsClock lane.old.pass lane.old.pass reading }
-    requires object { IsObject world.now timer }
+    requires object { IsSettable world.now timer }
     ensures leaves { LeavesLane world.now lane.old lane.new }
     ensures call { IfOk result (λ a. (s : SettimeAnswer) × (a ≡ settime_told s) × CallsObject world.now (lane_of lane.old) (lane_of lane.new) a (λ old new reading. Settimes world.now.objects world.now.timers.about old new timer flags value interval reading s)) }
 {
@@ -125,7 +125,7 @@ pub(crate) fn gettime<R: Wait>(
 ) -> Result<Answer, AllocError>
     requires pass { ArePassesOf world.now lane.old.pass }
     requires reading { ReadsClock lane.old.pass lane.old.pass reading }
-    requires object { IsObject world.now timer }
+    requires object { IsSettable world.now timer }
     ensures leaves { LeavesLane world.now lane.old lane.new }
     ensures call { IfOk result (λ a. (g : Gettime) × CallsObject world.now (lane_of lane.old) (lane_of lane.new) a (λ old new reading. Gettimes world.now.objects world.now.timers.about old new timer reading (decl_at world.now.objects timer).kind g × (a ≡ gettime_told (decl_at world.now.objects timer).kind reading.stamp g))) }
 {
@@ -146,7 +146,7 @@ fn gettime_answer(answer: Gettime, kind: Kind, reading: u64) -> Answer
                 interval,
                 stamp,
             },
-            Kind::Raw | Kind::Posix,
+            Kind::Raw | Kind::Posix | Kind::Sleeper,
         ) => Answer::LeftAt {
             left,
             interval,

@@ -2,17 +2,13 @@
 use Rattle.std.proofs.Common.{◌≡◌, ℕ, List, [], ◌∷◌, ◌++◌, length, map, take, refl, sym, ap, ◌∙◌, subst}
 use Rattle.counted_row.specs.Meaning.{Leads}
 use Rattle.counted_row.specs.Views.{StateAfter}
-use Rattle.posix_timer.specs.States.{posix_opening, PosixTimer}
-use Rattle.posix_timer.specs.Steps.{posix_kind}
-use Rattle.posix_timer.proofs.AsKind.{posix_is_a_kind}
-use Rattle.timer_fd.specs.States.{Descriptor, fd_opening}
-use Rattle.timer_fd.specs.Steps.{fd_kind}
-use Rattle.timer_fd.proofs.AsKind.{fd_is_a_kind}
-use Rattle.timer_setting.specs.Kinds.{IsKind, ObjectKind}
+use Rattle.posix_timer.specs.States.{posix_opening}
+use Rattle.timer_fd.specs.States.{fd_opening}
 use Rattle.timer_setting.specs.StepTables.{after_calls, AnsweredCall, AreCalls, StepTable}
 use Rattle.timer_objects.specs.Meaning.{object_meaning, opened_objects}
-use Rattle.timer_objects.specs.Steps.{object_answer, object_step, ObjectAllows, opened_object}
+use Rattle.timer_objects.specs.Steps.{opened_object}
 use Rattle.timer_objects.proofs.Counting.{opened_at}
+use Rattle.timer_objects.proofs.KindOfObject.{KindOfObject, fd_objects, posix_objects, raw_leads}
 use Rattle.timer_objects.specs.declared.object.Object.TheVariants as objects
 use Rattle.timer_setting.specs.declared.object_call.ObjectCall.{ObjectCall}
 use Rattle.timer_setting.specs.declared.object_call.ObjectReply.{ObjectReply}
@@ -36,43 +32,7 @@ take_none : {A : Type 0} (xs : List A) → take 0 xs ≡ []
 take_none [] = refl
 take_none (x ∷ xs) = refl
 
--- ---- a kind of object
-
--- a kind whose states are objects, with the object's steps and answers
-pub record KindOfObject (S : Type 0) : Type 1 where
-  pub kind : ObjectKind S
-  pub law : IsKind kind
-  pub object : S → Object
-  pub allows : (t : S) (c : ObjectCall) → ObjectAllows (object t) c → kind.table.allows t c
-  pub step : (t : S) (c : ObjectCall) → object_step (object t) c ≡ object (kind.table.next t c)
-  pub answer : (t : S) (c : ObjectCall) → object_answer (object t) c ≡ kind.table.answer t c
-
--- law: POSIX timers are one
-abbrev pub posix_objects : KindOfObject PosixTimer
-posix_objects = record {
-  kind = posix_kind;
-  law = posix_is_a_kind;
-  object = objects.Posix;
-  allows = λ t c may. may;
-  step = λ t c. refl;
-  answer = λ t c. refl;
-}
-
--- law: so are descriptors
-abbrev pub fd_objects : KindOfObject Descriptor
-fd_objects = record {
-  kind = fd_kind;
-  law = fd_is_a_kind;
-  object = objects.Fd;
-  allows = λ t c may. may;
-  step = λ t c. refl;
-  answer = λ t c. refl;
-}
-
--- a timer by itself stays one
-raw_leads : (log : List ObjectMove) (now : Object) → Leads object_meaning objects.Raw log now → now ≡ objects.Raw
-raw_leads [] now leads = leads
-raw_leads (e ∷ es) now leads = absurd leads.0
+-- ---- by its kind
 
 module _ {S : Type 0} (k : KindOfObject S) (clock : List ClockLine) where
   abbrev table : StepTable S ObjectCall ObjectReply

@@ -29,7 +29,7 @@ use Rattle.expire_pass.specs.declared.expiry.ExpireAnswer.{ExpireAnswer}
 use Rattle.expire_pass.specs.declared.expiry.ExpireAnswer.TheVariants as expiries
 use Rattle.base_row.specs.declared.log.Receipt.{Receipt}
 use Rattle.timer_objects.specs.declared.log.ObjectReceipt.{ObjectReceipt}
-use Rattle.timer_objects.specs.Calls.{Accepts, Caller, Gettimes, LooksOverrun, LooksReadable, ReadsFd, Settimes}
+use Rattle.timer_objects.specs.Calls.{HasSetting, Accepts, Caller, Gettimes, LooksOverrun, LooksReadable, ReadsFd, Settimes}
 use Rattle.record_text.specs.declared.record.Answer.{Answer}
 use Rattle.record_text.specs.declared.record.Answer.TheVariants as answers
 use Rattle.record_text.specs.declared.record.Label.{Label}
@@ -316,9 +316,9 @@ module _ (x : WorldOf) (l m : LaneOf) (a : Answer) where
 
 -- ---- each call
 
--- there is an object of this number, and it is no timer by itself
-abbrev pub IsObject : WorldOf → ℕ → Type 0
-IsObject x id = (id < length x.objects.decls) × ((decl_at x.objects id).kind ≢ over.Raw)
+-- there is an object of this number, and it has a setting
+abbrev pub IsSettable : WorldOf → ℕ → Type 0
+IsSettable x id = (id < length x.objects.decls) × HasSetting (decl_at x.objects id).kind
 
 -- there is an object of this number and kind
 abbrev pub IsOfKind : WorldOf → Kind → ℕ → Type 0
@@ -332,8 +332,8 @@ CanCall x lane (calls.Cancel timer) = timer < length x.timers.about.timers
 CanCall x lane (calls.Peek timer) = timer < length x.timers.about.timers
 CanCall x lane (calls.Expire context base budget) = (base < x.timers.about.bases) × (budget ≤ most_budget)
 CanCall x lane (calls.Clock write) = Unit
-CanCall x lane (calls.Settime timer flags value interval) = IsObject x timer
-CanCall x lane (calls.Gettime timer) = IsObject x timer
+CanCall x lane (calls.Settime timer flags value interval) = IsSettable x timer
+CanCall x lane (calls.Gettime timer) = IsSettable x timer
 CanCall x lane (calls.Accept timer) = IsOfKind x over.Posix timer
 CanCall x lane (calls.Overrun timer) = IsOfKind x over.Posix timer
 CanCall x lane (calls.Read timer len) = IsOfKind x over.Fd timer

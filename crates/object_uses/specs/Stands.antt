@@ -8,7 +8,7 @@ use Rattle.hr_timers.specs.Known.{IsPassOf, PassOf}
 use Rattle.timer_objects.specs.declared.object.Kind.TheVariants as kinds
 use Rattle.timer_objects.specs.Known.{IsObjectsPass, ObjectsOf, ObjectsPass, Suits, decl_at}
 
--- a POSIX timer and a descriptor, each over its timer on the one base, and the only pass of each
+-- a POSIX timer, a descriptor and a sleeper, each over its timer on the one base, and the only pass of each
 pub record IsStand (timers : rows.BaseRowOf) (pass : PassOf) (objects : ObjectsOf) (objects_pass : ObjectsPass) : Type 0 where
   pub timers_pass : IsPassOf timers pass
   pub last : IsLast pass.known.id
@@ -17,9 +17,10 @@ pub record IsStand (timers : rows.BaseRowOf) (pass : PassOf) (objects : ObjectsO
   pub last_of_objects : IsLast objects_pass.knows.pass.id
   pub suits : Suits objects timers.about
   pub bases : timers.about.bases ≡ 1
-  pub two : length objects.decls ≡ 2
+  pub three : length objects.decls ≡ 3
   pub posix : (decl_at objects 0).kind ≡ kinds.Posix
   pub descriptor : (decl_at objects 1).kind ≡ kinds.Fd
+  pub sleeper : (decl_at objects 2).kind ≡ kinds.Sleeper
 
 -- a descriptor on the one base, and its reader
 pub record IsAwaited (timers : rows.BaseRowOf) (objects : ObjectsOf) (reader : ℕ) : Type 0 where

@@ -1,4 +1,4 @@
-//! Callers of `timer_objects`: POSIX timers and timer descriptors that threads share, each thread with two passes of its own.
+//! Callers of `timer_objects`: POSIX timers, timer descriptors and sleepers that threads share, each thread with two passes of its own.
 #![tactic(auto)]
 
 pub use beside::read_beside;
@@ -8,6 +8,7 @@ pub use expiring::{Expired, expire_objects};
 pub use setting::set_timer;
 pub use sharing::hear_all;
 pub use signals::accept_signal;
+pub use sleeping::{await_frame, leave_frame};
 
 mod beside;
 mod blocking;
@@ -16,5 +17,6 @@ mod expiring;
 mod setting;
 mod sharing;
 mod signals;
+mod sleeping;
 #[cfg(test)]
 mod tests;

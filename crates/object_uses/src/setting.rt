@@ -1,8 +1,7 @@
 //! A settime, and what it leaves of the passes by which it is made.
-ghost use Rattle.std.specs.Prelude.{◌≢◌, ◌≤◌, ◌+◌};
-ghost use Rattle.timer_objects.specs.declared.object.Kind.TheVariants as kinds;
+ghost use Rattle.std.specs.Prelude.{◌≤◌, ◌+◌};
 ghost use Rattle.timer_objects.specs.Known.{decl_at, most_noted};
-ghost use Rattle.timer_objects.specs.Calls.{Settimes};
+ghost use Rattle.timer_objects.specs.Calls.{HasSetting, Settimes};
 ghost use Rattle.timer_objects.specs.Rearming.{caller_of};
 ghost use Rattle.object_uses.specs.Callers.{KeepsPasses, MayCall};
 
@@ -30,7 +29,7 @@ pub fn set_timer<R: Wait>(
     reading: Reading,
 ) -> SettimeAnswer
     requires may { MayCall timers.now objects.now pass.old objects_pass.old log.old object_log.old id }
-    requires kind { (decl_at objects.now id).kind ≢ kinds.Raw }
+    requires kind { HasSetting (decl_at objects.now id).kind }
     ensures keeps { KeepsPasses timers.now objects.now pass.old pass.new objects_pass.old objects_pass.new }
     ensures settimes { Settimes objects.now timers.now.about (caller_of pass.old objects_pass.old log.old object_log.old) (caller_of pass.new objects_pass.new log.new object_log.new) id flags (record { sec = 0; nsec = ns }) (record { sec = 0; nsec = interval }) reading result }
     ensures room { (log.old.spare ≤ log.new.spare + most_noted objects.now timers.now.about id) × (object_log.old.spare ≤ object_log.new.spare + 1) }

@@ -10,6 +10,7 @@ mod of_timer_objects;
 mod off_line;
 mod passes;
 mod places;
+mod sleeping;
 mod stand;
 mod waiting;
 

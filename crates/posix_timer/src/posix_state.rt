@@ -177,7 +177,7 @@ impl PosixState {
                 reading,
             } => ObjectReply::Trigger(self.trigger(generation, reading)),
             ObjectCall::Accept { reading, arm } => ObjectReply::Accept(self.take(reading, arm)),
-            ObjectCall::Read { .. } | ObjectCall::Gettime { .. } => ObjectReply::None,
+            _ => ObjectReply::None,
         }
     }
 

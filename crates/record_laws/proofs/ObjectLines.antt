@@ -42,7 +42,8 @@ use Rattle.script_text.specs.declared.script.Kind.{Kind}
 use Rattle.record_laws.proofs.ClockLines.{clock_goes_on}
 use Rattle.record_laws.proofs.LastSeen.{objects_once, object_lines_are}
 use Rattle.record_laws.proofs.SeenThere.{many_objects, objects_past}
-use Rattle.lane_world.proofs.ObjectSeen.{fd_objects, leads_from, legal, posix_objects}
+use Rattle.lane_world.proofs.ObjectSeen.{leads_from, legal}
+use Rattle.timer_objects.proofs.KindOfObject.{fd_objects, posix_objects}
 use Rattle.record_laws.proofs.OwnLines.{at_line, lines_long, own_lines, ShowNotes, told_of}
 
 -- ---- the entries of an object

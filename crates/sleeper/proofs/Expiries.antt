@@ -10,8 +10,8 @@ use Rattle.timer_setting.specs.declared.arming.Arm.TheVariants as arms
 use Rattle.timer_setting.specs.declared.trigger_answer.TriggerAnswer.TheVariants as triggers
 use Rattle.timer_setting.specs.Phases.{armed_by, clock_by, expiry_by, is_expiry_of}
 use Rattle.timer_setting.specs.StepTables.{AreCalls, after_calls}
-use Rattle.sleeper.specs.declared.calls.Call.{Call}
-use Rattle.sleeper.specs.declared.calls.Call.TheVariants as calls
+use Rattle.timer_setting.specs.declared.object_call.ObjectCall.{ObjectCall}
+use Rattle.timer_setting.specs.declared.object_call.ObjectCall.TheVariants as calls
 use Rattle.sleeper.specs.Histories.{SleeperEntry, begins_sleep, how_many}
 use Rattle.sleeper.specs.States.{Sleeper}
 use Rattle.sleeper.specs.Steps.{sleeper_answer, sleeper_step, sleeper_table}
@@ -22,13 +22,14 @@ same_if s true armed = absurd (true≢false (sym armed))
 same_if s false armed = refl
 
 -- a timer that is armed after a call that began no sleep was armed so before
-kept_phase : (s : Sleeper) (c : Call) → begins_sleep (sleeper_answer s c) ≡ false → is_armed (sleeper_step s c).phase ≡ true
+kept_phase : (s : Sleeper) (c : ObjectCall) → begins_sleep (sleeper_answer s c) ≡ false → is_armed (sleeper_step s c).phase ≡ true
     → (sleeper_step s c).phase ≡ s.phase
 kept_phase s (calls.Sleep c) none armed =
     let begun = begun_armed c.arm c.flags (clock_by s.clock c.flags) (expiry_by s.clock c.flags c.time c.reading) in
     absurd (true≢false (sym armed ∙ sym begun.0 ∙ none))
 kept_phase s (calls.Trigger generation r) none armed = same_if s (is_expiry_of s.phase generation r) armed
 kept_phase s (calls.Interrupt r) none armed = absurd (true≢false (sym armed))
+kept_phase s c none armed = refl
 
 none_first : (b : Bool) (n : ℕ) → one b + n ≡ 0 → (b ≡ false) × (n ≡ 0)
 none_first true n e = absurd (omega (arith, e))
@@ -43,10 +44,11 @@ same_phase s (e ∷ es) calls none armed =
     rest ∙ kept_phase s e.call (ap begins_sleep (sym calls.1) ∙ n.0) (ap is_armed (sym rest) ∙ armed)
 
 -- the clock that the sleeper was made on stays
-kept_clock : (s : Sleeper) (c : Call) → (sleeper_step s c).clock ≡ s.clock
+kept_clock : (s : Sleeper) (c : ObjectCall) → (sleeper_step s c).clock ≡ s.clock
 kept_clock s (calls.Sleep c) = refl
 kept_clock s (calls.Trigger generation r) = search arith
 kept_clock s (calls.Interrupt r) = refl
+kept_clock s c = refl
 
 pub same_clock : (s : Sleeper) (h : List SleeperEntry) → (after_calls sleeper_table s h).clock ≡ s.clock
 same_clock s [] = refl

@@ -1,3 +1,4 @@
 pub mod Histories
 pub mod Sleeps
 pub mod Expiries
+pub mod AsKind

@@ -10,10 +10,10 @@ use Rattle.timer_setting.specs.declared.phase.Phase.TheVariants as phases
 use Rattle.timer_setting.specs.declared.trigger_answer.TriggerAnswer.TheVariants as triggers
 use Rattle.timer_setting.specs.Phases.{armed_by, clock_by, expiry_by, is_expiry_of}
 use Rattle.timer_setting.specs.StepTables.{AreCalls, after_calls}
-use Rattle.sleeper.specs.declared.calls.Call.{Call}
-use Rattle.sleeper.specs.declared.calls.Call.TheVariants as calls
-use Rattle.sleeper.specs.declared.calls.Reply.{Reply}
-use Rattle.sleeper.specs.declared.calls.Reply.TheVariants as replies
+use Rattle.timer_setting.specs.declared.object_call.ObjectCall.{ObjectCall}
+use Rattle.timer_setting.specs.declared.object_call.ObjectCall.TheVariants as calls
+use Rattle.timer_setting.specs.declared.object_call.ObjectReply.{ObjectReply}
+use Rattle.timer_setting.specs.declared.object_call.ObjectReply.TheVariants as replies
 use Rattle.sleeper.specs.declared.sleep.Sleep.{Sleep}
 use Rattle.sleeper.specs.declared.sleep.Sleep.TheVariants as sleeps
 use Rattle.sleeper.specs.Histories.{SleeperEntry, begins_sleep, ends_sleep, how_many}
@@ -66,7 +66,7 @@ abbrev pub woken_if : Sleeper → Bool → Sleeper
 woken_if s is = if is then record s { phase = phases.Idle; sleep = sleeps.Woken; stamp = s.stamp + 1 } else record s { stamp = s.stamp + 1 }
 
 -- what one call adds up to
-pub record Balances (s : Sleeper) (c : Call) : Type 0 where
+pub record Balances (s : Sleeper) (c : ObjectCall) : Type 0 where
   pub sum : one (is_sleeping s.sleep) + one (begins_sleep (sleeper_answer s c)) ≡ one (ends_sleep (sleeper_answer s c)) + one (is_sleeping (sleeper_step s c).sleep)
   pub tied : IsTied (sleeper_step s c)
 
@@ -77,13 +77,14 @@ trigger_balances : (s : Sleeper) (is : Bool) → (is ≡ true → is_armed s.pha
 trigger_balances s true armed tied = (rw (tied ∙ armed refl) refl, refl)
 trigger_balances s false armed tied = (omega arith, tied)
 
-pub balances : (s : Sleeper) (c : Call) → SleeperAllows s c → IsTied s → Balances s c
+pub balances : (s : Sleeper) (c : ObjectCall) → SleeperAllows s c → IsTied s → Balances s c
 balances s (calls.Sleep c) allows tied =
     let begun = begun_armed c.arm c.flags (clock_by s.clock c.flags) (expiry_by s.clock c.flags c.time c.reading) in
     record { sum = rw (free_awake s.sleep allows.3, begun.0, begun.1) refl; tied = begun.1 }
 balances s (calls.Trigger generation r) allows tied =
     let t = trigger_balances s (is_expiry_of s.phase generation r) (expiry_armed s.phase generation r) tied in record { sum = t.0; tied = t.1 }
 balances s (calls.Interrupt r) allows tied = record { sum = rw (sleeping_ended s.sleep (sleep_left s r) s.stamp allows.1) refl; tied = refl }
+balances s c allows tied = absurd allows
 
 -- ---- a history
 
@@ -97,8 +98,8 @@ all_balance s [] calls tied = record { sum = omega arith; tied = tied }
 all_balance s (e ∷ es) calls tied =
     let step = balances s e.call calls.0 tied in
     let rest = all_balance (sleeper_step s e.call) es calls.2 step.tied in
-    let begins = ap (λ (r : Reply). one (begins_sleep r)) calls.1 in
-    let ends = ap (λ (r : Reply). one (ends_sleep r)) calls.1 in
+    let begins = ap (λ (r : ObjectReply). one (begins_sleep r)) calls.1 in
+    let ends = ap (λ (r : ObjectReply). one (ends_sleep r)) calls.1 in
     record { sum = omega (arith, step.sum, rest.sum, begins, ends); tied = rest.tied }
 
 -- a history is cut in two
@@ -108,13 +109,14 @@ parts s [] more calls = (tt, calls)
 parts s (e ∷ es) more calls = let rest = parts (sleeper_step s e.call) es more calls.2 in ((calls.0, calls.1, rest.0), rest.1)
 
 -- a call that begins a sleep finds none, and leaves one
-pub record Begins (s : Sleeper) (c : Call) : Type 0 where
+pub record Begins (s : Sleeper) (c : ObjectCall) : Type 0 where
   pub none : is_sleeping s.sleep ≡ false
   pub one : is_sleeping (sleeper_step s c).sleep ≡ true
 
-pub begins : (s : Sleeper) (c : Call) → SleeperAllows s c → begins_sleep (sleeper_answer s c) ≡ true → Begins s c
+pub begins : (s : Sleeper) (c : ObjectCall) → SleeperAllows s c → begins_sleep (sleeper_answer s c) ≡ true → Begins s c
 begins s (calls.Sleep c) allows is =
     let begun = begun_armed c.arm c.flags (clock_by s.clock c.flags) (expiry_by s.clock c.flags c.time c.reading) in
     record { none = free_awake s.sleep allows.3; one = begun.1 ∙ sym begun.0 ∙ is }
 begins s (calls.Trigger generation r) allows is = absurd (true≢false (sym is))
 begins s (calls.Interrupt r) allows is = absurd (true≢false (sym is))
+begins s c allows is = absurd allows

@@ -1,14 +1,15 @@
-//! Laws of a sleeper's histories.
+//! Sleepers as a kind of object, and laws of a sleeper's histories.
 ghost use Rattle.std.specs.Prelude.{◌≡◌, ◌≤◌, ◌++◌, ◌∷◌, [], ℕ, length, List, true};
 ghost use Rattle.ktime.specs.declared.clock_id.ClockId.{ClockId};
 ghost use Rattle.ktime.specs.Readings.{ClockReading};
+ghost use Rattle.timer_setting.specs.Kinds.{IsKind};
 ghost use Rattle.timer_setting.specs.declared.trigger_answer.TriggerAnswer.TheVariants.{Counted};
-ghost use Rattle.sleeper.specs.declared.answers.SleepAnswer.TheVariants.{Asleep};
-ghost use Rattle.sleeper.specs.declared.calls.Call.TheVariants as calls;
-ghost use Rattle.sleeper.specs.declared.calls.Reply.TheVariants as replies;
-ghost use Rattle.sleeper.specs.declared.calls.SleepCall.{SleepCall};
+ghost use Rattle.timer_setting.specs.declared.answers.SleepAnswer.TheVariants.{Asleep};
+ghost use Rattle.timer_setting.specs.declared.object_call.ObjectCall.TheVariants as calls;
+ghost use Rattle.timer_setting.specs.declared.object_call.ObjectReply.TheVariants as replies;
+ghost use Rattle.timer_setting.specs.declared.sleep_call.SleepCall.{SleepCall};
 ghost use Rattle.sleeper.specs.Histories.{HasReached, IsSleeperHistory, SleeperEntry, begins_sleep, ends_sleep, how_many, sleeper_state_after};
-ghost use Rattle.sleeper.specs.Steps.{SleeperAllows, sleeper_answer, sleeper_step};
+ghost use Rattle.sleeper.specs.Steps.{SleeperAllows, sleeper_answer, sleeper_kind, sleeper_step};
 
 /// A history has no more entries than its object's limit.
 pub fn few_entries()
@@ -31,4 +32,9 @@ pub fn one_end_of_each_sleep()
 /// A sleep's time comes only at a reading of its clock that has reached it.
 pub fn no_sleep_ends_early()
     ensures { (clock : ClockId) (base limit : ℕ) (before middle after : List SleeperEntry) (call : SleepCall) (generation : ℕ) (reading : ClockReading) → IsSleeperHistory clock base limit (before ++ record { call = calls.Sleep call; reply = replies.Sleep Asleep } ∷ (middle ++ record { call = calls.Trigger generation reading; reply = replies.Trigger Counted } ∷ after)) → how_many begins_sleep middle ≡ 0 → HasReached clock call reading }
+{}
+
+/// Sleepers are a kind of object: what holds of the calls of every kind.
+pub fn sleepers_are_a_kind()
+    ensures { IsKind sleeper_kind }
 {}

@@ -33,12 +33,7 @@ pub(crate) fn begun(arm: Arm, flags: u64) -> Sleep
 
 /// The start that a sleep with valid arguments wants: none where its time has come. That of a relative sleep has come where it is for
 /// no time at all, whatever its clock shows.
-pub(crate) fn start_for(
-    declared: ClockId,
-    flags: u64,
-    time: u64,
-    reading: Reading,
-) -> Option<Wanted>
+pub fn sleep_start(declared: ClockId, flags: u64, time: u64, reading: Reading) -> Option<Wanted>
     requires time { time ≤ last_time }
     ensures { result ≡ sleep_start declared flags time reading }
 {

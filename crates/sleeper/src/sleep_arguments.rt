@@ -10,7 +10,7 @@ use timer_setting::BadArgument;
 pub const TIMER_ABSTIME: u64 = timer_setting::ABSTIME;
 
 /// A sleep's time in nanoseconds, or why its arguments are refused: first the flags, then the time.
-pub(crate) fn time_of(flags: u64, time: TimeSpec) -> Result<u64, BadArgument>
+pub fn time_of(flags: u64, time: TimeSpec) -> Result<u64, BadArgument>
     ensures { result ≡ checked_time flags time }
 {
     if flags & !TIMER_ABSTIME != 0 {

@@ -7,16 +7,18 @@ ghost use Rattle.timer_setting.specs.Settimes.{most_entries};
 ghost use Rattle.timer_setting.specs.StepTables.{IsAnswered};
 ghost use Rattle.sleeper.specs.States.{Sleeper, SleeperInvariant, is_free, sleep_left, sleeper_opening, timer_of};
 ghost use Rattle.sleeper.specs.Steps.{SleeperAllows, end_of, fallen_asleep, has_come, interrupt_refusal, interrupted, sleep_answer, sleep_refusal, sleep_wanted, sleeper_answer, sleeper_step, sleeper_table, sleeper_trigger_refusal, slept_answer};
-ghost use Rattle.sleeper.specs.declared.calls.Call.TheVariants as calls;
-ghost use Rattle.sleeper.specs.declared.calls.Reply.TheVariants as replies;
+ghost use Rattle.timer_setting.specs.declared.object_call.ObjectCall.TheVariants as calls;
+ghost use Rattle.timer_setting.specs.declared.object_call.ObjectReply.TheVariants as replies;
 
-use crate::answers::{InterruptAnswer, SleepAnswer, SleptAnswer};
-use crate::calls::{Call, Reply, SleepCall};
-use crate::sleep::{Sleep, begun, start_for};
+use crate::answers::SleptAnswer;
+use crate::sleep::{Sleep, begun, sleep_start};
 use crate::sleep_arguments::time_of;
 use ktime::{ClockId, Reading, TimeSpec};
 use std::marker::Model;
-use timer_setting::{Arm, BadArgument, ObjectTimer, Phase, TriggerAnswer, Wanted};
+use timer_setting::{
+    Arm, BadArgument, InterruptAnswer, ObjectCall, ObjectReply, ObjectTimer, Phase, SleepAnswer,
+    SleepCall, TriggerAnswer, Wanted,
+};
 
 /// The time left of a sleep whose time has come.
 const OVERDUE: u64 = 0;
@@ -67,7 +69,7 @@ impl SleeperState {
         if self.timer.spent().is_some() || self.sleep != Sleep::Free {
             return None;
         }
-        start_for(self.timer.clock, flags, time, reading)
+        sleep_start(self.timer.clock, flags, time, reading)
     }
 
     /// Begins a sleep of so long, or up to a time of the clock (`clock_nanosleep`).
@@ -121,6 +123,13 @@ impl SleeperState {
         self.end(reading)
     }
 
+    /// Whether a sleep may begin.
+    pub fn is_free(&self) -> bool
+        ensures { result ≡ is_free self.now.sleep }
+    {
+        self.sleep == Sleep::Free
+    }
+
     /// Whether a sleep goes on, or its time has come, or neither.
     pub fn slept(&self) -> SleptAnswer
         ensures { result ≡ slept_answer self.now.sleep }
@@ -133,18 +142,19 @@ impl SleeperState {
     }
 
     /// Makes the entry of a call with valid arguments.
-    pub fn apply(&mut self, call: Call) -> Reply
+    pub fn apply(&mut self, call: ObjectCall) -> ObjectReply
         requires allowed { SleeperAllows self.old call }
         ensures state { self.new ≡ sleeper_step self.old call }
         ensures reply { result ≡ sleeper_answer self.old call }
     {
         match call {
-            Call::Sleep(call) => Reply::Sleep(self.fall_asleep(call)),
-            Call::Trigger {
+            ObjectCall::Sleep(call) => ObjectReply::Sleep(self.fall_asleep(call)),
+            ObjectCall::Trigger {
                 generation,
                 reading,
-            } => Reply::Trigger(self.trigger(generation, reading)),
-            Call::Interrupt { reading } => Reply::Interrupt(self.end(reading)),
+            } => ObjectReply::Trigger(self.trigger(generation, reading)),
+            ObjectCall::Interrupt { reading } => ObjectReply::Interrupt(self.end(reading)),
+            _ => ObjectReply::None,
         }
     }
 

@@ -5,12 +5,12 @@ use Rattle.timer_setting.specs.declared.arming.Arm.{Arm}
 use Rattle.timer_setting.specs.declared.arming.Arm.TheVariants as arms
 use Rattle.timer_setting.specs.declared.trigger_answer.TriggerAnswer.{TriggerAnswer}
 use Rattle.timer_setting.specs.declared.trigger_answer.TriggerAnswer.TheVariants as triggers
-use Rattle.sleeper.specs.declared.answers.InterruptAnswer.{InterruptAnswer}
-use Rattle.sleeper.specs.declared.answers.InterruptAnswer.TheVariants as ends
-use Rattle.sleeper.specs.declared.answers.SleepAnswer.{SleepAnswer}
-use Rattle.sleeper.specs.declared.answers.SleepAnswer.TheVariants as begins
-use Rattle.sleeper.specs.declared.calls.Call.TheVariants as calls
-use Rattle.sleeper.specs.declared.calls.Reply.TheVariants as replies
+use Rattle.timer_setting.specs.declared.answers.InterruptAnswer.{InterruptAnswer}
+use Rattle.timer_setting.specs.declared.answers.InterruptAnswer.TheVariants as interrupts
+use Rattle.timer_setting.specs.declared.answers.SleepAnswer.{SleepAnswer}
+use Rattle.timer_setting.specs.declared.answers.SleepAnswer.TheVariants as begins
+use Rattle.timer_setting.specs.declared.object_call.ObjectCall.TheVariants as calls
+use Rattle.timer_setting.specs.declared.object_call.ObjectReply.TheVariants as replies
 use Rattle.sleeper.specs.Histories.{SleeperEntry}
 
 -- what a clock shows that nobody has written yet, where all three clocks stand at this time
@@ -37,11 +37,11 @@ interrupt now answer = record { call = calls.Interrupt (at now); reply = replies
 abbrev pub sleeps : List SleeperEntry
 sleeps =
     sleep 0 100 0 (arms.Armed 1) begins.Asleep
-    ∷ interrupt 30 (ends.Left 70)
+    ∷ interrupt 30 (interrupts.Left 70)
     ∷ sleep 0 100 30 (arms.Armed 3) begins.Asleep
-    ∷ interrupt 131 (ends.Left 0)
+    ∷ interrupt 131 (interrupts.Left 0)
     ∷ sleep 1 200 131 (arms.Armed 5) begins.Asleep
-    ∷ interrupt 150 ends.Interrupted
+    ∷ interrupt 150 interrupts.Interrupted
     ∷ sleep 1 150 150 arms.NotAsked begins.Slept
     ∷ sleep 0 0 150 arms.NotAsked begins.Slept
     ∷ sleep 1 300 150 (arms.Armed 8) begins.Asleep
@@ -49,6 +49,6 @@ sleeps =
     ∷ trigger 7 300 triggers.Stale
     ∷ trigger 8 300 triggers.Counted
     ∷ trigger 8 300 triggers.Stale
-    ∷ interrupt 300 ends.Slept
+    ∷ interrupt 300 interrupts.Slept
     ∷ sleep 0 10 300 (arms.Unarmed 9) (begins.Unarmed 9)
     ∷ []

@@ -7,9 +7,9 @@ ghost use Rattle.timer_setting.specs.Phases.{clock_by, expiry_by, is_expiry_of};
 ghost use Rattle.timer_setting.specs.StepTables.{IsAnswered};
 ghost use Rattle.seq_timer.specs.Tables.{is_due_on};
 ghost use Rattle.timer_core.specs.Kept.{IsSameSize, timer_in};
-ghost use Rattle.sleeper.specs.declared.calls.Call.TheVariants as calls;
-ghost use Rattle.sleeper.specs.declared.calls.Reply.{Reply};
-ghost use Rattle.sleeper.specs.declared.calls.Reply.TheVariants as replies;
+ghost use Rattle.timer_setting.specs.declared.object_call.ObjectCall.TheVariants as calls;
+ghost use Rattle.timer_setting.specs.declared.object_call.ObjectReply.{ObjectReply};
+ghost use Rattle.timer_setting.specs.declared.object_call.ObjectReply.TheVariants as replies;
 ghost use Rattle.sleeper.specs.States.{is_sleeping};
 ghost use Rattle.sleeper.specs.Steps.{interrupt_refusal, sleep_refusal, sleeper_table};
 
@@ -30,7 +30,7 @@ pub fn begin_sleep<Q: Queue>(
 ) -> SleepAnswer
     requires timer { id < length core.old.timers }
     requires base { sleeper.old.base < length core.old.bases }
-    ensures refused { (reply : Reply) → sleep_refusal sleeper.old flags time ≡ Some reply → (replies.Sleep result ≡ reply) × (sleeper.new ≡ sleeper.old) × (core.new ≡ core.old) }
+    ensures refused { (reply : ObjectReply) → sleep_refusal sleeper.old flags time ≡ Some reply → (replies.Sleep result ≡ reply) × (sleeper.new ≡ sleeper.old) × (core.new ≡ core.old) }
     ensures slept { result ≡ SleepAnswer.Slept → (sleeper.new.sleep ≡ Sleep.Free) × (core.new ≡ core.old) }
     ensures asleep { (generation expires : ℕ) (clock : ClockId) → result ≡ SleepAnswer.Asleep → sleeper.new.phase ≡ phases.Armed generation clock expires → (timer_in core.new id).armed ≡ Some generation }
     ensures time { (generation expires : ℕ) (clock : ClockId) → result ≡ SleepAnswer.Asleep → sleeper.new.phase ≡ phases.Armed generation clock expires → (clock ≡ clock_by sleeper.old.clock flags) × (expires ≡ expiry_by sleeper.old.clock flags (time_of time) reading) }

@@ -192,7 +192,7 @@ impl FdState {
             } => ObjectReply::Trigger(self.trigger(generation, reading)),
             ObjectCall::Read { reading, arm } => ObjectReply::Read(self.take(reading, arm)),
             ObjectCall::Gettime { reading, arm } => ObjectReply::Gettime(self.get(reading, arm)),
-            ObjectCall::Accept { .. } => ObjectReply::None,
+            _ => ObjectReply::None,
         }
     }
 

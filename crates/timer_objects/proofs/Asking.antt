@@ -1,5 +1,5 @@
 -- A call that makes an entry and may start its object's timer before that, in one turn of the object.
-use Rattle.std.proofs.Common.{refl, sym, subst, ◌≡◌, ◌∙◌, ◌≢◌, ℕ, ◌<◌, List, [], ◌∷◌, ◌++◌, length}
+use Rattle.std.proofs.Common.{refl, sym, subst, false, ◌≡◌, ◌∙◌, ◌≢◌, ℕ, ◌<◌, List, [], ◌∷◌, ◌++◌, length}
 use Rattle.ktime.specs.Readings.{ClockReading}
 use Rattle.base_row.specs.declared.view.Opening.{Opening}
 use Rattle.hr_timers.specs.Known.{KnownOfTimers}
@@ -18,7 +18,8 @@ use Rattle.timer_setting.specs.declared.object_call.ObjectCall.{ObjectCall}
 use Rattle.timer_setting.specs.declared.object_call.ObjectCall.TheVariants as calls
 use Rattle.timer_setting.specs.declared.object_call.ObjectReply.TheVariants as replies
 use Rattle.timer_setting.specs.declared.object_call.ObjectReply.{ObjectReply}
-use Rattle.timer_objects.specs.declared.settime.ValidSettime.{ValidSettime}
+use Rattle.timer_objects.specs.declared.anew.Anew.{Anew}
+use Rattle.timer_objects.specs.declared.anew.EndedAnew.TheVariants as endings
 use Rattle.timer_objects.specs.declared.wanting.Rearming.{Rearming}
 use Rattle.timer_objects.specs.declared.wanting.Ended.{Ended}
 use Rattle.timer_objects.specs.declared.wanting.Ended.TheVariants as ends
@@ -37,13 +38,12 @@ use Rattle.timer_objects.specs.Calls.{
   wanted_by,
 }
 use Rattle.timer_objects.specs.Turns.{HasTurn}
-use Rattle.timer_objects.specs.Valid.{IsSettimeReply, IsValidSettime, settime_with}
+use Rattle.timer_objects.specs.Anew.{EndsAnew, IsValidAnew, RepliesAnew, anew_call, anew_reading, anew_wanted, refuses}
 use Rattle.timer_objects.specs.Rearming.{Ends, EndsAt, KeepsNames, MakesEntry, rearming_kind}
 use Rattle.timer_objects.proofs.Bearing.{allows, bears, replies_to}
 use Rattle.timer_objects.proofs.Entering.{answered, commits, enters_call, stamp_before}
 use Rattle.timer_objects.proofs.Retrying.{arms_names, enters_after, turn_after, turn_names}
-use Rattle.timer_objects.proofs.Settings.{arms_bears, set_phase, settime_allowed, settime_grants, settime_replies}
-use Rattle.timer_objects.proofs.SettimeMade.{made_by}
+use Rattle.timer_objects.proofs.AnewCalls.{bears_anew, may_anew, replies_anew}
 
 module _ (x : ObjectsOf) (id : ℕ) (h : Locked Object) (index : h.index ≡ id) (holds : HoldsObject x h) where
   abbrev d : Decl
@@ -57,14 +57,9 @@ module _ (x : ObjectsOf) (id : ℕ) (h : Locked Object) (index : h.index ≡ id)
         → ObjectAllows h.state (rearming_call r reading arm)
     may_rearm r reading kind outcome = allows d x.limit h.stamp reading arm r h.state holds_it kind room outcome
 
-    pub may_settime : (s : ValidSettime) → d.kind ≢ kinds.Raw → IsValidSettime d.kind s → IsOutcomeOf arm (start_by s.flags s.value)
-        → ObjectAllows h.state (calls.Settime (settime_with s arm))
-    may_settime s kind valid outcome =
-        settime_allowed d x.limit h.stamp h.state (settime_with s arm) holds_it kind room valid.flags valid.value valid.interval outcome
-
-  pub replies_settime : (s : ValidSettime) (arm : Arm) (reply : ObjectReply) → d.kind ≢ kinds.Raw
-      → reply ≡ object_answer h.state (calls.Settime (settime_with s arm)) → IsSettimeReply reply
-  replies_settime s arm reply kind e = subst IsSettimeReply (sym e) (settime_replies d x.limit h.stamp h.state (settime_with s arm) holds_it kind)
+    pub may_arm : (call : Anew) → IsValidAnew d.kind call → refuses call h.state ≡ false → IsOutcomeOf arm (anew_wanted d.clock call)
+        → ObjectAllows h.state (anew_call call arm)
+    may_arm call valid taken outcome = may_anew d x.limit h.stamp h.state holds_it call arm valid taken room outcome
 
   module _ (o : Opening) (u v w z : KnownOfTimers) (p m q : ObjectsPass) (arm : Arm) (log log' : List Receipt) (olog olog' : List ObjectReceipt)
       (reply : ObjectReply) (room : h.stamp < x.limit) (row : IsPassOfRow (row_of x) m) (locks : Locks object_meaning p m id h)
@@ -100,31 +95,27 @@ module _ (x : ObjectsOf) (id : ℕ) (h : Locked Object) (index : h.index ≡ id)
       refl,
     )
 
-    -- law: a settime was made
-    pub settimes : (s : ValidSettime) (a : SettimeAnswer) → Suits x o → id < length x.decls → d.kind ≢ kinds.Raw → IsValidSettime d.kind s
+    -- law: a call that arms the timer anew was made
+    pub anews_made : (call : Anew) → Suits x o → id < length x.decls → IsValidAnew d.kind call → refuses call h.state ≡ false
         → (disarmed : KnownOfTimers) (cancel_log : List Receipt) → Disarms o v disarmed id log cancel_log
-        → ArmsFor o disarmed w id (start_by s.flags s.value) d.base s.reading arm cancel_log log'
-        → Enters m q h (calls.Settime (settime_with s arm)) reply
-        → olog' ≡ olog ++ receipt_of h (calls.Settime (settime_with s arm)) ∷ [] → reply ≡ replies.Settime a
-        → SettimeMade x o begun done id s.flags s.value s.interval s.reading a
-    settimes s a suits within kind valid disarmed cancel_log disarms arms e noted tells =
-        let c = settime_with s arm in
-        made_by x o begun done id _ _ _ _ a
-        (settime_grants h.state c a (sym e.reply ∙ tells))
-        (record {
-          arm = arm;
-          enters = answered tells
-              (enters_call x p m q id h (calls.Settime c) reply locks row isq e begun done refl refl room noted);
-          begun = v;
-          worked = w;
-          turn = turn_at e;
-          disarmed = disarmed;
-          cancel_log = cancel_log;
-          disarms = disarms;
-          arms = arms;
-          bears = subst (λ f. BearsStart o w id arm f) (sym (set_phase d x.limit h.stamp h.state c holds_it kind))
-              (arms_bears o disarmed w id d s.flags s.value d.base s.reading cancel_log log' (suits.clocks id within) valid.value arm arms);
-        })
+        → ArmsFor o disarmed w id (anew_wanted d.clock call) d.base (anew_reading call) arm cancel_log log'
+        → Enters m q h (anew_call call arm) reply → olog' ≡ olog ++ receipt_of h (anew_call call arm) ∷ []
+        → EndsAnew x o begun done id call (endings.Made reply)
+    anews_made call suits within valid taken disarmed cancel_log disarms arms e noted = (
+      record {
+        arm = arm;
+        enters = enters_call x p m q id h (anew_call call arm) reply locks row isq e begun done refl refl room noted;
+        begun = v;
+        worked = w;
+        turn = turn_at e;
+        disarmed = disarmed;
+        cancel_log = cancel_log;
+        disarms = disarms;
+        arms = arms;
+        bears = bears_anew d x.limit h.stamp h.state holds_it o disarmed w id d.base cancel_log log' (suits.clocks id within) call arm valid arms;
+      },
+      subst (RepliesAnew call) (sym e.reply) (replies_anew d x.limit h.stamp h.state holds_it call arm valid taken),
+    )
 
 -- a call that found this object ends
 pub ends_at : (x : ObjectsOf) (o : Opening) (old new : Caller) (id : ℕ) (r : Rearming) (reading : ClockReading) (e : Ended) (object : Object)

@@ -1,5 +1,5 @@
 -- A call on an object after turns that only looked, and the names of its passes.
-use Rattle.std.proofs.Common.{ap, subst, ◌≡◌, ◌∙◌, ◌+◌, ℕ, List, [], ◌∷◌, ◌++◌, length, ◌<◌}
+use Rattle.std.proofs.Common.{ap, refl, subst, ◌≡◌, ◌∙◌, ◌+◌, ℕ, List, [], ◌∷◌, ◌++◌, length, ◌<◌}
 use Rattle.std.specs.Prelude.{Option, Some, None}
 use Rattle.ktime.specs.Readings.{ClockReading}
 use Rattle.pass_names.specs.Passes.{Begins}
@@ -23,8 +23,8 @@ use Rattle.timer_objects.specs.Known.{IsObjectsPass, ObjectsOf, ObjectsPass, row
 use Rattle.timer_objects.specs.declared.object.Object.{Object}
 use Rattle.timer_setting.specs.declared.object_call.ObjectCall.{ObjectCall}
 use Rattle.timer_objects.specs.Arming.{ArmsFor, DisarmsInTurn}
-use Rattle.timer_objects.specs.Calls.{Caller, EntersCall, FindsFull, HasWaited}
-use Rattle.timer_objects.specs.Turns.{BeginsTurn, HasTurn}
+use Rattle.timer_objects.specs.Calls.{Caller, EntersCall, FindsFull, HasWaited, LooksAtObject}
+use Rattle.timer_objects.specs.Turns.{BeginsTurn, HasTurn, turns_told}
 use Rattle.timer_objects.specs.Waiting.{HasToWait, IsHindered}
 
 -- a rise behind what was seen later
@@ -50,6 +50,7 @@ module _ {a b c : Caller} where
       → EntersCall x a c id call answer
   enters_after {x} {id} {call} {answer} waits e = record {
     commits = commits_after waits.objects e.commits;
+    declared = e.declared;
     may = e.may;
     reply = e.reply;
     room = e.room;
@@ -90,6 +91,22 @@ waits_held x p m q id h locks here after idle is looks same same_objects =
       log = same;
       object_log = same_objects;
     }
+
+-- an object that was held was only looked at
+pub looked_held : (x : ObjectsOf) (p m q : ObjectsPass) (id : ℕ) (h : Locked Object) → Locks object_meaning p m id h → IsPassOfRow (row_of x) m
+    → IsObjectsPass x q → p.knows.held ≡ None → q.knows ≡ released m.knows → h.stamp ≡ length (seen_of q h.index) → (v w : KnownOfTimers)
+    (log : List Receipt) (object_log : List ObjectReceipt) → LooksOn v w → turns_told id w ≡ h.stamp + h.stamp
+    → LooksAtObject (record { timers = v; objects = p; log = log; object_log = object_log })
+    (record { timers = w; objects = q; log = log; object_log = object_log }) id h.state h.stamp
+looked_held x p m q id h locks here after idle is count v w log object_log looks told = record {
+  reads = reads_of {r = row_of x} locks here after.row idle is after.knows;
+  state = refl;
+  stamp = count ∙ ap (λ i. length (seen_of q i)) locks.index;
+  timers = looks;
+  told = told;
+  log = refl;
+  object_log = refl;
+}
 
 -- ---- names
 

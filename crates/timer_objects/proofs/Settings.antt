@@ -37,77 +37,74 @@ use Rattle.timer_objects.specs.declared.object.Decl.{Decl}
 use Rattle.timer_objects.specs.declared.object.Kind.TheVariants as kinds
 use Rattle.timer_objects.specs.declared.object.Object.{Object}
 use Rattle.timer_objects.specs.declared.object.Object.TheVariants as objects
-use Rattle.timer_objects.specs.Steps.{IsObjectOf, ObjectAllows, kind_over, object_answer, object_step, object_timer}
+use Rattle.timer_objects.specs.Steps.{IsObjectOf, IsTimerOf, ObjectAllows, kind_over, object_answer, object_step, object_timer}
 use Rattle.timer_objects.specs.Arming.{ArmsFor, arm_of}
-use Rattle.timer_objects.specs.Calls.{BearsStart, flags_of, phase_of}
-use Rattle.timer_objects.specs.Valid.{IsSettimeReply}
+use Rattle.timer_objects.specs.Calls.{BearsStart, HasSetting, flags_of, phase_of}
+use Rattle.timer_objects.specs.Anew.{IsSettimeEntry}
+use Rattle.posix_timer.specs.States.{PosixTimer}
+use Rattle.timer_fd.specs.States.{Descriptor, fd_left}
 
 -- ---- the object
 
-module _ (d : Decl) (limit n : ℕ) (x : Object) (c : SettimeCall) (is : IsObjectOf d limit n x) (other : d.kind ≢ kinds.Raw) where
+-- two settimes' replies are one where their answers are
+pub settime_same : {a b : SettimeAnswer} → replies.Settime a ≡ replies.Settime b → a ≡ b
+settime_same e = cc
+
+module _ (d : Decl) (limit n : ℕ) (x : Object) (c : SettimeCall) (is : IsObjectOf d limit n x) (has : HasSetting d.kind) where
+  timer : IsTimerOf d limit n (object_timer x)
+  timer = is.timer has.0
+
+  has_it : HasSetting (kind_over x)
+  has_it = subst HasSetting is.kind has
+
   -- a settime with valid arguments is allowed
   pub settime_allowed : n < limit → bits_beyond (flags_of d.kind) c.flags ≡ 0 → c.value ≤ last_time → c.interval ≤ last_time
       → IsOutcomeOf c.arm (start_by c.flags c.value) → ObjectAllows x (calls.Settime c)
   settime_allowed room flags value interval outcome =
-      let timer = is.timer other in
-      at x (λ raw. other (is.kind ∙ raw)) (omega (arith, timer.limit, timer.stamp, room)) (subst (λ k. bits_beyond (flags_of k) c.flags ≡ 0) is.kind flags)
+      at x has_it (omega (arith, timer.limit, timer.stamp, room)) (subst (λ k. bits_beyond (flags_of k) c.flags ≡ 0) is.kind flags)
     where
-      at : (x : Object) → kind_over x ≢ kinds.Raw → (object_timer x).stamp < (object_timer x).limit → bits_beyond (flags_of (kind_over x)) c.flags ≡ 0
+      at : (x : Object) → HasSetting (kind_over x) → (object_timer x).stamp < (object_timer x).limit → bits_beyond (flags_of (kind_over x)) c.flags ≡ 0
           → ObjectAllows x (calls.Settime c)
-      at objects.Raw other room flags = absurd (other refl)
-      at (objects.Posix t) other room flags = (room, flags, value, interval, outcome)
-      at (objects.Fd t) other room flags = (room, flags, value, interval, outcome)
+      at (objects.Posix t) has room flags = (room, flags, value, interval, outcome)
+      at (objects.Fd t) has room flags = (room, flags, value, interval, outcome)
+      at objects.Raw has room flags = absurd (has.0 refl)
+      at (objects.Sleeper s) has room flags = absurd (has.1 refl)
 
-  -- its reply tells an answer
-  pub settime_replies : IsSettimeReply (object_answer x (calls.Settime c))
-  settime_replies = at x (λ raw. other (is.kind ∙ raw))
+  -- its reply tells an answer, which is no refusal
+  pub settime_replies : (a : SettimeAnswer) × (object_answer x (calls.Settime c) ≡ replies.Settime a) × IsSettimeEntry a
+  settime_replies = at x has_it
     where
-      at : (x : Object) → kind_over x ≢ kinds.Raw → IsSettimeReply (object_answer x (calls.Settime c))
-      at objects.Raw other = absurd (other refl)
-      at (objects.Posix t) other = (_, refl)
-      at (objects.Fd t) other = (_, refl)
+      posix : (t : PosixTimer) (arm : Arm) → (a : SettimeAnswer) × (replies.Settime (posix_settime_answer t c.reading arm) ≡ replies.Settime a) × IsSettimeEntry a
+      posix t arms.NotAsked = (_, refl, tt)
+      posix t (arms.Armed g) = (_, refl, tt)
+      posix t (arms.Unarmed k) = (_, refl, tt)
+
+      old : (b : Bool) (left interval : ℕ)
+          → (a : SettimeAnswer) × (replies.Settime (if b then settings.Canceled else settings.Old left interval) ≡ replies.Settime a) × IsSettimeEntry a
+      old true left interval = (_, refl, tt)
+      old false left interval = (_, refl, tt)
+
+      descriptor : (t : Descriptor) (arm : Arm)
+          → (a : SettimeAnswer) × (replies.Settime (fd_settime_answer t c.flags c.value c.reading arm) ≡ replies.Settime a) × IsSettimeEntry a
+      descriptor t arms.NotAsked = old (answers_canceled t c.flags c.value c.reading) (fd_left t c.reading) t.interval
+      descriptor t (arms.Armed g) = old (answers_canceled t c.flags c.value c.reading) (fd_left t c.reading) t.interval
+      descriptor t (arms.Unarmed k) = (_, refl, tt)
+
+      at : (x : Object) → HasSetting (kind_over x) → (a : SettimeAnswer) × (object_answer x (calls.Settime c) ≡ replies.Settime a) × IsSettimeEntry a
+      at (objects.Posix t) has = posix t c.arm
+      at (objects.Fd t) has = descriptor t c.arm
+      at objects.Raw has = absurd (has.0 refl)
+      at (objects.Sleeper s) has = absurd (has.1 refl)
 
   -- the phase after it
   pub set_phase : phase_of (object_step x (calls.Settime c)) ≡ armed_by c.arm (clock_by d.clock c.flags) (expiry_by d.clock c.flags c.value c.reading)
-  set_phase =
-      at x (λ raw. other (is.kind ∙ raw)) ∙ ap (λ k. armed_by c.arm (clock_by k c.flags) (expiry_by k c.flags c.value c.reading)) (is.timer other).clock
+  set_phase = at x has_it ∙ ap (λ k. armed_by c.arm (clock_by k c.flags) (expiry_by k c.flags c.value c.reading)) timer.clock
     where
-      at : (x : Object) → kind_over x ≢ kinds.Raw → phase_of (object_step x (calls.Settime c)) ≡ phase_by (object_timer x).clock c.flags c.value c.reading c.arm
-      at objects.Raw other = absurd (other refl)
-      at (objects.Posix t) other = refl
-      at (objects.Fd t) other = refl
-
--- an answer that isn't a refusal
-abbrev pub IsGranted : SettimeAnswer → Type 0
-IsGranted (settings.Old left interval) = Unit {0}
-IsGranted (settings.Unarmed n) = Unit {0}
-IsGranted settings.Canceled = Unit {0}
-IsGranted (settings.Spent n) = ⊥
-IsGranted settings.BadFlags = ⊥
-IsGranted settings.BadTime = ⊥
-
-pub settime_same : {a b : SettimeAnswer} → replies.Settime a ≡ replies.Settime b → a ≡ b
-settime_same e = cc
-
--- that answer is no refusal
-pub settime_grants : (x : Object) (c : SettimeCall) (a : SettimeAnswer) → object_answer x (calls.Settime c) ≡ replies.Settime a → IsGranted a
-settime_grants objects.Raw c a tells = cc
-settime_grants (objects.Posix t) c a tells = at c.arm tells
-  where
-    at : (arm : Arm) → replies.Settime (posix_settime_answer t c.reading arm) ≡ replies.Settime a → IsGranted a
-    at arms.NotAsked e = subst IsGranted (settime_same e) tt
-    at (arms.Armed g) e = subst IsGranted (settime_same e) tt
-    at (arms.Unarmed k) e = subst IsGranted (settime_same e) tt
-settime_grants (objects.Fd t) c a tells = at c.arm tells
-  where
-    old : (b : Bool) (left interval : ℕ) → IsGranted (if b then settings.Canceled else settings.Old left interval)
-    old true left interval = tt
-    old false left interval = tt
-
-    at : (arm : Arm) → replies.Settime (fd_settime_answer t c.flags c.value c.reading arm) ≡ replies.Settime a → IsGranted a
-    at arms.NotAsked e = subst IsGranted (settime_same e) (old (answers_canceled t c.flags c.value c.reading) _ _)
-    at (arms.Armed g) e = subst IsGranted (settime_same e) (old (answers_canceled t c.flags c.value c.reading) _ _)
-    at (arms.Unarmed k) e = subst IsGranted (settime_same e) tt
+      at : (x : Object) → HasSetting (kind_over x) → phase_of (object_step x (calls.Settime c)) ≡ phase_by (object_timer x).clock c.flags c.value c.reading c.arm
+      at (objects.Posix t) has = refl
+      at (objects.Fd t) has = refl
+      at objects.Raw has = absurd (has.0 refl)
+      at (objects.Sleeper s) has = absurd (has.1 refl)
 
 -- ---- the start
 
@@ -161,10 +158,8 @@ module _ (o : Opening) (v w : KnownOfTimers) (t : ℕ) (d : Decl) (flags value b
       (ap (λ c. phases.Armed g c (expiry_by d.clock flags value reading)) (sym (ap (λ (x : Timer). x.clock) now ∙ set.0))
       ∙ ap (λ k. phases.Armed g (timer_then o w.seen t).clock k) (sym (ap (λ (x : Timer). x.expires) now ∙ set.1)))
 
-  pub arms_bears : (arm : Arm) → ArmsFor o v w t (start_by flags value) base reading arm log log' → BearsStart o w t arm (set_armed arm)
-  arms_bears arm a = at (nat_eq value 0) a
-    where
-      at : (b : Bool) → ArmsFor o v w t (if b then None else Some (record { mode = mode_by flags; ns = value })) base reading arm log log'
-          → BearsStart o w t arm (set_armed arm)
-      at true a = subst (λ x. BearsStart o w t x (set_armed x)) (sym a.0) refl
-      at false a = start_bears arm a.answer a.outcome a.starts
+  -- the start of the mode that the flags ask for, where one was wanted
+  pub arms_bears : (none : Bool) (arm : Arm) → ArmsFor o v w t (if none then None else Some (record { mode = mode_by flags; ns = value })) base reading arm log log'
+      → BearsStart o w t arm (set_armed arm)
+  arms_bears true arm a = subst (λ x. BearsStart o w t x (set_armed x)) (sym a.0) refl
+  arms_bears false arm a = start_bears arm a.answer a.outcome a.starts

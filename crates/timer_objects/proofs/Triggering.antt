@@ -1,9 +1,10 @@
 -- A trigger, from the clauses of the lock of its object and of its end.
-use Rattle.std.proofs.Common.{◌≡◌, ℕ, ◌+◌, ◌<◌, List, [], ◌∷◌, ◌++◌, length, ap, ◌∙◌, subst}
+use Rattle.std.proofs.Common.{◌≡◌, ℕ, ◌+◌, ◌<◌, List, [], ◌∷◌, ◌++◌, length, ap, sym, ◌∙◌, subst}
 use Rattle.pass_names.specs.Passes.{Adds}
 use Rattle.hr_timers.specs.Known.{KnownOfTimers}
 use Rattle.counted_row.specs.declared.view.Locked.{Locked}
-use Rattle.counted_row.specs.Views.{IsPassOfRow, Locks}
+use Rattle.counted_row.specs.Views.{IsPassOfRow, Locks, StateAfter}
+use Rattle.counted_row.specs.Calls.{Commits}
 use Rattle.counted_row.proofs.Calls.{commits_of}
 use Rattle.timer_objects.specs.declared.object.Object.{Object}
 use Rattle.timer_setting.specs.declared.object_call.ObjectCall.{ObjectCall}
@@ -14,6 +15,7 @@ use Rattle.timer_objects.specs.Meaning.{object_meaning}
 use Rattle.timer_objects.specs.Known.{Enters, IsObjectsPass, ObjectsOf, ObjectsPass, receipt_of, row_of, seen_of}
 use Rattle.timer_objects.specs.Triggers.{EntersTrigger}
 use Rattle.timer_objects.specs.Turns.{HasTurn}
+use Rattle.timer_objects.proofs.Counting.{state_is}
 
 module _ (x : ObjectsOf) (p m q : ObjectsPass) (id : ℕ) (h : Locked Object) (call : ObjectCall) (log log' : List ObjectReceipt)
     (locks : Locks object_meaning p m id h) (here : IsPassOfRow (row_of x) m) (after : IsObjectsPass x q) where
@@ -25,8 +27,11 @@ module _ (x : ObjectsOf) (p m q : ObjectsPass) (id : ℕ) (h : Locked Object) (c
       → (v begun w : KnownOfTimers) → HasTurn id h.stamp v begun begun w → EntersTrigger x p q log log' v w id call
   entered answer enters room noted v begun w turn =
       let told = subst (λ r. Adds m.knows.pass q.knows.pass h.index (record { call = call; reply = r } ∷ [])) enters.reply enters.adds in
+      let commits : Commits object_meaning p q id call = commits_of locks here after.row told enters.knows after.knows in
       record {
-        commits = commits_of locks here after.row told enters.knows after.knows;
+        commits = commits;
+        declared = state_is x id commits.adds.before commits.state
+            (subst (λ made. StateAfter object_meaning made id commits.adds.before commits.state) (sym commits.opening ∙ after.row.made) commits.at);
         may = enters.may;
         room = subst (λ n. n < x.limit) counted room;
         begun = begun;

@@ -1,4 +1,5 @@
 pub mod Steps
+pub mod Histories
 pub mod Meaning
 pub mod Known
 pub mod Turns
@@ -6,7 +7,7 @@ pub mod Arming
 pub mod Calls
 pub mod Waiting
 pub mod BlockingReads
-pub mod Valid
+pub mod Anew
 pub mod Rearming
 pub mod Callbacks
 pub mod Triggers

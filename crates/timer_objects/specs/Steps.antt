@@ -13,6 +13,8 @@ use Rattle.posix_timer.specs.States.{posix_opening}
 use Rattle.posix_timer.specs.Steps.{PosixAllows, posix_answer, posix_object_timer, posix_step, posix_wanted}
 use Rattle.timer_fd.specs.States.{fd_opening}
 use Rattle.timer_fd.specs.Steps.{FdAllows, fd_answer, fd_object_timer, fd_step, fd_wanted}
+use Rattle.sleeper.specs.States.{sleeper_opening, timer_of}
+use Rattle.sleeper.specs.Steps.{SleeperAllows, sleeper_answer, sleeper_step, sleeper_wanted}
 use Rattle.timer_objects.specs.declared.object.Kind.{Kind}
 use Rattle.timer_objects.specs.declared.object.Kind.TheVariants as kinds
 use Rattle.timer_objects.specs.declared.object.Decl.{Decl}
@@ -24,6 +26,7 @@ abbrev pub opened_as : Kind → ClockId → ℕ → ℕ → Object
 opened_as kinds.Raw clock base limit = objects.Raw
 opened_as kinds.Posix clock base limit = objects.Posix (posix_opening clock base limit)
 opened_as kinds.Fd clock base limit = objects.Fd (fd_opening clock base limit)
+opened_as kinds.Sleeper clock base limit = objects.Sleeper (sleeper_opening clock base limit)
 
 -- the same of its declaration
 abbrev pub opened_object : ℕ → Decl → Object
@@ -34,30 +37,35 @@ abbrev pub ObjectAllows : Object → ObjectCall → Type 0
 ObjectAllows objects.Raw c = ⊥
 ObjectAllows (objects.Posix t) c = PosixAllows t c
 ObjectAllows (objects.Fd t) c = FdAllows t c
+ObjectAllows (objects.Sleeper s) c = SleeperAllows s c
 
 -- the object after a call
 abbrev pub object_step : Object → ObjectCall → Object
 object_step objects.Raw c = objects.Raw
 object_step (objects.Posix t) c = objects.Posix (posix_step t c)
 object_step (objects.Fd t) c = objects.Fd (fd_step t c)
+object_step (objects.Sleeper s) c = objects.Sleeper (sleeper_step s c)
 
 -- what a call answers
 abbrev pub object_answer : Object → ObjectCall → ObjectReply
 object_answer objects.Raw c = replies.None
 object_answer (objects.Posix t) c = posix_answer t c
 object_answer (objects.Fd t) c = fd_answer t c
+object_answer (objects.Sleeper s) c = sleeper_answer s c
 
 -- the timer that an object keeps; a timer by itself keeps none
 abbrev pub object_timer : Object → ObjectTimer
 object_timer objects.Raw = made_timer clocks.Monotonic 0 0
 object_timer (objects.Posix t) = posix_object_timer t
 object_timer (objects.Fd t) = fd_object_timer t
+object_timer (objects.Sleeper s) = timer_of s
 
 -- the start that a call with valid arguments wants
 abbrev pub object_wanted : Object → ObjectCall → Option Wanted
 object_wanted objects.Raw c = None
 object_wanted (objects.Posix t) c = posix_wanted t c
 object_wanted (objects.Fd t) c = fd_wanted t c
+object_wanted (objects.Sleeper s) c = sleeper_wanted s c
 
 -- objects of whatever kind
 abbrev pub object_kind : ObjectKind Object
@@ -68,6 +76,7 @@ abbrev pub kind_over : Object → Kind
 kind_over objects.Raw = kinds.Raw
 kind_over (objects.Posix t) = kinds.Posix
 kind_over (objects.Fd t) = kinds.Fd
+kind_over (objects.Sleeper s) = kinds.Sleeper
 
 -- a timer that was made by this declaration with this limit, of an object with so many entries
 pub record IsTimerOf (decl : Decl) (most n : ℕ) (t : ObjectTimer) : Type 0 where

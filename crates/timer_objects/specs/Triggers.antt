@@ -13,9 +13,9 @@ use Rattle.timer_objects.specs.declared.object.Kind.{Kind}
 use Rattle.timer_objects.specs.declared.object.Kind.TheVariants as kinds
 use Rattle.timer_setting.specs.declared.object_call.ObjectCall.{ObjectCall}
 use Rattle.timer_setting.specs.declared.object_call.ObjectReply.{ObjectReply}
-use Rattle.timer_objects.specs.Steps.{ObjectAllows, object_answer}
+use Rattle.timer_objects.specs.Steps.{IsObjectOf, ObjectAllows, object_answer}
 use Rattle.timer_objects.specs.Meaning.{object_meaning}
-use Rattle.timer_objects.specs.Known.{ObjectsOf, ObjectsPass, seen_of}
+use Rattle.timer_objects.specs.Known.{ObjectsOf, ObjectsPass, seen_of, decl_at}
 use Rattle.timer_objects.specs.Turns.{HasTurn, turns_told}
 
 -- the trigger of an object of this kind by a claim of its timer, at this reading; a timer by itself has none
@@ -32,6 +32,7 @@ module _ (x : ObjectsOf) (p q : ObjectsPass) (log log' : List ObjectReceipt) (v 
   -- nothing to the timer.
   pub record EntersTrigger (id : ℕ) (call : ObjectCall) : Type 0 where
     pub commits : Commits object_meaning p q id call
+    pub declared : IsObjectOf (decl_at x id) x.limit (length commits.adds.before) commits.state
     pub may : ObjectAllows commits.state call
     pub room : length commits.adds.before < x.limit
     pub begun : KnownOfTimers

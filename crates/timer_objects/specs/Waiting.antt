@@ -1,4 +1,4 @@
--- Why a turn of a settime is given up and tried again.
+-- Why a turn of a settime, a sleep or an interrupt is given up and tried again.
 use Rattle.std.specs.Prelude.{ℕ, ◌<◌, length, IsSome}
 use Rattle.base_row.specs.declared.view.Opening.{Opening}
 use Rattle.hr_timers.specs.Known.{KnownOfTimers, timer_then}

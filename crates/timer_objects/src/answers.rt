@@ -1,4 +1,5 @@
 //! What calls on objects answer that a lower crate doesn't answer so.
+use sleeper::SleptAnswer;
 
 /// What a gettime answers, in nanoseconds.
 #[derive(Clone, Copy, Debug, PartialEq, Eq)]
@@ -42,5 +43,12 @@ pub struct Readable {
 #[derive(Clone, Copy, Debug, PartialEq, Eq)]
 pub struct Overrun {
     pub overrun: u64,
+    pub stamp: u64,
+}
+
+/// How a sleeper is, after so many entries.
+#[derive(Clone, Copy, Debug, PartialEq, Eq)]
+pub struct Slept {
+    pub answer: SleptAnswer,
     pub stamp: u64,
 }

@@ -1,27 +1,31 @@
-//! POSIX timers and timer descriptors over high-resolution timers, for many threads: each object behind a lock of its own, with one history.
+//! POSIX timers, timer descriptors and sleepers over high-resolution timers, for many threads: each object behind a lock of its own, with one history.
 #![tactic(auto)]
 
-pub use answers::{BlockingRead, Gettime, Overrun, Readable};
+pub use answers::{BlockingRead, Gettime, Overrun, Readable, Slept};
 pub use callback::Callback;
 pub use firing::{Firing, FiringWith};
+pub use laws::an_object_has_one_history;
 pub use log::{ObjectLog, ObjectReceipt};
 pub use object::{Decl, Kind, Object};
 pub use objects::Objects;
 pub use readers::Reader;
 pub use timer_setting::{ObjectCall, ObjectReply};
 
+mod anew;
 mod answers;
 mod arming;
 mod blocking;
 mod callback;
 mod entries;
 mod firing;
+mod laws;
 mod log;
 mod looking;
 mod object;
 mod objects;
 mod readers;
 mod settime;
+mod sleeping;
 mod trigger;
 mod turns;
 mod wanting;

@@ -6,10 +6,10 @@ ghost use Rattle.timer_objects.specs.declared.object.Kind.TheVariants as kinds;
 ghost use Rattle.timer_objects.specs.Known.{IsObjectsPass, Suits, decl_at, most_noted};
 ghost use Rattle.timer_objects.specs.Steps.{IsObjectOf};
 ghost use Rattle.timer_objects.specs.Turns.{turns_told};
-ghost use Rattle.timer_objects.specs.Calls.{Gettimes, LooksOverrun, LooksReadable};
+ghost use Rattle.timer_objects.specs.Calls.{Gettimes, HasSetting, LooksOverrun, LooksReadable, LooksSlept};
 ghost use Rattle.timer_objects.specs.Rearming.{FindsObject, IsCallerOf, KeepsNames, LeavesPasses, caller_of};
 
-use crate::answers::{Gettime, Overrun, Readable};
+use crate::answers::{Gettime, Overrun, Readable, Slept};
 use crate::log::ObjectLog;
 use crate::object::{Kind, Object};
 use crate::objects::Objects;
@@ -39,7 +39,7 @@ impl Objects {
         requires objects { IsObjectsPass self.now objects_pass.old }
         requires suits { Suits self.now timers.now.about }
         requires within { id < length self.now.decls }
-        requires kind { (decl_at self.now id).kind ≡ kinds.Raw → ⊥ }
+        requires kind { HasSetting (decl_at self.now id).kind }
         requires room { (most_noted self.now timers.now.about id ≤ log.old.spare) × (1 ≤ object_log.old.spare) }
         ensures pass { IsPassOf timers.now pass.new }
         ensures objects { IsObjectsPass self.now objects_pass.new }
@@ -48,7 +48,7 @@ impl Objects {
         ensures room { (log.old.spare ≤ log.new.spare + most_noted self.now timers.now.about id) × (object_log.old.spare ≤ object_log.new.spare + 1) }
     {
         match self.kind(id) {
-            Kind::Raw => unreachable!(),
+            Kind::Raw | Kind::Sleeper => unreachable!(),
             Kind::Posix => {
                 let (object, stamp) = self.look_at(rt, timers, pass, objects_pass, id);
                 let Object::Posix(timer) = object else {
@@ -201,6 +201,38 @@ impl Objects {
         };
         Overrun {
             overrun: timer.getoverrun(),
+            stamp,
+        }
+    }
+
+    /// Whether a sleep goes on, or its time has come, or neither.
+    pub fn slept<R: Wait>(
+        &self,
+        rt: &R,
+        timers: &Timers,
+        pass: &mut Pass,
+        objects_pass: &mut RowPass<Object>,
+        _log: &mut Log,
+        _object_log: &mut ObjectLog,
+        id: u32,
+    ) -> Slept
+        requires pass { IsPassOf timers.now pass.old }
+        requires objects { IsObjectsPass self.now objects_pass.old }
+        requires suits { Suits self.now timers.now.about }
+        requires within { id < length self.now.decls }
+        requires kind { (decl_at self.now id).kind ≡ kinds.Sleeper }
+        ensures pass { IsPassOf timers.now pass.new }
+        ensures objects { IsObjectsPass self.now objects_pass.new }
+        ensures looks { LooksSlept (caller_of pass.old objects_pass.old _log.old _object_log.old) (caller_of pass.new objects_pass.new _log.new _object_log.new) id result }
+        ensures name { objects_pass.new.knows.pass.id ≡ objects_pass.old.knows.pass.id }
+        ensures untouched { (_log.new ≡ _log.old) × (_object_log.new ≡ _object_log.old) }
+    {
+        let (object, stamp) = self.look_at(rt, timers, pass, objects_pass, id);
+        let Object::Sleeper(sleeper) = object else {
+            unreachable!()
+        };
+        Slept {
+            answer: sleeper.slept(),
             stamp,
         }
     }

@@ -5,6 +5,7 @@ ghost use Rattle.timer_objects.specs.Steps.{opened_object};
 
 use ktime::ClockId;
 use posix_timer::PosixState;
+use sleeper::SleeperState;
 use timer_fd::FdState;
 use timer_setting::{ObjectCall, ObjectReply};
 
@@ -17,6 +18,8 @@ pub enum Kind {
     Posix,
     /// A timer descriptor.
     Fd,
+    /// A sleeper.
+    Sleeper,
 }
 
 /// What an object is declared with: its kind, the clock of its timer, and the base on which that is armed.
@@ -33,6 +36,7 @@ pub enum Object {
     Raw,
     Posix(PosixState),
     Fd(FdState),
+    Sleeper(SleeperState),
 }
 
 impl Object {
@@ -46,6 +50,7 @@ impl Object {
             Kind::Raw => Object::Raw,
             Kind::Posix => Object::Posix(PosixState::make(decl.clock, decl.base, limit)),
             Kind::Fd => Object::Fd(FdState::make(decl.clock, decl.base, limit)),
+            Kind::Sleeper => Object::Sleeper(SleeperState::make(decl.clock, decl.base, limit)),
         }
     }
 }
@@ -64,6 +69,7 @@ impl counted_row::Object for Object {
             Object::Raw => ObjectReply::None,
             Object::Posix(timer) => timer.apply(*call),
             Object::Fd(timer) => timer.apply(*call),
+            Object::Sleeper(sleeper) => sleeper.apply(*call),
         }
     }
 

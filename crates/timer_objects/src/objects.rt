@@ -17,7 +17,7 @@ use std::marker::Model;
 use std::sync::Wait;
 use timer_setting::{ObjectCall, ObjectReply};
 
-/// POSIX timers, timer descriptors and timers by themselves, each over the timer of the same number.
+/// POSIX timers, timer descriptors, sleepers and timers by themselves, each over the timer of the same number.
 #[derive(Drop)]
 pub struct Objects {
     row: Row<Object>,

@@ -74,7 +74,7 @@ impl Bells {
                     })?;
                     Some(bell)
                 }
-                Kind::Raw | Kind::Posix => None,
+                Kind::Raw | Kind::Posix | Kind::Sleeper => None,
             };
             bells.push(bell)?;
         }

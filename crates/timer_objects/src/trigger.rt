@@ -23,7 +23,7 @@ pub(crate) fn trigger_of(kind: Kind, claim: &Claim, reading: Reading) -> Option<
     let generation = claim.generation();
     match kind {
         Kind::Raw => None,
-        Kind::Posix | Kind::Fd => Some(ObjectCall::Trigger {
+        Kind::Posix | Kind::Fd | Kind::Sleeper => Some(ObjectCall::Trigger {
             generation,
             reading,
         }),

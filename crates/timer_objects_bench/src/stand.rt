@@ -95,7 +95,7 @@ impl Stand {
         ensures keeps { KeepsStand self.old self.new }
     {
         self.make_room(4)?;
-        if self.objects.kind(id) == Kind::Raw {
+        if matches!(self.objects.kind(id), Kind::Raw | Kind::Sleeper) {
             return Ok(false);
         }
         let (timers, objects) = (&self.timers, &self.objects);
@@ -177,7 +177,7 @@ impl Stand {
                 );
                 Ok(answer == ReadAnswer::Count { total: 1 })
             }
-            Kind::Raw => Ok(false),
+            Kind::Raw | Kind::Sleeper => Ok(false),
         }
     }
 
@@ -214,7 +214,7 @@ impl Stand {
                 );
                 !answer.ready
             }
-            Kind::Raw => false,
+            Kind::Raw | Kind::Sleeper => false,
         }
     }
 

@@ -26,7 +26,7 @@ arm_told arms.NotAsked = arms.NotAsked
 arm_told (arms.Armed generation) = arms.Armed generation
 arm_told (arms.Unarmed stamp) = arms.Unarmed 0
 
--- a call as a record's line tells it: a settime's answer tells the stamp of a start that was refused
+-- a call as a record's line tells it: the answer of a settime or a sleep tells the stamp of a start that was refused
 abbrev pub as_told : ObjectCall → ObjectCall
 as_told (calls.Accept reading arm) = calls.Accept reading (arm_told arm)
 as_told (calls.Read reading arm) = calls.Read reading (arm_told arm)
@@ -40,6 +40,8 @@ arm_in (calls.Trigger generation reading) = arms.NotAsked
 arm_in (calls.Accept reading arm) = arm
 arm_in (calls.Read reading arm) = arm
 arm_in (calls.Gettime reading arm) = arm
+arm_in (calls.Sleep c) = c.arm
+arm_in (calls.Interrupt reading) = arms.NotAsked
 
 -- ---- what is known of a kind
 

@@ -2,7 +2,9 @@
 //! that an object keeps, and the histories of such objects.
 #![tactic(auto)]
 
-pub use answers::{AcceptAnswer, GettimeAnswer, ReadAnswer, SettimeAnswer};
+pub use answers::{
+    AcceptAnswer, GettimeAnswer, InterruptAnswer, ReadAnswer, SettimeAnswer, SleepAnswer,
+};
 pub use arguments::{ABSTIME, BadArgument, times_of};
 pub use arming::{Arm, Wanted};
 pub use object_call::{ObjectCall, ObjectReply};
@@ -10,6 +12,7 @@ pub use object_timer::ObjectTimer;
 pub use phase::{Phase, phase_after};
 pub use settime_call::SettimeCall;
 pub use setting::Setting;
+pub use sleep_call::SleepCall;
 pub use trigger_answer::TriggerAnswer;
 
 mod answers;
@@ -20,4 +23,5 @@ mod object_timer;
 mod phase;
 mod settime_call;
 mod setting;
+mod sleep_call;
 mod trigger_answer;

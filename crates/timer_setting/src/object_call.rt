@@ -1,7 +1,10 @@
 //! The calls that make an entry in an object's history, whatever the object's kind.
-use crate::answers::{AcceptAnswer, GettimeAnswer, ReadAnswer, SettimeAnswer};
+use crate::answers::{
+    AcceptAnswer, GettimeAnswer, InterruptAnswer, ReadAnswer, SettimeAnswer, SleepAnswer,
+};
 use crate::arming::Arm;
 use crate::settime_call::SettimeCall;
+use crate::sleep_call::SleepCall;
 use crate::trigger_answer::TriggerAnswer;
 use ktime::Reading;
 
@@ -18,6 +21,10 @@ pub enum ObjectCall {
     Read { reading: Reading, arm: Arm },
     /// A descriptor's setting is asked for.
     Gettime { reading: Reading, arm: Arm },
+    /// A sleeper falls asleep.
+    Sleep(SleepCall),
+    /// A sleep is ended, or its end told.
+    Interrupt { reading: Reading },
 }
 
 /// What such a call answers.
@@ -30,4 +37,6 @@ pub enum ObjectReply {
     Accept(AcceptAnswer),
     Read(ReadAnswer),
     Gettime(GettimeAnswer),
+    Sleep(SleepAnswer),
+    Interrupt(InterruptAnswer),
 }

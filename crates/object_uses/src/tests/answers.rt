@@ -33,18 +33,18 @@ fn set_at(real: u64, changes: u64) -> Reading
 }
 
 /// A step, its reading, and what the caller is told.
-type Case = (Step, Reading, Told);
+pub(super) type Case = (Step, Reading, Told);
 
 /// What was otherwise than expected: what the caller was told after a step, or the receipts of timers' entries or of calls.
 #[derive(Clone, Copy, Debug, PartialEq, Eq)]
-enum Other {
+pub(super) enum Other {
     Told(Step, Told),
     Entries,
     Calls,
 }
 
 /// The first step after which the caller was told something else.
-fn first_told<R: Wait>(rt: &R, stand: &mut Stand, cases: &[Case]) -> Option<Other> {
+pub(super) fn first_told<R: Wait>(rt: &R, stand: &mut Stand, cases: &[Case]) -> Option<Other> {
     for case in cases {
         let (step, reading, told) = *case;
         let answer = stand.take(rt, step, reading);

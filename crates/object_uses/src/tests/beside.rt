@@ -33,7 +33,7 @@ impl Stand {
             &mut self.pass,
             &self.objects,
             &mut self.objects_pass,
-            &[Callback::Once, Callback::Once],
+            &[Callback::Once, Callback::Once, Callback::Once],
             0,
             2,
             FD,

@@ -1,24 +1,31 @@
-//! A POSIX timer and a descriptor on one base, with the passes and the logs of one thread.
+//! A POSIX timer, a descriptor and a sleeper on one base, with the passes and the logs of one thread.
 ghost use Rattle.std.specs.Prelude.{◌≡◌, ◌≤◌, ◌<◌, OnOk};
 
-use crate::{accept_signal, expire_objects, read_count, set_timer};
+use crate::{accept_signal, await_frame, expire_objects, leave_frame, read_count, set_timer};
 use counted_row::RowPass;
 use expire_pass::{ExpireAnswer, Log};
 use hr_timers::{Pass, Timers};
-use ktime::{ClockId, Reading};
+use ktime::{ClockId, Reading, TimeSpec};
 use posix_timer::AcceptAnswer;
 use seq_timer::{Declared, Terms};
+use sleeper::TIMER_ABSTIME;
 use std::alloc::{AllocError, Global};
 use std::marker::Model;
 use std::sync::Wait;
 use timer_fd::{ReadAnswer, SettimeAnswer};
-use timer_objects::{Callback, Decl, Gettime, Kind, Object, ObjectLog, Objects, Overrun, Readable};
+use timer_objects::{
+    Callback, Decl, Gettime, Kind, Object, ObjectLog, Objects, Overrun, Readable, Slept,
+};
+use timer_setting::{InterruptAnswer, SleepAnswer};
 
 /// The number of the POSIX timer.
 pub const POSIX: u32 = 0;
 
 /// The number of the descriptor.
 pub const FD: u32 = 1;
+
+/// The number of the sleeper.
+pub const SLEEPER: u32 = 2;
 
 /// What a caller does.
 #[derive(Clone, Copy, Debug, PartialEq, Eq)]
@@ -33,6 +40,10 @@ pub enum Step {
     Gettime(u32),
     Readable,
     Overrun,
+    /// A sleep with these flags, of so many nanoseconds or up to that time.
+    Sleep(u64, u64),
+    Interrupt,
+    Slept,
 }
 
 /// What it is told.
@@ -45,10 +56,13 @@ pub enum Told {
     Gettime(Gettime),
     Readable(Readable),
     Overrun(Overrun),
+    Sleep(SleepAnswer),
+    Interrupt(InterruptAnswer),
+    Slept(Slept),
     NoMemory,
 }
 
-/// A POSIX timer, which is object 0, and a descriptor, which is object 1, on base 0, and a pass of each kind.
+/// A POSIX timer, which is object 0, a descriptor, which is object 1, and a sleeper, which is object 2, on base 0, and a pass of each kind.
 pub struct Stand {
     pub timers: Timers,
     pub pass: Pass,
@@ -87,13 +101,21 @@ pub fn decl_of(kind: Kind, clock: ClockId) -> Decl
 }
 
 impl Stand {
-    /// Both objects over timers on this clock, with a limit on the entries of each.
+    /// All three objects over timers on this clock, with a limit on the entries of each.
     pub fn make(alloc: Global, clock: ClockId, limit: u64) -> Result<Stand, AllocError>
         requires limit { (0 < limit) × (limit ≤ 1000) }
     {
-        let decls = [decl_of(Kind::Posix, clock), decl_of(Kind::Fd, clock)];
-        let declared = [Declared::hard(clock), Declared::hard(clock)];
-        let (timers, pass) = Timers::make_counting(alloc, 1, &declared, Terms::limited(limit), 3)?;
+        let decls = [
+            decl_of(Kind::Posix, clock),
+            decl_of(Kind::Fd, clock),
+            decl_of(Kind::Sleeper, clock),
+        ];
+        let declared = [
+            Declared::hard(clock),
+            Declared::hard(clock),
+            Declared::hard(clock),
+        ];
+        let (timers, pass) = Timers::make_counting(alloc, 1, &declared, Terms::limited(limit), 4)?;
         let Ok((objects, objects_pass)) = Objects::make(alloc, &decls, limit) else {
             timers.close(pass);
             return Err(AllocError);
@@ -134,6 +156,9 @@ impl Stand {
             Step::Gettime(id) => Told::Gettime(self.gettime(rt, id.min(FD), reading)),
             Step::Readable => Told::Readable(self.readable(rt, reading)),
             Step::Overrun => Told::Overrun(self.overrun(rt)),
+            Step::Sleep(flags, ns) => Told::Sleep(self.sleep(rt, flags, ns, reading)),
+            Step::Interrupt => Told::Interrupt(self.interrupt(rt, reading)),
+            Step::Slept => Told::Slept(self.slept(rt)),
         }
     }
 
@@ -176,7 +201,7 @@ impl Stand {
             &mut self.pass,
             &self.objects,
             &mut self.objects_pass,
-            &[Callback::Once, Callback::Once],
+            &[Callback::Once, Callback::Once, Callback::Once],
             0,
             reading,
             4,
@@ -265,6 +290,68 @@ impl Stand {
             &mut self.log,
             &mut self.calls,
             POSIX,
+        )
+    }
+
+    #[tactic(auto, using(crate::proofs::Rooms::room_on))]
+    fn sleep<R: Wait>(&mut self, rt: &R, flags: u64, ns: u64, reading: Reading) -> SleepAnswer
+        requires room { (4 ≤ self.old.0) × (0 < self.old.1) }
+    {
+        let time = TimeSpec { sec: 0, nsec: ns };
+        if flags == TIMER_ABSTIME {
+            return await_frame(
+                rt,
+                &self.timers,
+                &mut self.pass,
+                &self.objects,
+                &mut self.objects_pass,
+                &mut self.log,
+                &mut self.calls,
+                SLEEPER,
+                time,
+                reading,
+            );
+        }
+        self.objects.sleep(
+            rt,
+            &self.timers,
+            &mut self.pass,
+            &mut self.objects_pass,
+            &mut self.log,
+            &mut self.calls,
+            SLEEPER,
+            flags,
+            time,
+            reading,
+        )
+    }
+
+    #[tactic(auto, using(crate::proofs::Rooms::room_on))]
+    fn interrupt<R: Wait>(&mut self, rt: &R, reading: Reading) -> InterruptAnswer
+        requires room { (4 ≤ self.old.0) × (0 < self.old.1) }
+    {
+        leave_frame(
+            rt,
+            &self.timers,
+            &mut self.pass,
+            &self.objects,
+            &mut self.objects_pass,
+            &mut self.log,
+            &mut self.calls,
+            SLEEPER,
+            reading,
+        )
+    }
+
+    fn slept<R: Wait>(&mut self, rt: &R) -> Slept {
+        self.objects.slept(
+            rt,
+            &self.timers,
+            &mut self.pass,
+            &mut self.objects_pass,
+            &mut self.log,
+            &mut self.calls,
+            SLEEPER,
         )
     }
 

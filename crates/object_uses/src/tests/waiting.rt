@@ -1,10 +1,11 @@
 //! A settime that meets the running function of its timer, by two threads: it waits, and its entry stands behind the trigger that the function
 //! makes.
-ghost use Rattle.std.specs.Prelude.{◌≡◌, ◌≢◌, ◌+◌, ◌≤◌, ◌<◌, length};
+ghost use Rattle.std.specs.Prelude.{◌≡◌, ◌+◌, ◌≤◌, ◌<◌, length};
 ghost use Rattle.hr_timers.specs.Known.{IsPassOf};
 ghost use Rattle.expire_pass.specs.Handlers.{KeepsPass};
 ghost use Rattle.timer_objects.specs.declared.object.Kind.TheVariants as kinds;
 ghost use Rattle.timer_objects.specs.Known.{IsObjectsPass, decl_at, most_noted};
+ghost use Rattle.timer_objects.specs.Calls.{HasSetting};
 ghost use Rattle.object_uses.specs.Callers.{HasPasses, KeepsPasses, MayCall};
 
 use super::assert_equal;
@@ -110,12 +111,12 @@ fn run_one<R: Wait>(
     log: &mut Log,
 ) -> Result<Ran, AllocError>
     requires passes { HasPasses timers.now objects.now pass.old objects_pass.old }
-    requires two { length objects.now.decls ≡ 2 }
+    requires three { length objects.now.decls ≡ 3 }
     requires base { 0 < timers.now.about.bases }
     requires room { 2 ≤ log.old.spare }
     ensures keeps { KeepsPasses timers.now objects.now pass.old pass.new objects_pass.old objects_pass.new }
 {
-    let callbacks = [Callback::Once, Callback::Once];
+    let callbacks = [Callback::Once, Callback::Once, Callback::Once];
     let mut firing = Firing::make(alloc, objects, objects_pass, &callbacks);
     if firing.reserve(1).is_err() {
         let _ = firing.into_logs();
@@ -147,7 +148,7 @@ fn set_one<R: Wait>(
     id: u32,
 ) -> SettimeAnswer
     requires may { MayCall timers.now objects.now pass.old objects_pass.old log.old calls.old id }
-    requires kind { (decl_at objects.now id).kind ≢ kinds.Raw }
+    requires kind { HasSetting (decl_at objects.now id).kind }
     ensures keeps { KeepsPasses timers.now objects.now pass.old pass.new objects_pass.old objects_pass.new }
     ensures room { (log.old.spare ≤ log.new.spare + most_noted objects.now timers.now.about id) × (calls.old.spare ≤ calls.new.spare + 1) }
 {
@@ -181,7 +182,7 @@ fn set_running<R: Wait>(
 ) -> Option<SettimeAnswer>
     requires passes { HasPasses timers.now objects.now pass.old objects_pass.old }
     requires bases { timers.now.about.bases ≡ 1 }
-    requires two { length objects.now.decls ≡ 2 }
+    requires three { length objects.now.decls ≡ 3 }
     requires kinds { ((decl_at objects.now 0).kind ≡ kinds.Posix) × ((decl_at objects.now 1).kind ≡ kinds.Fd) }
     requires room { (8 ≤ log.old.spare) × (2 ≤ calls.old.spare) }
     ensures timers { IsPassOf timers.now pass.new }
@@ -228,7 +229,7 @@ fn run_and_set<R: Threads + Wait + Sync>(
     requires runner { HasPasses timers.now objects.now runner.old objects_runner.old }
     requires setter { HasPasses timers.now objects.now setter.old objects_setter.old }
     requires bases { timers.now.about.bases ≡ 1 }
-    requires two { length objects.now.decls ≡ 2 }
+    requires three { length objects.now.decls ≡ 3 }
     requires kinds { ((decl_at objects.now 0).kind ≡ kinds.Posix) × ((decl_at objects.now 1).kind ≡ kinds.Fd) }
     requires room { (2 ≤ runs.old.spare) × (8 ≤ log.old.spare) × (2 ≤ calls.old.spare) }
     ensures runner { KeepsPasses timers.now objects.now runner.old runner.new objects_runner.old objects_runner.new }

@@ -6,8 +6,8 @@ ghost use Rattle.sleeper_uses.specs.Sleeps.{sleeps};
 use super::assert_equal;
 use ktime::{ClockId, Reading};
 use sleeper::{
-    Arm, Call, InterruptAnswer, Phase, Reply, SleepAnswer, SleepCall, SleeperState, TriggerAnswer,
-    few_entries, no_sleep_ends_early, one_end_of_each_sleep, one_more_entry,
+    Arm, InterruptAnswer, ObjectCall, ObjectReply, Phase, SleepAnswer, SleepCall, SleeperState,
+    TriggerAnswer, few_entries, no_sleep_ends_early, one_end_of_each_sleep, one_more_entry,
 };
 
 #[test]
@@ -20,13 +20,13 @@ fn a_relative_sleep_on_the_real_clock_is_kept_on_the_monotonic_one(rt: HostRunti
         boot: 5,
         changes: 1,
     };
-    let sleep = Call::Sleep(SleepCall {
+    let sleep = ObjectCall::Sleep(SleepCall {
         flags: 0,
         time: 10,
         reading,
         arm: Arm::Armed(1),
     });
-    let asleep = Reply::Sleep(SleepAnswer::Asleep);
+    let asleep = ObjectReply::Sleep(SleepAnswer::Asleep);
     assert_equal(&rt, sleeper.apply(sleep), asleep);
     let phase = Phase::Armed {
         generation: 1,

@@ -3,10 +3,10 @@ use Rattle.timer_setting.specs.Phases.{clock_by, expiry_by, is_expiry_of, phase_
 use Rattle.timer_setting.specs.StepTables.{after_calls}
 use Rattle.timer_setting.specs.declared.trigger_answer.TriggerAnswer.{TriggerAnswer}
 use Rattle.timer_setting.specs.declared.trigger_answer.TriggerAnswer.TheVariants as triggers
-use Rattle.sleeper.specs.declared.answers.SleepAnswer.TheVariants.{Asleep}
-use Rattle.sleeper.specs.declared.calls.Call.TheVariants as calls
-use Rattle.sleeper.specs.declared.calls.Reply.{Reply}
-use Rattle.sleeper.specs.declared.calls.Reply.TheVariants as replies
+use Rattle.timer_setting.specs.declared.answers.SleepAnswer.TheVariants.{Asleep}
+use Rattle.timer_setting.specs.declared.object_call.ObjectCall.TheVariants as calls
+use Rattle.timer_setting.specs.declared.object_call.ObjectReply.{ObjectReply}
+use Rattle.timer_setting.specs.declared.object_call.ObjectReply.TheVariants as replies
 use Rattle.sleeper.specs.Histories.{SleeperEntry}
 use Rattle.sleeper.specs.States.{sleeper_opening}
 use Rattle.sleeper.specs.Steps.{sleeper_step, sleeper_table}
@@ -14,10 +14,9 @@ use Rattle.sleeper.proofs.Expiries.{counted_is, expiry_reached, same_clock, same
 use Rattle.sleeper.proofs.Sleeps.{expiry_armed, parts}
 use Rattle.sleeper.proofs.laws.no_sleep_ends_early.Goals as goal
 
-abbrev trigger_in : Reply → TriggerAnswer
-trigger_in (replies.Sleep answer) = triggers.Stale
+abbrev trigger_in : ObjectReply → TriggerAnswer
 trigger_in (replies.Trigger answer) = answer
-trigger_in (replies.Interrupt answer) = triggers.Stale
+trigger_in reply = triggers.Stale
 
 pub returns : goal.returns
 returns c = λ clock base limit before middle after call generation reading legal none.

@@ -1,7 +1,7 @@
 use Rattle.std.proofs.Common.{◌≡◌}
 use Rattle.timer_objects.specs.Calls.{HasWaited}
 use Rattle.timer_objects.specs.Rearming.{LeavesPasses, caller_of}
-use Rattle.timer_objects.proofs.objects.Objects.settime_valid.Given as goal
+use Rattle.timer_objects.proofs.objects.Objects.arm_anew.Given as goal
 
 abbrev pub invariant-loop : goal.invariant-loop
 invariant-loop g l = record {
