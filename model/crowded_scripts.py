@@ -27,9 +27,17 @@ class CrowdedMaker(Maker):
         interval = self.random.choice([(0, 0), (0, 1), (0, 2), (0, self.time())])
         return " ".join(str(number) for number in value + interval)
 
+    def sleep(self, timer):
+        """A sleep, most of which end soon."""
+        if self.random.random() < 0.15:
+            return super().sleep(timer)
+        return f"sleep {timer} {self.random.choice([0, 0, 1])} 0 {self.random.choice([0, 1, 1, 2, self.small() + 1])}"
+
     def call_of(self, timer):
         """As any script's, but objects are set and read more often, and by arguments that are right more often."""
         kind, drawn = self.kinds[timer], self.random.random()
+        if kind == "sleeper":
+            return self.sleep(timer) if drawn < 0.45 else f"{'interrupt' if drawn < 0.8 else 'slept'} {timer}"
         if kind not in ("posix", "fd") or drawn < 0.2:
             return super().call_of(timer)
         if drawn < 0.55:

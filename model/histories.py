@@ -7,7 +7,7 @@ from typing import NamedTuple
 
 import objects
 import timers
-from objects import NOT_ASKED, Accept, Gettime, Object, Read, Settime, Trigger
+from objects import NOT_ASKED, Accept, Gettime, Interrupt, Object, Read, Settime, Sleep, Trigger
 from timers import Cancel, Claim, Finish, Forward, NotLegal, Out, Reading, Start, Terms, Timer
 from world import LAST_STANDING, REACH, World
 
@@ -18,6 +18,16 @@ SECTIONS = ("record", "clock", "base", "timer", "object", "call", "end")
 # The list in which a line stands: its kind, and the field that has its number.
 NUMBERED = {"clock": None, "base": "base", "timer": "timer", "object": "timer"}
 UNDER = {"look": "timer", "skip": "object"}
+# The call that an object's line shows, and the fields of its arguments.
+OBJECT_CALLS = {
+    "settime": (Settime, ("flags", "value", "interval")),
+    "trigger": (Trigger, ("generation",)),
+    "accept": (Accept, ()),
+    "read": (Read, ()),
+    "gettime": (Gettime, ()),
+    "sleep": (Sleep, ("flags", "time")),
+    "interrupt": (Interrupt, ()),
+}
 
 
 class Misfit(Exception):
@@ -47,7 +57,7 @@ class Line(NamedTuple):
         kind, number = self.name
         if self.fields["kind"] in UNDER:
             return f"a {self.fields['kind']} at {kind} {number} behind entry {self.number}"
-        return f"entry {self.number} of {kind} {number}, {'an' if self.event[0] in 'ao' else 'a'} {self.event}"
+        return f"entry {self.number} of {kind} {number}, {'an' if self.event[0] in 'aio' else 'a'} {self.event}"
 
 
 def many(number):
@@ -201,14 +211,12 @@ class Histories:
     def object_call(self, line):
         """The call that an object's line shows, what became of its start, and the words behind the verb and before the reading."""
         given, reading = line.fields, self.reading(line)
-        if line.event == "trigger":
-            return Trigger(given["generation"], reading), NOT_ASKED, ()
-        refused = given.get("answer", {}).get("entries", 0) if line.event == "settime" else 0
-        arm = {"none": NOT_ASKED, "unarmed": ("unarmed", refused)}.get(given["arm"], ("armed", given["arm"]))
-        if line.event == "settime":
-            arguments = given["flags"], given["value"], given["interval"]
-            return Settime(*arguments, reading), arm, arguments
-        return {"accept": Accept, "read": Read, "gettime": Gettime}[line.event](reading), arm, ()
+        kind, names = OBJECT_CALLS[line.event]
+        arguments = tuple(given[name] for name in names)
+        refused = given.get("answer", {}).get("entries", 0) if kind in (Settime, Sleep) else 0
+        armed = given.get("arm", "none")
+        arm = {"none": NOT_ASKED, "unarmed": ("unarmed", refused)}.get(armed, ("armed", armed))
+        return kind(*arguments, reading), arm, arguments
 
     def object_states(self, number):
         declared = self.script.declarations[number]
@@ -223,10 +231,7 @@ class Histories:
                 after, answer = objects.step(states[-1], call, arm)
             except NotLegal as wrong:
                 raise Misfit(f"{line.says()}, can't follow: {wrong}", line.label) from None
-            if line.event == "trigger":
-                words = "trigger", call.generation, call.reading.stamp, answer
-            else:
-                words = (line.event, *arguments, call.reading.stamp, line.fields["arm"], answer)
+            words = objects.words_of(line.event, arguments, call, arm, answer)
             if " ".join(map(str, words)) != line.words:
                 raise Misfit(f"{line.says()}, would answer {answer!r}", line.label)
             states.append(after)

@@ -2,8 +2,7 @@
 So its records have races that threads come to rarely. With a fault let in, some of its records are wrong."""
 import objects
 import timers
-from objects import NOT_ASKED, Accept, Gettime, Read, Settime, Trigger
-from record import Entry
+from objects import NOT_ASKED, Accept, Gettime, Interrupt, Read, Settime, Sleep, Trigger
 from timers import Claim, Finish, Forward, Out, Start
 from world import LAST_STANDING, World
 
@@ -185,9 +184,10 @@ class Interleaved(World):
         yield
         while True:
             yield from self.locking(number)
-            if self.object_stamp(number) >= self.limit:
+            refused = self.refusal(number, call)
+            if refused:
                 self.locked.discard(number)
-                return f"spent {self.object_stamp(number)}"
+                return refused
             yield
             while cancels and self.timers[number].moving:
                 yield
@@ -203,9 +203,7 @@ class Interleaved(World):
             started = yield from self.starting(number, *wanted, 0, self.objects[number].base, call.reading)
             arm = ("armed", started[0]) if started else ("unarmed", self.stamp_of(number))
         yield
-        self.objects[number], answer = objects.step(self.objects[number], call, arm)
-        armed = arm[1] if arm[0] == "armed" else arm[0]
-        self.record.objects[number].append(Entry(*self.label, (verb, *arguments, call.reading.stamp, armed, answer)))
+        answer = self.enter_object(number, verb, call, *arguments, arm=arm)
         self.locked.discard(number)
         return answer
 
@@ -245,6 +243,20 @@ class Interleaved(World):
     def steps_readable(self, I):
         reading = self.read()
         return self.seeing(I, lambda it, stamp: f"readable {int(it.is_readable(reading))} {reading.stamp} {stamp}")
+
+    def steps_sleep(self, I, F, S, N):
+        reading = self.read()
+        yield
+        if objects.is_bad_sleep(F, N):
+            return "einval"
+        time = timers.nanoseconds(S, N)
+        return (yield from self.making(I, "sleep", Sleep(F, time, reading), F, time, cancels=True))
+
+    def steps_interrupt(self, I):
+        return self.making(I, "interrupt", Interrupt(self.read()), cancels=True)
+
+    def steps_slept(self, I):
+        return self.seeing(I, lambda it, stamp: f"{it.slept()} {stamp}")
 
     # ---- bases off line and on line
 

@@ -62,8 +62,8 @@ def reading_place(words, is_wide):
     if words[0] == "timer":
         return {"start": 8 + is_wide, "claim": 7, "forward": 6}.get(words[5])
     if words[0] == "object":
-        return {"settime": 9, "trigger": 7}.get(words[5], 6)
-    if words[0] != "call":
+        return {"settime": 9, "sleep": 8, "trigger": 7}.get(words[5], 6)
+    if words[0] != "call" or len(words) < 6:
         return None
     return {"done": 5, "more": 5, "busy": 5, "left": 6, "readable": 5}.get(words[3]) if len(words) > 6 or words[3] in ("done", "readable") else None
 

@@ -1,4 +1,4 @@
-"""The steps of calls on POSIX timers and descriptors."""
+"""The steps of calls on POSIX timers, descriptors and sleepers."""
 import objects
 from histories import many
 from steps import Steps, is_idle
@@ -51,15 +51,19 @@ class ObjectSteps(Steps):
         value, interval = nanoseconds(VS, VN), nanoseconds(IS, IN)
         given = line.fields
         self.need((given["flags"], given["value"], given["interval"]) == (F, value, interval), f"{line.says()}, has other arguments than the call")
-        self.disarm(I)
+        self.arm_anew(I, line, "abs" if F & 1 else "rel", value)
+
+    def arm_anew(self, number, line, mode, ns):
+        """What a settime or a sleep did in its turn."""
+        self.disarm(number)
         if self.told == "unarmed":
-            self.look_refused(I, self.answer["entries"])
+            self.look_refused(number, self.answer["entries"])
             self.enter(line)
         else:
-            self.arm(I, line, "abs" if F & 1 else "rel", value, True)
+            self.arm(number, line, mode, ns, True)
 
     def disarm(self, timer):
-        """A settime disarms its timer first: it cancels it, or finds it idle."""
+        """A settime, a sleep and an interrupt disarm their timer first: they cancel it, or find it idle."""
         if self.is_next(timer, "cancel"):
             self.enter(self.take(("timer", timer), "cancel"))
             return
@@ -115,3 +119,42 @@ class ObjectSteps(Steps):
         ready, stamp, number = self.has("ready", "stamp", "entries")
         reading = self.read(stamp)
         self.look_object(I, number, lambda it: it.is_readable(reading) == ready)
+
+    # ---- sleepers
+
+    def look_refusing(self, number, is_so):
+        """A sleeper whose history has room, and whose state refuses the call."""
+        stamp, = self.has("entries")
+        self.need(stamp < self.h.script.limit, f"object {number} is full with {many(stamp)}")
+        self.look_object(number, stamp, is_so)
+
+    def do_sleep(self, I, F, S, N):
+        self.answers("done", "asleep", "unarmed", "einval", "occupied", "spent")
+        bad = objects.is_bad_sleep(F, N)
+        self.need(bad == (self.told == "einval"), "its arguments are bad" if bad else "its arguments are good")
+        if bad:
+            return
+        if self.told == "occupied":
+            self.look_refusing(I, lambda it: it.sleep != "free")
+            return
+        line = self.made(I, "sleep")
+        if line is None:
+            return
+        time, given = nanoseconds(S, N), line.fields
+        self.need((given["flags"], given["time"]) == (F, time), f"{line.says()}, has other arguments than the call")
+        self.arm_anew(I, line, "abs" if F & 1 else "rel", time)
+
+    def do_interrupt(self, I):
+        self.answers("done", "left", "interrupted", "awake", "spent")
+        if self.told == "awake":
+            self.look_refusing(I, lambda it: it.sleep == "free")
+            return
+        line = self.made(I, "interrupt")
+        if line is not None:
+            self.disarm(I)
+            self.enter(line)
+
+    def do_slept(self, I):
+        self.answers("sleeping", "done", "awake")
+        number, = self.has("entries")
+        self.look_object(I, number, lambda it: it.slept() == self.told)

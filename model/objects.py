@@ -1,4 +1,4 @@
-"""POSIX timers and timer descriptors: each a state over its timer, the start that a call wants, and the call's step."""
+"""POSIX timers, timer descriptors and sleepers: each a state over its timer, the start that a call wants, and the call's step."""
 from typing import NamedTuple, Optional, Tuple
 
 from timers import Reading, effective_clock, need, next_after, passed, sat
@@ -36,8 +36,19 @@ class Gettime(NamedTuple):
     reading: Reading
 
 
+class Sleep(NamedTuple):
+    flags: int
+    value: int
+    reading: Reading
+
+
+class Interrupt(NamedTuple):
+    reading: Reading
+
+
 class Object(NamedTuple):
-    """The state of a POSIX timer or a descriptor. A phase is idle, armed (generation, clock, expiry) or expired (clock, expiry)."""
+    """The state of an object. A phase is idle, armed (generation, clock, expiry) or expired (clock, expiry). A sleeper is free, in a relative or an absolute
+    sleep, or woken; its timer is armed exactly while it sleeps."""
 
     kind: str
     clock: str
@@ -49,6 +60,7 @@ class Object(NamedTuple):
     count: int = 0
     cancelable: bool = False
     seen: int = 0
+    sleep: str = "free"
 
     def was_canceled(self, reading):
         """A descriptor's setting with both flags is canceled by a later change of the real offset."""
@@ -58,7 +70,7 @@ class Object(NamedTuple):
         return self.count != 0 or self.was_canceled(reading)
 
     def left(self, reading):
-        """The time left. An armed POSIX timer that is overdue has 1 ns left, a descriptor none."""
+        """The time left. An armed POSIX timer that is overdue has 1 ns left, a descriptor and a sleeper none."""
         if self.phase == IDLE:
             return 0
         clock, expires = self.phase[-2:]
@@ -67,6 +79,10 @@ class Object(NamedTuple):
             return next_after(expires, now, self.interval) - now
         return expires - now if now < expires else int(self.kind == "posix")
 
+    def slept(self):
+        """What a look at a sleeper is answered."""
+        return {"free": "awake", "woken": "done"}.get(self.sleep, "sleeping")
+
 
 def is_bad(kind, flags, value_rest, interval_rest):
     """Whether a settime has flags or times that its kind doesn't take."""
@@ -74,10 +90,36 @@ def is_bad(kind, flags, value_rest, interval_rest):
     return flags > most or value_rest > NSEC_MOST or interval_rest > NSEC_MOST
 
 
+def is_bad_sleep(flags, rest):
+    return flags > 1 or rest > NSEC_MOST
+
+
+def refusal(state: Object, call):
+    """The word that refuses a call on a sleeper whose history has room: only a free one falls asleep, and only one that isn't is interrupted."""
+    if isinstance(call, Sleep) and state.sleep != "free":
+        return "occupied"
+    return "awake" if isinstance(call, Interrupt) and state.sleep == "free" else None
+
+
+def setting(state: Object, call):
+    """The clock and the expiry that a settime or a sleep sets."""
+    if call.flags & 1:
+        return state.clock, call.value
+    clock = effective_clock(state.clock, "rel", state.clock)
+    return clock, sat(call.reading.of(clock) + call.value)
+
+
+def has_come(state: Object, call):
+    """Whether a sleep's time has come when it is asked for."""
+    clock, expires = setting(state, call)
+    return expires <= call.reading.of(clock)
+
+
 def wants(state: Object, call) -> Optional[Tuple[str, int]]:
     """The start that a call wants of the object's timer: its mode and time."""
-    if isinstance(call, Settime):
-        return ("abs" if call.flags & 1 else "rel", call.value) if call.value else None
+    if isinstance(call, (Settime, Sleep)):
+        is_wanted = call.value > 0 if isinstance(call, Settime) else not has_come(state, call)
+        return ("abs" if call.flags & 1 else "rel", call.value) if is_wanted else None
     if state.phase[0] != "expired" or isinstance(call, Trigger):
         return None
     if isinstance(call, Accept) and not state.pending or isinstance(call, Read) and state.was_canceled(call.reading):
@@ -92,14 +134,15 @@ def step(state: Object, call, arm=NOT_ASKED):
     return STEPS[state.kind, type(call)](state, call, arm)
 
 
+def words_of(verb, arguments, call, arm, answer):
+    """The words of an object's entry. A trigger and an interrupt start nothing, so nothing of a start stands there."""
+    armed = () if isinstance(call, (Trigger, Interrupt)) else (arm[1] if arm[0] == "armed" else arm[0],)
+    return (verb, *arguments, call.reading.stamp, *armed, answer)
+
+
 def phase_set(state, call, arm):
     """The phase of a new setting."""
-    if arm[0] != "armed":
-        return IDLE
-    if call.flags & 1:
-        return "armed", arm[1], state.clock, call.value
-    clock = effective_clock(state.clock, "rel", state.clock)
-    return "armed", arm[1], clock, sat(call.reading.of(clock) + call.value)
+    return ("armed", arm[1], *setting(state, call)) if arm[0] == "armed" else IDLE
 
 
 def phase_again(state, call, arm):
@@ -190,6 +233,28 @@ def fd_gettime(state, call, arm):
     return after, f"{after.left(call.reading)} {after.interval}"
 
 
+# ---- sleepers
+
+
+def sleeper_sleep(state, call, arm):
+    need(state.sleep == "free", "only a free sleeper falls asleep")
+    if arm[0] != "armed":
+        return state, "done" if arm == NOT_ASKED else f"unarmed {arm[1]}"
+    return state._replace(phase=phase_set(state, call, arm), sleep="absolute" if call.flags & 1 else "relative"), "asleep"
+
+
+def sleeper_trigger(state, call, arm):
+    if not counts(state, call):
+        return state, "stale"
+    return state._replace(phase=IDLE, sleep="woken"), "counted"
+
+
+def sleeper_interrupt(state, call, arm):
+    need(state.sleep != "free", "a free sleeper isn't interrupted")
+    answer = {"woken": "done", "absolute": "interrupted", "relative": f"left {state.left(call.reading)}"}[state.sleep]
+    return state._replace(phase=IDLE, sleep="free"), answer
+
+
 STEPS = {
     ("posix", Settime): posix_settime,
     ("posix", Trigger): posix_trigger,
@@ -198,4 +263,7 @@ STEPS = {
     ("fd", Trigger): fd_trigger,
     ("fd", Read): fd_read,
     ("fd", Gettime): fd_gettime,
+    ("sleeper", Sleep): sleeper_sleep,
+    ("sleeper", Trigger): sleeper_trigger,
+    ("sleeper", Interrupt): sleeper_interrupt,
 }

@@ -24,11 +24,11 @@ class Maker:
         return self.random.randrange(self.bases if self.random.random() < 0.2 else min(self.bases, 2))
 
     def declaration(self):
-        kinds = ["raw", "raw", "posix", "fd"] + ["soft"] * (self.version == 2)
+        kinds = ["raw", "raw", "posix", "fd"] + ["soft", "sleeper"] * (self.version == 2)
         kind = self.random.choice(kinds)
         begin = f"{kind} {len(self.kinds)} {self.random.choice(CLOCKS)}"
         self.kinds.append(kind)
-        if kind in ("posix", "fd"):
+        if kind in ("posix", "fd", "sleeper"):
             return f"{begin} {self.base()}"
         callbacks = ["once", f"every {self.time()}", "cancels", f"starts {self.small()} {self.base()}"]
         return f"{begin} {self.random.choice(callbacks[:2] if kind == 'soft' else callbacks)}"
@@ -39,6 +39,11 @@ class Maker:
         interval = self.random.choice([(0, 0), (0, self.small()), (0, 1), (self.time(), self.small())])
         return " ".join(str(number) for number in value + interval)
 
+    def sleep(self, timer):
+        """A sleep, now and then by bad flags or a bad time."""
+        time = self.random.choice([(0, self.small()), (0, self.small() + 1), (0, self.time()), (self.time(), self.small())])
+        return f"sleep {timer} {self.random.choice([0, 0, 0, 1, 1, 1, 2])} {time[0]} {time[1]}"
+
     def call_of(self, timer):
         kind = self.kinds[timer]
         if kind == "posix":
@@ -48,6 +53,8 @@ class Maker:
             flags = self.random.choice([0, 0, 1, 2, 3, 3, 4])
             calls = [f"settime {timer} {flags} {self.setting()}", f"gettime {timer}", f"read {timer} {self.random.choice([7, 8, 8, 16])}", f"readable {timer}"]
             return self.random.choice(calls)
+        if kind == "sleeper":
+            return self.random.choice([self.sleep(timer), self.sleep(timer), f"interrupt {timer}", f"slept {timer}"])
         mode = f"{self.random.choice(['rel', 'rel', 'abs'])} {self.time()}"
         starts = [f"start {timer} {mode} {self.base()}"]
         if self.version == 2:
@@ -96,6 +103,10 @@ NUMBERS = [
     *(str(number).encode() for number in (*range(7), 9, 17, 64, 65, 256, 257, 4096, 4097, 2**48 - 2047, 2**48 - 15, 2**63 - 1, 2**63)),
     b"00", b"01", b"-1", b"+1", b"1e3", b"",
 ]
+WORDS = [
+    b"start", b"startrange", b"monotonic", b"round", b"soft", b"once", b"every", b"read", b"abs", b"hrt", b"offline", b"online", b"sleeper", b"sleep",
+    b"interrupt", b"slept",
+]
 BYTES = [b"\r", b"\t", b"\0", b"\x7f", b"\xef\xbb\xbf", b"\xc3\xa9", b" ", b"  ", b"\n", b"#"]
 
 
@@ -111,7 +122,7 @@ def damaged_line(random, line):
     elif change == 2:
         del words[at]
     elif change == 3:
-        words[at] = random.choice([b"start", b"startrange", b"monotonic", b"round", b"soft", b"once", b"every", b"read", b"abs", b"hrt", b"offline", b"online"])
+        words[at] = random.choice(WORDS)
     elif change == 4:
         return line[:place] + random.choice(BYTES) + line[place:]
     else:

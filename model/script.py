@@ -28,6 +28,9 @@ KINDS_OF_CALL = {
     "overrun": ("posix",),
     "read": ("fd",),
     "readable": ("fd",),
+    "sleep": ("sleeper",),
+    "interrupt": ("sleeper",),
+    "slept": ("sleeper",),
 }
 
 
@@ -50,7 +53,7 @@ class Declaration(NamedTuple):
     base: int
 
     def is_object(self):
-        return self.kind in ("posix", "fd")
+        return self.kind in ("posix", "fd", "sleeper")
 
 
 class Call(NamedTuple):
@@ -82,11 +85,13 @@ FORMS = [
     *(form(1, "declaration", f"raw I CLOCK {text}") for text in ("once", "every N", "cancels", "starts N B")),
     *(form(2, "declaration", f"soft I CLOCK {text}") for text in ("once", "every N")),
     *(form(1, "declaration", f"{kind} I CLOCK B") for kind in ("posix", "fd")),
+    form(2, "declaration", "sleeper I CLOCK B"),
     form(1, "round", "round"),
     *(form(1, "call", f"K {text}") for text in ("start I MODE NS B", "cancel I", "peek I", "expire B N")),
     *(form(1, "call", f"K {verb} D") for verb in ("advance", "set", "suspend")),
     *(form(1, "call", f"K {text}") for text in ("settime I F VS VN IS IN", "gettime I", "accept I", "overrun I", "read I LEN", "readable I")),
     *(form(2, "call", f"K {text}") for text in ("startrange I MODE NS SLACK B", "softexpire B N", "offline B H N", "online B")),
+    *(form(2, "call", f"K {text}") for text in ("sleep I F S N", "interrupt I", "slept I")),
 ]
 
 

@@ -1,7 +1,7 @@
 """Runs a script on one thread: round by round, and in each round lane after lane."""
 import objects
 import timers
-from objects import NOT_ASKED, Accept, Gettime, Object, Read, Settime, Trigger
+from objects import NOT_ASKED, Accept, Gettime, Interrupt, Object, Read, Settime, Sleep, Trigger
 from record import Entry, Record, Seen
 from timers import CLOCKS, MOST_WRITES, Cancel, Claim, Finish, Forward, Out, Reading, Start, Terms, Timer
 
@@ -238,24 +238,31 @@ class World:
         if self.object_stamp(number) >= self.limit:
             self.record.skips[number].append(Seen(self.object_stamp(number), *self.label, (call.generation,)))
             return
-        self.objects[number], outcome = objects.step(self.objects[number], call)
-        self.record.objects[number].append(Entry(*self.label, ("trigger", call.generation, call.reading.stamp, outcome)))
+        self.enter_object(number, "trigger", call, call.generation)
+
+    def enter_object(self, number, verb, call, *arguments, arm=NOT_ASKED):
+        """One entry of an object: its step, and its line."""
+        self.objects[number], answer = objects.step(self.objects[number], call, arm)
+        self.record.objects[number].append(Entry(*self.label, objects.words_of(verb, arguments, call, arm, answer)))
+        return answer
+
+    def refusal(self, number, call):
+        """The answer to a call that makes no entry of its object; None where it makes one."""
+        word = "spent" if self.object_stamp(number) >= self.limit else objects.refusal(self.objects[number], call)
+        return f"{word} {self.object_stamp(number)}" if word else None
 
     def make(self, number, verb, call, *arguments, cancels=False):
         """A call on an object: the start that it wants, and then its entry. Its answer, in the record's words."""
-        if self.object_stamp(number) >= self.limit:
-            return f"spent {self.object_stamp(number)}"
+        refused = self.refusal(number, call)
+        if refused:
+            return refused
         if cancels:
             timers.need(self.cancel(number)[0] != "running", "one thread makes no call while a function runs")
         arm, wanted = NOT_ASKED, objects.wants(self.objects[number], call)
         if wanted is not None:
             started = self.start(number, *wanted, 0, self.objects[number].base, call.reading)
             arm = ("armed", started[0]) if started else ("unarmed", self.stamp_of(number))
-        self.objects[number], answer = objects.step(self.objects[number], call, arm)
-        armed = arm[1] if arm[0] == "armed" else arm[0]
-        words = (verb, *arguments, call.reading.stamp, armed, answer)
-        self.record.objects[number].append(Entry(*self.label, words))
-        return answer
+        return self.enter_object(number, verb, call, *arguments, arm=arm)
 
     def call_settime(self, I, F, VS, VN, IS, IN):
         if objects.is_bad(self.objects[I].kind, F, VN, IN):
@@ -281,3 +288,15 @@ class World:
 
     def call_readable(self, I):
         return f"readable {int(self.objects[I].is_readable(self.reading))} {self.reading.stamp} {self.object_stamp(I)}"
+
+    def call_sleep(self, I, F, S, N):
+        if objects.is_bad_sleep(F, N):
+            return "einval"
+        time = timers.nanoseconds(S, N)
+        return self.make(I, "sleep", Sleep(F, time, self.reading), F, time, cancels=True)
+
+    def call_interrupt(self, I):
+        return self.make(I, "interrupt", Interrupt(self.reading), cancels=True)
+
+    def call_slept(self, I):
+        return f"{self.objects[I].slept()} {self.object_stamp(I)}"

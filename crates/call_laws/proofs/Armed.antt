@@ -2,7 +2,7 @@
 use Rattle.call_laws.proofs.Starts.{entries_so, told_so}
 use Rattle.call_laws.proofs.Noted.{HasNoTurns, entered_on, entered_turns, notes_of}
 use Rattle.call_laws.proofs.Parts.{ClockHas, part_logged}
-use Rattle.std.proofs.Common.{Bool, false, ◌≡◌, ◌<◌, ℕ, ◌+◌, Some, List, [], ◌++◌, length, arith, refl, sym, ap, ◌∙◌, subst}
+use Rattle.std.proofs.Common.{Bool, true, false, if◌then◌else◌, ◌⊎◌, inl, inr, ◌≡◌, ◌<◌, ℕ, ◌+◌, Some, List, [], ◌++◌, length, arith, refl, sym, ap, ◌∙◌, subst}
 use Rattle.std.proofs.lemmas.List.{append-nil}
 use Rattle.ktime.specs.Readings.{ClockReading}
 use Rattle.ktime.specs.declared.mode.Mode.{Mode}
@@ -28,7 +28,8 @@ use Rattle.record_text.specs.declared.record.ClockLine.{ClockLine}
 use Rattle.run_history.specs.Actions.{Action}
 use Rattle.run_history.specs.Told.{IsArmedLike}
 use Rattle.script_text.specs.Declarations.{kind_of, without_slack}
-use Rattle.run_history.specs.ObjectCalls.{Arms}
+use Rattle.run_history.specs.ObjectCalls.{ArmsAs}
+use Rattle.record_text.specs.declared.record.Armed.TheVariants as armings
 use Rattle.run_history.specs.Objects.{object_armed_after}
 use Rattle.run_history.specs.Starts.{arming_actions}
 use Rattle.script_text.specs.declared.script.Script.{Script}
@@ -80,19 +81,33 @@ IsArmedSo (arms.Armed generation) s = s.stamp ≡ generation
 IsArmedSo (arms.Unarmed stamp) s = (s.stamp ≡ stamp) × Holds s observations.Spent × (s.moving ≡ false)
 
 -- it was started so, or not at all, in every run that goes on from there
-abbrev pub ArmsIn : Script → KnownOfTimers → KnownOfTimers → ℕ → Mode → ℕ → ℕ → ClockReading → Arm → List Action → Type 0
-ArmsIn s begin w t mode ns base reading arm start =
+abbrev pub ArmsIn : Script → KnownOfTimers → KnownOfTimers → ℕ → Option Wanted → ℕ → ClockReading → Arm → List Action → Type 0
+ArmsIn s begin w t wanted base reading arm start =
     (e : Ending) → IsJoined s e → GoesOn w.seen e
-    → Arms (WasOffLine (witness_of s e) (length begin.seen) (length w.seen)) s.limit t mode ns reading.stamp base (arm_noted arm) start
+    → ArmsAs (WasOffLine (witness_of s e) (length begin.seen) (length w.seen)) s.limit t wanted reading.stamp base (arm_noted arm) start
+
+-- no start was made
+none_made : (Reached : ℕ → ℕ → Type 0) (limit t stamp base : ℕ) (wanted : Option Wanted) → ArmsAs Reached limit t wanted stamp base armings.None []
+none_made Reached limit t stamp base None = (refl, refl)
+none_made Reached limit t stamp base (Some wanted) = refl
+
+-- a call wants this start at most: that one, or none
+abbrev pub WantsAtMost : Option Wanted → Option Wanted → Type 0
+WantsAtMost wanted may = (wanted ≡ None) ⊎ (wanted ≡ may)
+
+-- law: so where a condition keeps it from wanting one
+pub wants_unless : (b : Bool) (wanted : Wanted) → WantsAtMost (if b then None else Some wanted) (Some wanted)
+wants_unless true wanted = inl refl
+wants_unless false wanted = inr refl
 
 -- what a call did to its object's timer, from where it had found it on: perhaps a cancel, and perhaps a start, with what became of it
-pub record TimerPart (s : Script) (x : WorldOf) (l : LaneOf) (t : ℕ) (begin w : KnownOfTimers) (mode : Mode) (ns base : ℕ) (reading : ClockReading) (arm : Arm)
+pub record TimerPart (s : Script) (x : WorldOf) (l : LaneOf) (t : ℕ) (begin w : KnownOfTimers) (wanted : Option Wanted) (base : ℕ) (reading : ClockReading) (arm : Arm)
     (cancel : Option (ℕ × ℕ)) (log : List Receipt) : Type 0 where
   pub seen : Begins l.pass.timers.known.seen begin.seen
   pub mine : begin.mine ≡ l.pass.timers.known.mine
   pub start : List Action
   pub no_turns : HasNoTurns start
-  pub arms : ArmsIn s begin w t mode ns base reading arm start
+  pub arms : ArmsIn s begin w t wanted base reading arm start
   pub part : TimersPart s l reading begin w (cancels t cancel ++ start) log
   pub armed : IsArmedSo arm (timer_then x.timers.about w.seen t)
 
@@ -105,7 +120,7 @@ module _ {s : Script} {x : WorldOf} {l : LaneOf} {call : Call} (next : IsNextCal
       subst (λ ds. TimersPart s l reading v w ds (receipts_of t (timer_then x.timers.about at t).stamp es)) (sym are)
       (part_at x.timers.about (opened_timers next) made reads)
 
-  -- law: the disarming of a settime is a part of it: the cancel of its timer, or a look at an idle one
+  -- law: the disarming of a timer is a part of its call: the cancel of its timer, or a look at an idle one
   pub disarmed_part : {log : List Receipt} (answer : CancelAnswer) (c : Cancels x.timers.about v w t answer) → ((g n : ℕ) → answer ≡ cancelled.Running g n → ⊥)
       → log ≡ receipts_of t (timer_then x.timers.about c.at t).stamp (cancel_entries answer)
       → (cancel : Option (ℕ × ℕ)) × TimersPart s l reading v w (cancels t cancel) log × (cancel ≡ None → IsIdle (timer_then x.timers.about c.at t))
@@ -124,22 +139,22 @@ module _ {s : Script} {x : WorldOf} {l : LaneOf} {call : Call} (next : IsNextCal
 module _ {s : Script} {x : WorldOf} {l : LaneOf} {call : Call} (next : IsNextCall s x l call) (t : ℕ) (reading : ClockReading) {begin v w : KnownOfTimers}
     {cancel : Option (ℕ × ℕ)} (done : List Receipt) {log : List Receipt} (seen : Begins l.pass.timers.known.seen begin.seen)
     (mine : begin.mine ≡ l.pass.timers.known.mine) (before : TimersPart s l reading begin v (cancels t cancel) done) {base : ℕ} where
-  started : {mode : Mode} {ns : ℕ} {arm : Arm} (start : List Action) (more : List Receipt) → HasNoTurns start → log ≡ done ++ more
-      → ArmsIn s begin w t mode ns base reading arm start → TimersPart s l reading v w start more
-      → IsArmedSo arm (timer_then x.timers.about w.seen t) → TimerPart s x l t begin w mode ns base reading arm cancel log
+  started : {wanted : Option Wanted} {arm : Arm} (start : List Action) (more : List Receipt) → HasNoTurns start → log ≡ done ++ more
+      → ArmsIn s begin w t wanted base reading arm start → TimersPart s l reading v w start more
+      → IsArmedSo arm (timer_then x.timers.about w.seen t) → TimerPart s x l t begin w wanted base reading arm cancel log
   started start more none adds arms part armed =
       let both = subst (TimersPart s l reading begin w (cancels t cancel ++ start)) (sym adds)
       (before.0 ++ part.0, part_logged done more [] [] before.1 part.1) in
       record { seen = seen; mine = mine; start = start; no_turns = none; arms = arms; part = both; armed = armed }
 
   -- law: no start
-  pub start_none : (mode : Mode) (ns : ℕ) → w ≡ v → log ≡ done → TimerPart s x l t begin w mode ns base reading arms.NotAsked cancel log
-  start_none mode ns alone same =
-      started [] [] (refl, refl) (same ∙ sym (append-nil done)) (λ e joined goes. refl) ([], part_none (begins_same (ap (λ k. k.seen) alone)) (ap (λ k. k.mine) alone)) tt
+  pub start_none : (wanted : Option Wanted) → w ≡ v → log ≡ done → TimerPart s x l t begin w wanted base reading arms.NotAsked cancel log
+  start_none wanted alone same =
+      started [] [] (refl, refl) (same ∙ sym (append-nil done)) (λ e joined goes. none_made _ _ _ _ _ wanted) ([], part_none (begins_same (ap (λ k. k.seen) alone)) (ap (λ k. k.mine) alone)) tt
 
   start_by : (mode : Mode) (ns : ℕ) (a : StartAnswer) (c : StartsTimer x.timers.about v w t (asked_for mode ns 0 base reading) a)
       → log ≡ done ++ receipts_of t (timer_then x.timers.about c.at t).stamp (start_entries (timer_then x.timers.about c.at t) (asked_for mode ns 0 base reading) c.sent c.last a)
-      → TimerPart s x l t begin w mode ns base reading (arm_of a) cancel log
+      → TimerPart s x l t begin w (Some (record { mode = mode; ns = ns })) base reading (arm_of a) cancel log
   start_by mode ns (starts.Spent n) c adds =
       let looks = looks_made c.made in
       started [] [] (refl, refl) adds (λ e joined goes. refl) ([], part_none looks.0 looks.1)
@@ -173,22 +188,25 @@ module _ {s : Script} {x : WorldOf} {l : LaneOf} {call : Call} (next : IsNextCal
 
   -- law: a start that was wanted
   pub start_part : {wanted : Wanted} {arm : Arm} → Starts x.timers.about v w t wanted base reading arm done log
-      → TimerPart s x l t begin w wanted.mode wanted.ns base reading arm cancel log
+      → TimerPart s x l t begin w (Some wanted) base reading arm cancel log
   start_part {wanted = wanted} c =
-      subst (λ b. TimerPart s x l t begin w wanted.mode wanted.ns base reading b cancel log) (sym c.outcome)
+      subst (λ b. TimerPart s x l t begin w (Some wanted) base reading b cancel log) (sym c.outcome)
       (start_by wanted.mode wanted.ns c.answer c.starts c.receipts)
 
-  -- law: the start of a settime, where its value asks for one
-  pub settime_start : (flags ns : ℕ) (arm : Arm) → ArmsFor x.timers.about v w t (settings.start_by flags ns) base reading arm done log
-      → TimerPart s x l t begin w (mode_by flags) ns base reading arm cancel log
-  settime_start flags ns arm = by_value (nat_eq ns 0)
+  -- law: the start that a call wants, which may want this one at most
+  pub start_at_most : {wanted may : Option Wanted} {arm : Arm} → WantsAtMost wanted may → ArmsFor x.timers.about v w t wanted base reading arm done log
+      → TimerPart s x l t begin w may base reading arm cancel log
+  start_at_most {may = may} {arm = arm} (inl none) for = none_started may (subst (λ o. ArmsFor x.timers.about v w t o base reading arm done log) none for)
     where
-      by_value : (b : Bool)
-          → ArmsFor x.timers.about v w t (if b then None else Some (record { mode = mode_by flags; ns = ns })) base reading arm done log
-          → TimerPart s x l t begin w (mode_by flags) ns base reading arm cancel log
-      by_value true none =
-          subst (λ y. TimerPart s x l t begin w (mode_by flags) ns base reading y cancel log) (sym none.0) (start_none (mode_by flags) ns none.1 none.2)
-      by_value false start = start_part start
+      none_started : (may : Option Wanted) {arm : Arm} → ArmsFor x.timers.about v w t None base reading arm done log
+          → TimerPart s x l t begin w may base reading arm cancel log
+      none_started may none = subst (λ y. TimerPart s x l t begin w may base reading y cancel log) (sym none.0) (start_none may none.1 none.2)
+  start_at_most {may = may} {arm = arm} (inr same) for = by_wanted may (subst (λ o. ArmsFor x.timers.about v w t o base reading arm done log) same for)
+    where
+      by_wanted : (may : Option Wanted) {arm : Arm} → ArmsFor x.timers.about v w t may base reading arm done log
+          → TimerPart s x l t begin w may base reading arm cancel log
+      by_wanted None none = subst (λ y. TimerPart s x l t begin w None base reading y cancel log) (sym none.0) (start_none None none.1 none.2)
+      by_wanted (Some wanted) start = start_part start
 
 -- ---- in the run
 

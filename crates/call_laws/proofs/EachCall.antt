@@ -5,6 +5,7 @@ use Rattle.call_laws.proofs.Noted.{with_done-joins}
 use Rattle.call_laws.proofs.OffLine.{keeps_offline, keeps_online}
 use Rattle.call_laws.proofs.RearmedCalls.{keeps_accept, keeps_read, keeps_gettime-fd}
 use Rattle.call_laws.proofs.Settimes.{keeps_settime}
+use Rattle.call_laws.proofs.Sleeps.{keeps_interrupt, keeps_sleep, keeps_slept}
 use Rattle.call_laws.proofs.Sights.{keeps_seen}
 use Rattle.call_laws.proofs.TimerCalls.{keeps_cancel, keeps_start}
 use Rattle.call_laws.proofs.Turns.{next_begun, turn_plain, turn_read}
@@ -13,7 +14,7 @@ use Rattle.clock_cell.specs.Views.{writes}
 use Rattle.lane_world.proofs.Declared.{declared_over, over_of}
 use Rattle.lane_world.proofs.Kept.{IsNextCall, KeepsCall, KeepsTurn}
 use Rattle.lane_world.proofs.PartLists.{no_notes-joins}
-use Rattle.lane_world.specs.Called.{Called, CalledThen, CallsReading, LaneOf, CallsObject, TakesReading, gettime_told, CallsOverrun}
+use Rattle.lane_world.specs.Called.{Called, CalledThen, CallsReading, LaneOf, CallsObject, TakesReading, gettime_told}
 use Rattle.lane_world.specs.Worlds.{WorldOf}
 use Rattle.posix_timer.specs.States.{PosixTimer, setting_of}
 use Rattle.record_text.specs.declared.record.Answer.TheVariants as answers
@@ -39,14 +40,16 @@ use Rattle.call_laws.proofs.ObjectLooks.{fd_looked, keeps_look, posix_looked}
 -- ---- looks at objects
 
 -- law: a lane keeps a look at an overrun
-pub keeps_overrun : {s : Script} {x : WorldOf} {l m : LaneOf} {a : Answer} {timer : ℕ} → IsNextCall s x l (calls.Overrun timer) → CallsOverrun x l m a timer
-    → KeepsCall s l (calls.Overrun timer) a m
-keeps_overrun {s = s} {l = l} {m = m} {timer = timer} next c =
-    subst (λ a. KeepsCall s l (calls.Overrun timer) a m) (sym c.told)
-    (keeps_look m next (answers.Overrun c.found.overrun c.found.stamp) c.looks.1 (clock_left c.clock)
+pub keeps_overrun : {s : Script} {x : WorldOf} {l m : LaneOf} {a : Answer} {timer : ℕ} → IsNextCall s x l (calls.Overrun timer)
+    → CalledThen x l (calls.Overrun timer) a m → KeepsCall s l (calls.Overrun timer) a m
+keeps_overrun {s = s} {l = l} {m = m} {timer = timer} next called =
+    let c = called.1 in
+    let found = called.0 in
+    subst (λ a. KeepsCall s l (calls.Overrun timer) a m) (sym c.tells)
+    (keeps_look m next (answers.Overrun found.overrun found.stamp) c.looks.1 (clock_left c.clock)
     (c.notes ∙ no_notes-joins l.notes ∙ sym (with_done-joins l.notes l.label [] [])) (λ e. refl) (λ e follows point is. (
       point,
-      ap (λ (u : PosixTimer). u.overrun) (sym (posix_looked s e.run timer c.found.stamp (kind_of s timer) is)) ∙ sym c.looks.2,
+      ap (λ (u : PosixTimer). u.overrun) (sym (posix_looked s e.run timer found.stamp (kind_of s timer) is)) ∙ sym c.looks.2,
     )))
 
 -- law: a lane keeps a look at whether a descriptor is ready
@@ -98,6 +101,7 @@ keeps_gettime {s = s} {x = x} {l = l} {m = m} {a = a} {timer = timer} next calle
     by_kind (kinds.Raw context callback) is c = absurd c.does.0
     by_kind (kinds.Posix base) is c = keeps_gettime-posix next is called.0 c
     by_kind (kinds.Fd base) is c = keeps_gettime-fd next is called.0 c
+    by_kind (kinds.Sleeper base) is c = absurd c.does.0
 
 -- law: a call by a reading that was taken is kept by itself
 keeps_then : {s : Script} {x : WorldOf} {l m : LaneOf} {call : Call} {a : Answer} → TakesReading call → IsNextCall s x l call → CalledThen x l call a m
@@ -109,11 +113,14 @@ keeps_then {call = calls.Gettime timer} takes next c = (keeps_gettime next c, c.
 keeps_then {call = calls.Accept timer} takes next c = (keeps_accept next c, c.2.reads.same)
 keeps_then {call = calls.Read timer len} takes next c = (keeps_read next c, c.2.reads.same)
 keeps_then {call = calls.Readable timer} takes next c = (keeps_readable next c, c.1.reads.same)
+keeps_then {call = calls.Sleep timer flags time} takes next c = (keeps_sleep next c, c.2.reads.same)
+keeps_then {call = calls.Interrupt timer} takes next c = (keeps_interrupt next c, c.2.reads.same)
 keeps_then {call = calls.Offline base heir budget} takes next c = (keeps_offline next c, c.reads.same)
 keeps_then {call = calls.Clock write} takes next c = absurd takes
 keeps_then {call = calls.Cancel timer} takes next c = absurd (true≢false (sym takes))
 keeps_then {call = calls.Peek timer} takes next c = absurd (true≢false (sym takes))
 keeps_then {call = calls.Overrun timer} takes next c = absurd (true≢false (sym takes))
+keeps_then {call = calls.Slept timer} takes next c = absurd (true≢false (sym takes))
 keeps_then {call = calls.Online base} takes next c = absurd (true≢false (sym takes))
 
 keeps_reading : {s : Script} {x : WorldOf} {l m : LaneOf} {call : Call} {a : Answer} → TakesReading call → reads_clock call ≡ true → IsNextCall s x l call
@@ -127,6 +134,7 @@ keeps_call s x l m (calls.Cancel timer) a next c = turn_plain refl (keeps_cancel
 keeps_call s x l m (calls.Peek timer) a next c =
     turn_plain refl (subst (λ a. KeepsCall s l (calls.Peek timer) a m) (sym c.2) (keeps_seen next _ c.1 (λ e. refl) (λ e saw. saw)))
 keeps_call s x l m (calls.Overrun timer) a next c = turn_plain refl (keeps_overrun next c)
+keeps_call s x l m (calls.Slept timer) a next c = turn_plain refl (keeps_slept next c)
 keeps_call s x l m (calls.Online base) a next c = turn_plain refl (keeps_online next c)
 keeps_call s x l m (calls.Clock write) a next c = keeps_write next c
 keeps_call s x l m call a next c = keeps_reading refl refl next c

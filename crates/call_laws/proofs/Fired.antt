@@ -159,6 +159,9 @@ module _ (s : Script) (x : WorldOf) (is : IsWorldOf s x) (some : 1 ≤ s.limit) 
       by_kind (kinds.Fd asked) same =
           let run = by_over (kinds.Fd asked) same in
           trigger_kept s h.objects.now limit some label c reading claim restart w h h' run.2 run.3 (λ Reached f its. rw same its) run.0
+      by_kind (kinds.Sleeper asked) same =
+          let run = by_over (kinds.Sleeper asked) same in
+          trigger_kept s h.objects.now limit some label c reading claim restart w h h' run.2 run.3 (λ Reached f its. rw same its) run.0
 
   -- a callback ran, with its claim and its finish, in every run that goes on from there
   turn_ran : {k v w k' : KnownOfTimers} {c : ClaimNumbers} {restart : Restart} {h h' : Firing} (claim : IsClaimed s base c reading k v)

@@ -21,7 +21,10 @@ pub mod Rearmed
 pub mod RearmedCalls
 pub mod SettimeNoted
 pub mod SettimeParts
+pub mod Anew
 pub mod Settimes
+pub mod SleepNoted
+pub mod Sleeps
 pub mod Starts
 pub mod SeenOff
 pub mod Evacuated

@@ -12,7 +12,8 @@ use Rattle.timer_objects.specs.declared.object.Object.TheVariants as objects
 use Rattle.timer_objects.specs.declared.object.Object.{Object}
 use Rattle.record_text.specs.declared.record.Answer.{Answer}
 use Rattle.script_text.specs.Declarations.{base_of, kind_of}
-use Rattle.run_history.specs.Objects.{fd_after, posix_after}
+use Rattle.run_history.specs.Objects.{fd_after, posix_after, sleeper_after}
+use Rattle.sleeper.specs.States.{Sleeper}
 use Rattle.script_text.specs.declared.script.Call.{Call}
 use Rattle.script_text.specs.declared.script.Kind.TheVariants as kinds
 use Rattle.script_text.specs.declared.script.Script.{Script}
@@ -49,7 +50,7 @@ module _ {s : Script} {x : WorldOf} {l : LaneOf} (m : LaneOf) {call : Call} (nex
       (looks.state ∙ object_seen s x next.world i (seen_of m.pass.objects i) looks.reads.state at e (follows.objects i)
       ∙ ap (λ n. object_after s e.run i n (kind_of s i)) (sym looks.stamp)))
 
--- law: a POSIX timer that was looked at, or a descriptor, is what the record has of that kind
+-- law: a POSIX timer that was looked at, a descriptor, or a sleeper, is what the record has of that kind
 pub posix_looked : (s : Script) (r : RunRecord) (i n : ℕ) (k : Kind) {t : PosixTimer} → objects.Posix t ≡ object_after s r i n k
     → t ≡ posix_after s r i (base_of k) n
 posix_looked s r i n (kinds.Posix base) is = cc
@@ -58,3 +59,8 @@ posix_looked s r i n k is = absurd (cc)
 pub fd_looked : (s : Script) (r : RunRecord) (i n : ℕ) (k : Kind) {t : Descriptor} → objects.Fd t ≡ object_after s r i n k → t ≡ fd_after s r i (base_of k) n
 fd_looked s r i n (kinds.Fd base) is = cc
 fd_looked s r i n k is = absurd (cc)
+
+pub sleeper_looked : (s : Script) (r : RunRecord) (i n : ℕ) (k : Kind) {t : Sleeper} → objects.Sleeper t ≡ object_after s r i n k
+    → t ≡ sleeper_after s r i (base_of k) n
+sleeper_looked s r i n (kinds.Sleeper base) is = cc
+sleeper_looked s r i n k is = absurd (cc)

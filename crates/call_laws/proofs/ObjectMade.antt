@@ -30,7 +30,7 @@ use Rattle.run_history.proofs.Known.{AreMade, behind_all, made-append, made_goes
 use Rattle.timer_objects.specs.Turns.{HasTurn}
 use Rattle.pass_names.specs.Passes.{Begins}
 use Rattle.call_laws.proofs.ObjectTurns.{enters_entry, enters_turn}
-use Rattle.run_history.proofs.ObjectsMade.{settime_actions}
+use Rattle.run_history.proofs.ObjectsMade.{anew_actions}
 use Rattle.run_history.proofs.OthersMade.{plain}
 use Rattle.lane_world.specs.Called.{lane_caller, LaneOf, ReadsClock, with_done}
 use Rattle.lane_world.proofs.Kept.{Follows, IsNextCall, KeepsCall, seen_by}
@@ -43,7 +43,7 @@ use Rattle.timer_setting.specs.declared.object_call.ObjectCall.{ObjectCall}
 use Rattle.script_text.specs.declared.script.Call.{Call}
 use Rattle.run_history.specs.Fits.{FitsCall}
 use Rattle.run_history.proofs.Kept.{IsKept, Stops}
-use Rattle.ktime.specs.declared.mode.Mode.{Mode}
+use Rattle.timer_setting.specs.declared.arming.Wanted.{Wanted}
 use Rattle.run_history.specs.Witnesses as witnesses
 use Rattle.call_laws.proofs.Armed.{IsArmedSo, IsLike, start_true, TimerPart}
 use Rattle.call_laws.proofs.CallKept.{clock_left, reading_goes_on}
@@ -74,9 +74,9 @@ armed_after s r i n k = refl
 module _ {s : Script} {x : WorldOf} {l : LaneOf} (m : LaneOf) {call : Call} (next : IsNextCall s x l call) {timer : ℕ} {log : List Receipt}
     {object_log : List ObjectReceipt} {made : ObjectCall} {reply : ObjectReply}
     (enters : EntersCall x.objects (lane_caller l.pass [] []) (lane_caller m.pass log object_log) timer made reply)
-    {begun w : KnownOfTimers} (turn : HasTurn timer (length enters.commits.adds.before) l.pass.timers.known begun w m.pass.timers.known) {mode : Mode} {ns base : ℕ}
+    {begun w : KnownOfTimers} (turn : HasTurn timer (length enters.commits.adds.before) l.pass.timers.known begun w m.pass.timers.known) {wanted : Option Wanted} {base : ℕ}
     {reading : ClockReading} {arm : Arm} {cancel : Option (ℕ × ℕ)} {begin : KnownOfTimers}
-    (k : TimerPart s x l timer begin w mode ns base reading arm cancel log) (behind : Begins begun.seen begin.seen) where
+    (k : TimerPart s x l timer begin w wanted base reading arm cancel log) (behind : Begins begun.seen begin.seen) where
   -- how many entries the object had, and the number of the call's
   abbrev stamp : ℕ
   stamp = length enters.commits.adds.before
@@ -187,7 +187,7 @@ module _ {s : Script} {x : WorldOf} {l : LaneOf} (m : LaneOf) {call : Call} (nex
       (noted : IsNotedAs (ClockHas reading) made reply entry) where
     -- law: a lane keeps the call, where it fits
     pub keeps_made : (a : Answer) → ((e : Ending) → Follows m.pass e → IsJoined s e → IsKept (witness_of s e) (moves_spans e) l.label
-        (plain reading.stamp turn_place (length m.pass.timers.known.seen) (settime_actions timer cancel k.start stamp entry)) receipts call a
+        (plain reading.stamp turn_place (length m.pass.timers.known.seen) (anew_actions timer cancel k.start stamp entry)) receipts call a
         (seen_by l.pass) (seen_by m.pass) → (moves_spans e).first l.label ≤ turn_place
         → FitsCall (witness_of s e) l.label call a (seen_by l.pass) (seen_by m.pass))
         → KeepsCall s l call a m
@@ -201,7 +201,7 @@ module _ {s : Script} {x : WorldOf} {l : LaneOf} (m : LaneOf) {call : Call} (nex
         (subst (λ r. IsNotedAs (ClockHas reading) made r entry) enters.reply noted) closes in
         let found = part_none {v = begun} {p = p.objects} {w = begin} behind (k.mine ∙ sym turn.begins.looks.mine) in
         let whole = part_then (part_began timer stamp opens) (part_then found (part_then k.part.1 entered)) in
-        keeps_part next m a (plain reading.stamp turn_place (length q.timers.known.seen) (settime_actions timer cancel k.start stamp entry))
+        keeps_part next m a (plain reading.stamp turn_place (length q.timers.known.seen) (anew_actions timer cancel k.start stamp entry))
         whole (reading_goes_on p q reading reads) (clock_left reads.same)
         (notes ∙ with_done-joins l.notes l.label log object_log ∙ ap (both_noted l.notes) (ap (notes_of l.label log) log_is
         ∙ ap (λ rs. notes_of l.label rs this) (sym (append-nil log)) ∙ notes_of-append l.label log [] [] this)) refl reads.count

@@ -57,21 +57,22 @@ pub record RearmPart (s : Script) (x : WorldOf) (l : LaneOf) (t : ℕ) (v w : Kn
     (log : List Receipt) : Type 0 where
   pub ns : ℕ
   pub timely : ns ≤ last_time
-  pub does : TimerPart s x l t v w modes.Keep ns base reading arm None log
+  pub does : TimerPart s x l t v w (Some (record { mode = modes.Keep; ns = ns })) base reading arm None log
 
 -- law: a start that is wanted where the timer has expired, or none, is a part of the call
 pub rearm_part : {s : Script} {x : WorldOf} {l : LaneOf} {call : Call} (next : IsNextCall s x l call) (t : ℕ) (reading : ClockReading) {v w : KnownOfTimers}
     {base : ℕ} {log : List Receipt} (wanted : Option Wanted) (arm : Arm) → ((its : Wanted) → wanted ≡ Some its → IsTimely its)
     → LooksOn l.pass.timers.known v → ArmsFor x.timers.about v w t wanted base reading arm [] log → RearmPart s x l t v w base reading arm log
 rearm_part {s = s} {x = x} {l = l} next t reading {v = v} {w = w} {base = base} {log = log} None arm timely found r =
-    let does = start_none next t reading {begin = v} {cancel = None} [] found.seen found.mine ([], part_none (begins_same refl) refl) modes.Keep 0 r.1 r.2 in
+    let does = start_none next t reading {begin = v} {cancel = None} [] found.seen found.mine ([], part_none (begins_same refl) refl)
+    (Some (record { mode = modes.Keep; ns = 0 })) r.1 r.2 in
     subst (λ a. RearmPart s x l t v w base reading a log) (sym r.0) (record { ns = 0; timely = omega arith; does = does })
 rearm_part {s = s} {x = x} {l = l} next t reading {v = v} {w = w} {base = base} {log = log} (Some wanted) arm timely found r =
     let its = timely wanted refl in
     record {
       ns = wanted.ns;
       timely = its.1;
-      does = subst (λ k. TimerPart s x l t v w k wanted.ns base reading arm None log) its.0
+      does = subst (λ k. TimerPart s x l t v w (Some (record { mode = k; ns = wanted.ns })) base reading arm None log) its.0
           (start_part next t reading {cancel = None} [] found.seen found.mine ([], part_none (begins_same refl) refl) r);
     }
 

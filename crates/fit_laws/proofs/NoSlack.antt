@@ -24,14 +24,14 @@ use Rattle.record_text.specs.declared.record.Entry.{Entry}
 use Rattle.record_text.specs.declared.record.Label.{Label}
 use Rattle.record_text.specs.declared.record.ObjectEntry.{ObjectEntry}
 use Rattle.record_text.specs.declared.record.RunRecord.{RunRecord}
-use Rattle.record_text.specs.declared.record.SettimeReply.{SettimeReply}
+use Rattle.timer_setting.specs.declared.arming.Wanted.{Wanted}
 use Rattle.record_text.specs.declared.record.TimerLine.{TimerLine}
 use Rattle.record_text.specs.declared.record.Armed.{Armed}
 use Rattle.record_text.specs.declared.record.Armed.TheVariants as armings
 use Rattle.run_history.specs.Actions.{Action, Began, Entered, Looked, Made, Shifted, Skipped, Wrote, also, entered, own}
 use Rattle.run_history.specs.Histories.{answers_of, history_from, history_of, lines_of_timer, reading_at}
 use Rattle.script_text.specs.Declarations.{declared_of, terms_of, kind_of, asked_slack, without_slack}
-use Rattle.run_history.specs.ObjectCalls.{Arms, MakesRearming, MakesSettime, cancels}
+use Rattle.run_history.specs.ObjectCalls.{Arms, ArmsAs, MakesAnew, MakesRearming, cancels}
 use Rattle.run_history.specs.Order.{CallInRound, IsLabel, calls_from, calls_of, is_label}
 use Rattle.script_text.specs.Scripts.{IsInRange, all_calls}
 use Rattle.script_text.specs.VersionOne.{IsHardCall}
@@ -50,7 +50,7 @@ use Rattle.script_text.specs.declared.script.Round.{Round}
 use Rattle.script_text.specs.declared.script.Script.{Script}
 use Rattle.script_text.specs.declared.script.StartRequest.{StartRequest}
 use Rattle.run_history.specs.Calls.{call_row}
-use Rattle.run_history.specs.Deeds.{Cancels, Deed, Did, Evacuates, IsBody, IsExpiryRun, Never, Nothing, Rearms, Runs, Sets, Shifts, Starts, Where, Writes, fires}
+use Rattle.run_history.specs.Deeds.{Anew, Cancels, Deed, Did, Evacuates, IsBody, IsExpiryRun, Never, Nothing, Rearms, Runs, Shifts, Starts, Where, Writes, fires}
 use Rattle.run_history.specs.Witnesses.{Evacuation, Fired}
 use Rattle.fit_laws.specs.EachTimer.{FitsTimers, HasTimers}
 use Rattle.run_history.specs.Fits.{Fits}
@@ -170,13 +170,18 @@ module _ (Reached : ℕ → ℕ → Type 0) (s : Script) where
       subst AllNone (sym is.1) (start_none timer reading (without_slack mode ns base) is.0 refl)
   arms_none timer ns reading base mode armings.Unarmed start is = subst AllNone (sym is) tt
 
-  settime_made_none : {kind : Kind} {timer flags : ℕ} {value interval : TimeSpec} {reading : ℕ} {reply : SettimeReply} {actions : List Action}
-      → MakesSettime Reached s.limit kind timer flags value interval reading reply actions → AllNone actions
-  settime_made_none {timer = timer} makes =
+  as_none : (timer : ℕ) (wanted : Option Wanted) (reading base : ℕ) (arm : Armed) (start : List Action)
+      → ArmsAs Reached s.limit timer wanted reading base arm start → AllNone start
+  as_none timer None reading base arm start is = subst AllNone (sym is.1) tt
+  as_none timer (Some wanted) reading base arm start is = arms_none timer wanted.ns reading base wanted.mode arm start is
+
+  anew_made_none : {kind : Kind} {timer : ℕ} {wanted : Option Wanted} {reading : ℕ} {entry : Armed → ObjectEntry} {actions : List Action}
+      → MakesAnew Reached s.limit kind timer wanted reading entry actions → AllNone actions
+  anew_made_none {timer = timer} {wanted = wanted} makes =
       subst AllNone (sym makes.done) (
         tt,
         none-append (cancels timer makes.cancel ++ makes.start) _
-            (none-append (cancels timer makes.cancel) makes.start (cancelled makes.cancel) (arms_none _ _ _ _ _ makes.arm makes.start makes.arms)) (tt, tt),
+            (none-append (cancels timer makes.cancel) makes.start (cancelled makes.cancel) (as_none _ wanted _ _ makes.arm makes.start makes.arms)) (tt, tt),
       )
     where
       cancelled : (cancel : Option (ℕ × ℕ)) → AllNone (cancels timer cancel)
@@ -203,6 +208,8 @@ module _ (Reached : ℕ → ℕ → Type 0) (s : Script) where
       ⊎_elim (λ trigger. subst AllNone (sym trigger.2) (tt, (tt, tt))) (λ skipped. subst AllNone (sym skipped.1) (tt, tt)) is.0
   body_none (kinds.Fd base) reading f is =
       ⊎_elim (λ trigger. subst AllNone (sym trigger.2) (tt, (tt, tt))) (λ skipped. subst AllNone (sym skipped.1) (tt, tt)) is.0
+  body_none (kinds.Sleeper base) reading f is =
+      ⊎_elim (λ trigger. subst AllNone (sym trigger.2) (tt, (tt, tt))) (λ skipped. subst AllNone (sym skipped.1) (tt, tt)) is.0
 
   fired_none : (base reading : ℕ) (fired : List Fired) → AllByRecursion (λ f. IsBody Reached s.limit (kind_of s f.timer) reading f) fired
       → AllNone (flat_map (fires base reading) fired)
@@ -224,7 +231,7 @@ module _ (Reached : ℕ → ℕ → Type 0) (s : Script) where
   did_none reading (Cancels timer generation) fired moved actions none did = subst AllNone (sym did.1) (tt, tt)
   did_none reading (Writes stamp write) fired moved actions none did = subst AllNone (sym did) (tt, tt)
   did_none reading (Runs context base shown timers IsCount) fired moved actions none did = run_none did.0
-  did_none reading (Sets timer flags value interval reply) fired moved actions none did = settime_made_none did
+  did_none reading (Anew timer wanted entry) fired moved actions none did = anew_made_none did
   did_none reading (Rearms timer entry) fired moved actions none did = rearming_made_none did
   did_none reading (Evacuates heir count end IsCount) fired moved actions none did = absurd none
   did_none reading (Shifts base stamp event) fired moved actions none did = subst AllNone (sym did) (tt, tt)

@@ -80,6 +80,7 @@ WasTold s r c at actions (calls.Expire context base budget) (answers.Busy shown 
     ((declared_of s t).context ≡ context)
     × ((stamp : ℕ) × WasSo s r c actions t stamp (observations.Running generation) × ((timer_after s r t stamp).base ≡ base))
 WasTold s r c at actions (calls.Settime t flags value interval) (answers.Unarmed stamp) = WasRefused s r c actions t stamp
+WasTold s r c at actions (calls.Sleep t flags time) (answers.Unarmed stamp) = WasRefused s r c actions t stamp
 WasTold s r c at actions (calls.Offline base heir budget) (answers.Offline moved stamp) = WasUnused s r c actions base
 WasTold s r c at actions (calls.Offline base heir budget) (answers.OfflineBusy moved t generation) =
     (stamp : ℕ) × WasSo s r c actions t stamp (observations.Running generation) × ((timer_after s r t stamp).base ≡ base)

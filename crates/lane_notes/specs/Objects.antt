@@ -15,6 +15,15 @@ use Rattle.timer_setting.specs.declared.answers.AcceptAnswer.TheVariants as acce
 use Rattle.timer_setting.specs.declared.answers.GettimeAnswer.TheVariants as lefts
 use Rattle.timer_setting.specs.declared.answers.ReadAnswer.{ReadAnswer}
 use Rattle.timer_setting.specs.declared.answers.ReadAnswer.TheVariants as read_answers
+use Rattle.timer_setting.specs.declared.answers.InterruptAnswer.{InterruptAnswer}
+use Rattle.timer_setting.specs.declared.answers.InterruptAnswer.TheVariants as interrupt_answers
+use Rattle.timer_setting.specs.declared.answers.SleepAnswer.{SleepAnswer}
+use Rattle.timer_setting.specs.declared.answers.SleepAnswer.TheVariants as sleep_answers
+use Rattle.timer_setting.specs.declared.sleep_call.SleepCall.{SleepCall}
+use Rattle.record_text.specs.declared.record.InterruptReply.{InterruptReply}
+use Rattle.record_text.specs.declared.record.InterruptReply.TheVariants as interrupts
+use Rattle.record_text.specs.declared.record.SleepReply.{SleepReply}
+use Rattle.record_text.specs.declared.record.SleepReply.TheVariants as sleeps
 use Rattle.timer_setting.specs.declared.answers.SettimeAnswer.{SettimeAnswer}
 use Rattle.timer_setting.specs.declared.answers.SettimeAnswer.TheVariants as set_answers
 use Rattle.timer_objects.specs.declared.log.ObjectReceipt.{ObjectReceipt}
@@ -59,11 +68,27 @@ read_noted read_answers.Again = Some reads.Again
 read_noted read_answers.Canceled = Some reads.Canceled
 read_noted answer = None
 
+abbrev pub sleep_noted : SleepAnswer → Option SleepReply
+sleep_noted sleep_answers.Slept = Some sleeps.Slept
+sleep_noted sleep_answers.Asleep = Some sleeps.Asleep
+sleep_noted (sleep_answers.Unarmed stamp) = Some (sleeps.Unarmed stamp)
+sleep_noted answer = None
+
+abbrev pub interrupt_noted : InterruptAnswer → Option InterruptReply
+interrupt_noted interrupt_answers.Slept = Some interrupts.Slept
+interrupt_noted (interrupt_answers.Left ns) = Some (interrupts.Left ns)
+interrupt_noted interrupt_answers.Interrupted = Some interrupts.Interrupted
+interrupt_noted answer = None
+
 -- ---- the entry of a call
 
 -- the entry of a settime with this answer; a reading is named by its stamp
 abbrev pub settime_entry : SettimeCall → SettimeReply → ObjectEntry
 settime_entry c reply = entries.Settime c.flags c.value c.interval c.reading.stamp (arm_noted c.arm) reply
+
+-- the entry of a sleep with this answer
+abbrev pub sleep_entry : SleepCall → SleepReply → ObjectEntry
+sleep_entry c reply = entries.Sleep c.flags c.time c.reading.stamp (arm_noted c.arm) reply
 
 -- the entry of an expiry
 abbrev pub trigger_noted : ℕ → ClockReading → TriggerAnswer → Option ObjectEntry
@@ -81,6 +106,9 @@ object_entry_noted (calls.Read reading arm) (replies.Read answer) =
     option_map (λ reply. entries.Read reading.stamp (arm_noted arm) reply) (read_noted answer)
 object_entry_noted (calls.Gettime reading arm) (replies.Gettime (lefts.Left left interval)) =
     Some (entries.Gettime reading.stamp (arm_noted arm) left interval)
+object_entry_noted (calls.Sleep c) (replies.Sleep answer) = option_map (sleep_entry c) (sleep_noted answer)
+object_entry_noted (calls.Interrupt reading) (replies.Interrupt answer) =
+    option_map (λ reply. entries.Interrupt reading.stamp reply) (interrupt_noted answer)
 object_entry_noted call reply = None
 
 -- the generation of an expiry that a full history refused

@@ -1,13 +1,15 @@
 //! The line of an object's entry, whatever the object's kind.
 ghost use Rattle.std.specs.Prelude.{◌≡◌};
 ghost use Rattle.timer_setting.specs.declared.object_call.ObjectCall.TheVariants as calls;
-ghost use Rattle.lane_notes.specs.Objects.{accept_noted, arm_noted, object_entry_noted, read_noted, set_noted, skip_generation, trigger_noted, trigger_skip};
+ghost use Rattle.lane_notes.specs.Objects.{accept_noted, arm_noted, object_entry_noted, interrupt_noted, read_noted, set_noted, skip_generation, sleep_noted, trigger_noted, trigger_skip};
 
 use ktime::Reading;
-use record_text::{AcceptReply, Armed, ObjectEntry, ReadReply, SettimeReply};
+use record_text::{
+    AcceptReply, Armed, InterruptReply, ObjectEntry, ReadReply, SettimeReply, SleepReply,
+};
 use timer_setting::{
-    AcceptAnswer, Arm, GettimeAnswer, ObjectCall, ObjectReply, ReadAnswer, SettimeAnswer,
-    SettimeCall, TriggerAnswer,
+    AcceptAnswer, Arm, GettimeAnswer, InterruptAnswer, ObjectCall, ObjectReply, ReadAnswer,
+    SettimeAnswer, SettimeCall, SleepAnswer, SleepCall, TriggerAnswer,
 };
 
 /// What is noted of a call on an object: its entry, or the generation of an expiry that a full history refused.
@@ -29,7 +31,8 @@ pub(crate) fn told(call: ObjectCall, reply: ObjectReply) -> NoteOrSkip
         ObjectCall::Accept { reading, arm } => (accept(reading, arm, reply), None),
         ObjectCall::Read { reading, arm } => (read(reading, arm, reply), None),
         ObjectCall::Gettime { reading, arm } => (gettime(reading, arm, reply), None),
-        ObjectCall::Sleep(_) | ObjectCall::Interrupt { .. } => (None, None),
+        ObjectCall::Sleep(call) => (sleep(call, reply), None),
+        ObjectCall::Interrupt { reading } => (interrupt(reading, reply), None),
     }
 }
 
@@ -113,6 +116,37 @@ fn gettime(reading: Reading, arm: Arm, reply: ObjectReply) -> Option<ObjectEntry
     })
 }
 
+/// The entry of a sleep that made one.
+fn sleep(call: SleepCall, reply: ObjectReply) -> Option<ObjectEntry>
+    ensures { result ≡ object_entry_noted (calls.Sleep call) reply }
+{
+    let ObjectReply::Sleep(answer) = reply else {
+        return None;
+    };
+    let reply = sleep_noted(answer)?;
+    Some(ObjectEntry::Sleep {
+        flags: call.flags,
+        time: call.time,
+        reading: call.reading.stamp,
+        arm: arm_noted(call.arm),
+        reply,
+    })
+}
+
+/// The entry of an interrupt that made one.
+fn interrupt(reading: Reading, reply: ObjectReply) -> Option<ObjectEntry>
+    ensures { result ≡ object_entry_noted (calls.Interrupt reading) reply }
+{
+    let ObjectReply::Interrupt(answer) = reply else {
+        return None;
+    };
+    let reply = interrupt_noted(answer)?;
+    Some(ObjectEntry::Interrupt {
+        reading: reading.stamp,
+        reply,
+    })
+}
+
 /// What became of the start that a call wanted.
 fn arm_noted(arm: Arm) -> Armed
     ensures { result ≡ arm_noted arm }
@@ -156,5 +190,32 @@ fn read_noted(answer: ReadAnswer) -> Option<ReadReply>
         ReadAnswer::Again => Some(ReadReply::Again),
         ReadAnswer::Canceled => Some(ReadReply::Canceled),
         ReadAnswer::ShortBuffer | ReadAnswer::Spent { .. } => None,
+    }
+}
+
+/// What a sleep that made an entry was answered.
+fn sleep_noted(answer: SleepAnswer) -> Option<SleepReply>
+    ensures { result ≡ sleep_noted answer }
+{
+    match answer {
+        SleepAnswer::Slept => Some(SleepReply::Slept),
+        SleepAnswer::Asleep => Some(SleepReply::Asleep),
+        SleepAnswer::Unarmed { stamp } => Some(SleepReply::Unarmed { stamp }),
+        SleepAnswer::BadFlags
+        | SleepAnswer::BadTime
+        | SleepAnswer::Spent { .. }
+        | SleepAnswer::Occupied { .. } => None,
+    }
+}
+
+/// What an interrupt that made an entry was answered.
+fn interrupt_noted(answer: InterruptAnswer) -> Option<InterruptReply>
+    ensures { result ≡ interrupt_noted answer }
+{
+    match answer {
+        InterruptAnswer::Slept => Some(InterruptReply::Slept),
+        InterruptAnswer::Left { ns } => Some(InterruptReply::Left { ns }),
+        InterruptAnswer::Interrupted => Some(InterruptReply::Interrupted),
+        InterruptAnswer::Spent { .. } | InterruptAnswer::Awake { .. } => None,
     }
 }

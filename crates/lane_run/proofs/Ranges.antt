@@ -47,13 +47,15 @@ module _ {s : Script} {x : WorldOf} (range : IsInRange s) (is : IsWorldOf s x) w
   -- what holds of each kind that a form's call may be on holds of the object's
   on_object : (t : ℕ) (form : Form) (Q : object_kind.Kind → Type 0) → HasTimerFor s.timers t form
       → ((y : Context) (c : Callback) → suits form (kinds.Raw y c) ≡ true → Q over.Raw) → ((b : ℕ) → suits form (kinds.Posix b) ≡ true → Q over.Posix)
-      → ((b : ℕ) → suits form (kinds.Fd b) ≡ true → Q over.Fd) → (t < length x.objects.decls) × Q (decl_at x.objects t).kind
-  on_object t form Q has raw posix fd = (object_there has.0, subst Q (sym (declared_over s x t is)) (by_kind (kind_of s t) has.1))
+      → ((b : ℕ) → suits form (kinds.Fd b) ≡ true → Q over.Fd) → ((b : ℕ) → suits form (kinds.Sleeper b) ≡ true → Q over.Sleeper)
+      → (t < length x.objects.decls) × Q (decl_at x.objects t).kind
+  on_object t form Q has raw posix fd sleeper = (object_there has.0, subst Q (sym (declared_over s x t is)) (by_kind (kind_of s t) has.1))
     where
       by_kind : (k : Kind) → suits form k ≡ true → Q (over_of k)
       by_kind (kinds.Raw y c) e = raw y c e
       by_kind (kinds.Posix b) e = posix b e
       by_kind (kinds.Fd b) e = fd b e
+      by_kind (kinds.Sleeper b) e = sleeper b e
 
   -- bases may go off line where the script is of a later version than the first
   evacuable : (s.version ≡ versions.One → ⊥) → IsEvacuable x.timers.about
@@ -68,13 +70,19 @@ module _ {s : Script} {x : WorldOf} (range : IsInRange s) (is : IsWorldOf s x) w
   can_call lane (calls.Expire context base budget) ok hard = (base_there ok.0, ok.1)
   can_call lane (calls.Clock write) ok hard = tt
   can_call lane (calls.Settime timer flags value interval) ok hard =
-      on_object timer forms.Settime HasSetting ok (λ y c e. absurd cc) (λ b e. (λ is. cc, λ is. cc)) (λ b e. (λ is. cc, λ is. cc))
+      on_object timer forms.Settime HasSetting ok (λ y c e. absurd cc) (λ b e. (λ is. cc, λ is. cc)) (λ b e. (λ is. cc, λ is. cc)) (λ b e. absurd cc)
   can_call lane (calls.Gettime timer) ok hard =
-      on_object timer forms.Gettime HasSetting ok (λ y c e. absurd cc) (λ b e. (λ is. cc, λ is. cc)) (λ b e. (λ is. cc, λ is. cc))
-  can_call lane (calls.Accept timer) ok hard = on_object timer forms.Accept (λ k. k ≡ over.Posix) ok (λ y c e. absurd cc) (λ b e. refl) (λ b e. absurd cc)
-  can_call lane (calls.Overrun timer) ok hard = on_object timer forms.Overrun (λ k. k ≡ over.Posix) ok (λ y c e. absurd cc) (λ b e. refl) (λ b e. absurd cc)
-  can_call lane (calls.Read timer len) ok hard = on_object timer forms.Read (λ k. k ≡ over.Fd) ok (λ y c e. absurd cc) (λ b e. absurd cc) (λ b e. refl)
-  can_call lane (calls.Readable timer) ok hard = on_object timer forms.Readable (λ k. k ≡ over.Fd) ok (λ y c e. absurd cc) (λ b e. absurd cc) (λ b e. refl)
+      on_object timer forms.Gettime HasSetting ok (λ y c e. absurd cc) (λ b e. (λ is. cc, λ is. cc)) (λ b e. (λ is. cc, λ is. cc)) (λ b e. absurd cc)
+  can_call lane (calls.Accept timer) ok hard = on_object timer forms.Accept (λ k. k ≡ over.Posix) ok (λ y c e. absurd cc) (λ b e. refl) (λ b e. absurd cc) (λ b e. absurd cc)
+  can_call lane (calls.Overrun timer) ok hard = on_object timer forms.Overrun (λ k. k ≡ over.Posix) ok (λ y c e. absurd cc) (λ b e. refl) (λ b e. absurd cc) (λ b e. absurd cc)
+  can_call lane (calls.Read timer len) ok hard = on_object timer forms.Read (λ k. k ≡ over.Fd) ok (λ y c e. absurd cc) (λ b e. absurd cc) (λ b e. refl) (λ b e. absurd cc)
+  can_call lane (calls.Readable timer) ok hard = on_object timer forms.Readable (λ k. k ≡ over.Fd) ok (λ y c e. absurd cc) (λ b e. absurd cc) (λ b e. refl) (λ b e. absurd cc)
+  can_call lane (calls.Sleep timer flags time) ok hard =
+      on_object timer forms.Sleep (λ k. k ≡ over.Sleeper) ok (λ y c e. absurd cc) (λ b e. absurd cc) (λ b e. absurd cc) (λ b e. refl)
+  can_call lane (calls.Interrupt timer) ok hard =
+      on_object timer forms.Interrupt (λ k. k ≡ over.Sleeper) ok (λ y c e. absurd cc) (λ b e. absurd cc) (λ b e. absurd cc) (λ b e. refl)
+  can_call lane (calls.Slept timer) ok hard =
+      on_object timer forms.Slept (λ k. k ≡ over.Sleeper) ok (λ y c e. absurd cc) (λ b e. absurd cc) (λ b e. absurd cc) (λ b e. refl)
   can_call lane (calls.Offline base heir budget) ok hard = (ok.0, base_there ok.1, ok.2, ok.3, evacuable hard)
   can_call lane (calls.Online base) ok hard = (ok.0, base_there ok.1, evacuable hard)
   can_call lane call ok hard = timer_there ok.0

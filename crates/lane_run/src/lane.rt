@@ -8,7 +8,9 @@ ghost use Rattle.lane_world.specs.Worlds.{ArePassesOf, KeepPasses, LeadsByName};
 use crate::base_calls::{offline, online};
 use crate::expiring::expire;
 use crate::gate::{Gate, Point};
-use crate::object_calls::{accept, gettime, overrun, read, readable, settime};
+use crate::object_calls::{
+    accept, gettime, interrupt, overrun, read, readable, settime, sleep, slept,
+};
 use crate::reading::read_clock;
 use crate::timer_calls::{cancel, look, start, write};
 use crate::world::World;
@@ -123,6 +125,7 @@ fn make<R: Wait, G: Gate>(
             })
         }
         Call::Overrun { timer } => Ok(overrun(rt, alloc, world, lane, timer)),
+        Call::Slept { timer } => Ok(slept(rt, alloc, world, lane, timer)),
         Call::Online { base } => online(rt, world, lane, base),
         Call::Clock { write: wanted } => write(rt, world, lane, wanted),
         Call::Start { .. }
@@ -132,6 +135,8 @@ fn make<R: Wait, G: Gate>(
         | Call::Accept { .. }
         | Call::Read { .. }
         | Call::Readable { .. }
+        | Call::Sleep { .. }
+        | Call::Interrupt { .. }
         | Call::Offline { .. } => make_reading(rt, alloc, world, gate, lane, call),
     }
 }
@@ -194,12 +199,17 @@ fn make_then<R: Wait, G: Gate>(
         Call::Accept { timer } => accept(rt, alloc, world, lane, timer, reading),
         Call::Read { timer, len } => read(rt, alloc, world, lane, timer, len, reading),
         Call::Readable { timer } => Ok(readable(rt, alloc, world, lane, timer, reading)),
+        Call::Sleep { timer, flags, time } => {
+            sleep(rt, alloc, world, lane, timer, flags, time, reading)
+        }
+        Call::Interrupt { timer } => interrupt(rt, alloc, world, lane, timer, reading),
         Call::Offline { base, heir, budget } => {
             offline(rt, alloc, world, lane, base, heir, budget, reading)
         }
         Call::Cancel { .. }
         | Call::Peek { .. }
         | Call::Overrun { .. }
+        | Call::Slept { .. }
         | Call::Online { .. }
         | Call::Clock { .. } => unreachable!(),
     }

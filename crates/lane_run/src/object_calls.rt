@@ -1,15 +1,19 @@
-//! The calls on POSIX timers and timer descriptors.
+//! The calls on POSIX timers, timer descriptors and sleepers.
 ghost use Rattle.std.specs.Prelude.{◌≡◌, ◌≢◌, ◌≤◌, ◌<◌, [], IfOk, OnOk, length};
 ghost use Rattle.timer_objects.specs.declared.object.Kind.TheVariants as over;
-ghost use Rattle.timer_objects.specs.Calls.{Accepts, Gettimes, LooksReadable, ReadsFd, Settimes};
+ghost use Rattle.timer_objects.specs.Calls.{Accepts, Gettimes, Interrupts, LooksOverrun, LooksReadable, LooksSlept, ReadsFd, Settimes, Sleeps};
 ghost use Rattle.timer_objects.specs.Known.{decl_at};
 ghost use Rattle.timer_setting.specs.declared.answers.AcceptAnswer.{AcceptAnswer};
 ghost use Rattle.timer_setting.specs.declared.answers.ReadAnswer.{ReadAnswer};
 ghost use Rattle.timer_setting.specs.declared.answers.SettimeAnswer.{SettimeAnswer};
+ghost use Rattle.timer_setting.specs.declared.answers.InterruptAnswer.{InterruptAnswer};
+ghost use Rattle.timer_setting.specs.declared.answers.SleepAnswer.{SleepAnswer};
 ghost use Rattle.timer_objects.specs.declared.answers.Gettime.{Gettime};
+ghost use Rattle.timer_objects.specs.declared.answers.Overrun.{Overrun};
+ghost use Rattle.timer_objects.specs.declared.answers.Slept.{Slept};
 ghost use Rattle.timer_objects.specs.declared.answers.Readable.{Readable};
 ghost use Rattle.record_text.specs.declared.record.Answer.TheVariants as answers;
-ghost use Rattle.lane_world.specs.Called.{CallsObject, CallsOverrun, LeavesLane, LeavesRest, ReadsClock, accept_told, gettime_told, lane_of, read_told, settime_told, with_done, IsSettable, IsOfKind};
+ghost use Rattle.lane_world.specs.Called.{CallsLook, CallsObject, LeavesLane, LeavesRest, ReadsClock, accept_told, gettime_told, interrupt_told, lane_of, read_told, settime_told, sleep_told, slept_told, with_done, IsSettable, IsOfKind};
 ghost use Rattle.lane_world.specs.Worlds.{ArePassesOf};
 
 use crate::world::World;
@@ -18,10 +22,11 @@ use ktime::{Reading, TimeSpec};
 use lane_notes::{note_object_receipts, note_receipts};
 use lane_world::Lane;
 use record_text::Answer;
+use sleeper::SleptAnswer;
 use std::alloc::{AllocError, Global};
 use std::sync::Wait;
-use timer_objects::{Gettime, Kind, ObjectLog};
-use timer_setting::{AcceptAnswer, ReadAnswer, SettimeAnswer};
+use timer_objects::{Gettime, Kind, ObjectLog, Slept};
+use timer_setting::{AcceptAnswer, InterruptAnswer, ReadAnswer, SettimeAnswer, SleepAnswer};
 
 /// The logs of one call, with room for what it can note.
 #[derive(Drop)]
@@ -230,7 +235,7 @@ pub(crate) fn overrun<R: Wait>(
     requires pass { ArePassesOf world.now lane.old.pass }
     requires kind { IsOfKind world.now over.Posix timer }
     ensures leaves { LeavesLane world.now lane.old lane.new }
-    ensures call { CallsOverrun world.now (lane_of lane.old) (lane_of lane.new) result timer }
+    ensures call { (found : Overrun) × CallsLook world.now (lane_of lane.old) (lane_of lane.new) result (λ old new. LooksOverrun old new timer found) (answers.Overrun found.overrun found.stamp) }
 {
     let mut log = Log::make(alloc);
     let mut object_log = ObjectLog::make(alloc);
@@ -263,5 +268,103 @@ pub(crate) fn readable<R: Wait>(
         ready: found.ready,
         reading: reading.stamp,
         stamp: found.stamp,
+    }
+}
+
+/// A sleep.
+pub(crate) fn sleep<R: Wait>(
+    rt: &R,
+    alloc: Global,
+    world: &World,
+    lane: &mut Lane,
+    timer: u32,
+    flags: u64,
+    time: TimeSpec,
+    reading: Reading,
+) -> Result<Answer, AllocError>
+    requires pass { ArePassesOf world.now lane.old.pass }
+    requires reading { ReadsClock lane.old.pass lane.old.pass reading }
+    requires kind { IsOfKind world.now over.Sleeper timer }
+    ensures leaves { LeavesLane world.now lane.old lane.new }
+    ensures call { IfOk result (λ a. (s : SleepAnswer) × (a ≡ sleep_told s) × CallsObject world.now (lane_of lane.old) (lane_of lane.new) a (λ old new reading. Sleeps world.now.objects world.now.timers.about old new timer flags time reading s)) }
+{
+    let answer = noted!(rt, alloc, world, lane, reading; sleep(timer, flags, time));
+    Ok(sleep_answer(answer))
+}
+
+/// What a sleep answers.
+fn sleep_answer(answer: SleepAnswer) -> Answer
+    ensures { result ≡ sleep_told answer }
+{
+    match answer {
+        SleepAnswer::Slept => Answer::Slept,
+        SleepAnswer::Asleep => Answer::Asleep,
+        SleepAnswer::Unarmed { stamp } => Answer::Unarmed { stamp },
+        SleepAnswer::Spent { stamp } => Answer::Spent { stamp },
+        SleepAnswer::Occupied { stamp } => Answer::Occupied { stamp },
+        SleepAnswer::BadFlags | SleepAnswer::BadTime => Answer::Invalid,
+    }
+}
+
+/// The end of a sleep by a signal.
+pub(crate) fn interrupt<R: Wait>(
+    rt: &R,
+    alloc: Global,
+    world: &World,
+    lane: &mut Lane,
+    timer: u32,
+    reading: Reading,
+) -> Result<Answer, AllocError>
+    requires pass { ArePassesOf world.now lane.old.pass }
+    requires reading { ReadsClock lane.old.pass lane.old.pass reading }
+    requires kind { IsOfKind world.now over.Sleeper timer }
+    ensures leaves { LeavesLane world.now lane.old lane.new }
+    ensures call { IfOk result (λ a. (s : InterruptAnswer) × (a ≡ interrupt_told s) × CallsObject world.now (lane_of lane.old) (lane_of lane.new) a (λ old new reading. Interrupts world.now.objects world.now.timers.about old new timer reading s)) }
+{
+    let answer = noted!(rt, alloc, world, lane, reading; interrupt(timer));
+    Ok(interrupt_answer(answer))
+}
+
+/// What an interrupt answers.
+fn interrupt_answer(answer: InterruptAnswer) -> Answer
+    ensures { result ≡ interrupt_told answer }
+{
+    match answer {
+        InterruptAnswer::Slept => Answer::Slept,
+        InterruptAnswer::Left { ns } => Answer::SleepLeft { ns },
+        InterruptAnswer::Interrupted => Answer::Interrupted,
+        InterruptAnswer::Spent { stamp } => Answer::Spent { stamp },
+        InterruptAnswer::Awake { stamp } => Answer::Awake { stamp },
+    }
+}
+
+/// How a sleeper is.
+pub(crate) fn slept<R: Wait>(
+    rt: &R,
+    alloc: Global,
+    world: &World,
+    lane: &mut Lane,
+    timer: u32,
+) -> Answer
+    requires pass { ArePassesOf world.now lane.old.pass }
+    requires kind { IsOfKind world.now over.Sleeper timer }
+    ensures leaves { LeavesLane world.now lane.old lane.new }
+    ensures call { (found : Slept) × CallsLook world.now (lane_of lane.old) (lane_of lane.new) result (λ old new. LooksSlept old new timer found) (slept_told found.answer found.stamp) }
+{
+    let mut log = Log::make(alloc);
+    let mut object_log = ObjectLog::make(alloc);
+    let found = on_object!(rt, world, lane, log, object_log; slept(timer));
+    slept_answer(found)
+}
+
+/// What a look at a sleeper answers.
+fn slept_answer(found: Slept) -> Answer
+    ensures { result ≡ slept_told found.answer found.stamp }
+{
+    let stamp = found.stamp;
+    match found.answer {
+        SleptAnswer::Sleeping => Answer::Sleeping { stamp },
+        SleptAnswer::Slept => Answer::SleptAt { stamp },
+        SleptAnswer::Awake => Answer::Awake { stamp },
     }
 }

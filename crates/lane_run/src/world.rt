@@ -183,7 +183,7 @@ fn declared_as(timer: Declaration) -> Declared
 {
     let context = match timer.kind {
         Kind::Raw { context, .. } => context,
-        Kind::Posix { .. } | Kind::Fd { .. } => Context::Hard,
+        Kind::Posix { .. } | Kind::Fd { .. } | Kind::Sleeper { .. } => Context::Hard,
     };
     Declared {
         clock: timer.clock,
@@ -206,6 +206,7 @@ fn decl_of(timer: Declaration) -> Decl
         Kind::Raw { .. } => (timer_objects::Kind::Raw, 0),
         Kind::Posix { base } => (timer_objects::Kind::Posix, base),
         Kind::Fd { base } => (timer_objects::Kind::Fd, base),
+        Kind::Sleeper { base } => (timer_objects::Kind::Sleeper, base),
     };
     Decl {
         kind,
@@ -238,6 +239,8 @@ fn callback_of(kind: Kind) -> timer_objects::Callback
             Callback::Cancels => timer_objects::Callback::Cancels,
             Callback::Starts { ns, base } => timer_objects::Callback::Starts(ns, base),
         },
-        Kind::Posix { .. } | Kind::Fd { .. } => timer_objects::Callback::Once,
+        Kind::Posix { .. } | Kind::Fd { .. } | Kind::Sleeper { .. } => {
+            timer_objects::Callback::Once
+        }
     }
 }

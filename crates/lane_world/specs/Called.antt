@@ -29,7 +29,7 @@ use Rattle.expire_pass.specs.declared.expiry.ExpireAnswer.{ExpireAnswer}
 use Rattle.expire_pass.specs.declared.expiry.ExpireAnswer.TheVariants as expiries
 use Rattle.base_row.specs.declared.log.Receipt.{Receipt}
 use Rattle.timer_objects.specs.declared.log.ObjectReceipt.{ObjectReceipt}
-use Rattle.timer_objects.specs.Calls.{HasSetting, Accepts, Caller, Gettimes, LooksOverrun, LooksReadable, ReadsFd, Settimes}
+use Rattle.timer_objects.specs.Calls.{HasSetting, Accepts, Caller, Gettimes, Interrupts, LooksOverrun, LooksReadable, LooksSlept, ReadsFd, Settimes, Sleeps}
 use Rattle.record_text.specs.declared.record.Answer.{Answer}
 use Rattle.record_text.specs.declared.record.Answer.TheVariants as answers
 use Rattle.record_text.specs.declared.record.Label.{Label}
@@ -41,6 +41,13 @@ use Rattle.timer_setting.specs.declared.answers.ReadAnswer.{ReadAnswer}
 use Rattle.timer_setting.specs.declared.answers.ReadAnswer.TheVariants as reads
 use Rattle.timer_setting.specs.declared.answers.SettimeAnswer.{SettimeAnswer}
 use Rattle.timer_setting.specs.declared.answers.SettimeAnswer.TheVariants as settings
+use Rattle.timer_setting.specs.declared.answers.InterruptAnswer.{InterruptAnswer}
+use Rattle.timer_setting.specs.declared.answers.InterruptAnswer.TheVariants as interrupts
+use Rattle.timer_setting.specs.declared.answers.SleepAnswer.{SleepAnswer}
+use Rattle.timer_setting.specs.declared.answers.SleepAnswer.TheVariants as sleeps
+use Rattle.sleeper.specs.declared.answers.SleptAnswer.{SleptAnswer}
+use Rattle.sleeper.specs.declared.answers.SleptAnswer.TheVariants as looks
+use Rattle.timer_objects.specs.declared.answers.Slept.{Slept}
 use Rattle.timer_objects.specs.declared.answers.Gettime.{Gettime}
 use Rattle.timer_objects.specs.declared.answers.Gettime.TheVariants as gettimes
 use Rattle.timer_objects.specs.declared.answers.Overrun.{Overrun}
@@ -166,6 +173,26 @@ settime_told (settings.Spent stamp) = answers.Spent stamp
 settime_told (settings.Unarmed stamp) = answers.Unarmed stamp
 settime_told settings.Canceled = answers.Canceled
 settime_told refused = answers.Invalid
+
+abbrev pub sleep_told : SleepAnswer → Answer
+sleep_told sleeps.Slept = answers.Slept
+sleep_told sleeps.Asleep = answers.Asleep
+sleep_told (sleeps.Unarmed stamp) = answers.Unarmed stamp
+sleep_told (sleeps.Spent stamp) = answers.Spent stamp
+sleep_told (sleeps.Occupied stamp) = answers.Occupied stamp
+sleep_told refused = answers.Invalid
+
+abbrev pub interrupt_told : InterruptAnswer → Answer
+interrupt_told interrupts.Slept = answers.Slept
+interrupt_told (interrupts.Left ns) = answers.SleepLeft ns
+interrupt_told interrupts.Interrupted = answers.Interrupted
+interrupt_told (interrupts.Spent stamp) = answers.Spent stamp
+interrupt_told (interrupts.Awake stamp) = answers.Awake stamp
+
+abbrev pub slept_told : SleptAnswer → ℕ → Answer
+slept_told looks.Sleeping stamp = answers.Sleeping stamp
+slept_told looks.Slept stamp = answers.SleptAt stamp
+slept_told looks.Awake stamp = answers.Awake stamp
 
 abbrev pub gettime_told : Kind → ℕ → Gettime → Answer
 gettime_told kind reading (gettimes.Spent stamp) = answers.Spent stamp
@@ -307,12 +334,12 @@ module _ (x : WorldOf) (l m : LaneOf) (a : Answer) where
     pub does : Does (lane_caller l.pass [] []) (lane_caller m.pass log object_log) reading
     pub notes : m.notes ≡ with_done l.notes l.label log object_log
 
-  pub record CallsOverrun (timer : ℕ) : Type 0 where
+  -- a look at an object that takes no reading
+  pub record CallsLook (Looks : Caller → Caller → Type 0) (told : Answer) : Type 0 where
     pub clock : LeavesClock l.pass m.pass
-    pub found : Overrun
-    pub looks : LooksOverrun (lane_caller l.pass [] []) (lane_caller m.pass [] []) timer found
+    pub looks : Looks (lane_caller l.pass [] []) (lane_caller m.pass [] [])
     pub notes : m.notes ≡ l.notes
-    pub told : a ≡ answers.Overrun found.overrun found.stamp
+    pub tells : a ≡ told
 
 -- ---- each call
 
@@ -338,6 +365,9 @@ CanCall x lane (calls.Accept timer) = IsOfKind x over.Posix timer
 CanCall x lane (calls.Overrun timer) = IsOfKind x over.Posix timer
 CanCall x lane (calls.Read timer len) = IsOfKind x over.Fd timer
 CanCall x lane (calls.Readable timer) = IsOfKind x over.Fd timer
+CanCall x lane (calls.Sleep timer flags time) = IsOfKind x over.Sleeper timer
+CanCall x lane (calls.Interrupt timer) = IsOfKind x over.Sleeper timer
+CanCall x lane (calls.Slept timer) = IsOfKind x over.Sleeper timer
 CanCall x lane (calls.Offline base heir budget) =
     (lane ≡ 0) × (base < x.timers.about.bases) × (heir < base) × (budget ≤ most_budget) × IsEvacuable x.timers.about
 CanCall x lane (calls.Online base) = (lane ≡ 0) × (base < x.timers.about.bases) × IsEvacuable x.timers.about
@@ -360,13 +390,22 @@ CalledThen x l (calls.Gettime timer) a m =
 CalledThen x l (calls.Accept timer) a m =
     (s : AcceptAnswer) × (a ≡ accept_told s)
     × CallsObject x l m a (λ old new reading. Accepts x.objects x.timers.about old new timer reading s)
-CalledThen x l (calls.Overrun timer) a m = CallsOverrun x l m a timer
+CalledThen x l (calls.Overrun timer) a m =
+    (found : Overrun) × CallsLook x l m a (λ old new. LooksOverrun old new timer found) (answers.Overrun found.overrun found.stamp)
 CalledThen x l (calls.Read timer len) a m =
     (s : ReadAnswer) × (a ≡ read_told s)
     × CallsObject x l m a (λ old new reading. ReadsFd x.objects x.timers.about old new timer len reading s)
 CalledThen x l (calls.Readable timer) a m =
     (found : Readable) × CallsObject x l m a (λ old new reading.
     LooksReadable old new timer reading found × (a ≡ answers.Readable found.ready reading.stamp found.stamp))
+CalledThen x l (calls.Sleep timer flags time) a m =
+    (s : SleepAnswer) × (a ≡ sleep_told s)
+    × CallsObject x l m a (λ old new reading. Sleeps x.objects x.timers.about old new timer flags time reading s)
+CalledThen x l (calls.Interrupt timer) a m =
+    (s : InterruptAnswer) × (a ≡ interrupt_told s)
+    × CallsObject x l m a (λ old new reading. Interrupts x.objects x.timers.about old new timer reading s)
+CalledThen x l (calls.Slept timer) a m =
+    (found : Slept) × CallsLook x l m a (λ old new. LooksSlept old new timer found) (slept_told found.answer found.stamp)
 CalledThen x l (calls.Offline base heir budget) a m = CallsOffline x l m a base heir budget
 CalledThen x l (calls.Online base) a m = CallsOnline x l m a base
 

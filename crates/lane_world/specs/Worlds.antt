@@ -41,12 +41,14 @@ callback_of (kinds.Raw context callbacks.Cancels) = runs.Cancels
 callback_of (kinds.Raw context (callbacks.Starts ns base)) = runs.Starts ns base
 callback_of (kinds.Posix base) = runs.Once
 callback_of (kinds.Fd base) = runs.Once
+callback_of (kinds.Sleeper base) = runs.Once
 
 -- what stands over a timer of this kind and clock
 abbrev pub decl_as : Kind → ClockId → Decl
 decl_as (kinds.Raw context callback) clock = record { kind = over.Raw; clock = clock; base = 0 }
 decl_as (kinds.Posix base) clock = record { kind = over.Posix; clock = clock; base = base }
 decl_as (kinds.Fd base) clock = record { kind = over.Fd; clock = clock; base = base }
+decl_as (kinds.Sleeper base) clock = record { kind = over.Sleeper; clock = clock; base = base }
 
 abbrev pub decl_of : Declaration → Decl
 decl_of d = decl_as d.kind d.clock

@@ -43,7 +43,8 @@ use Rattle.record_laws.proofs.ClockLines.{clock_goes_on}
 use Rattle.record_laws.proofs.LastSeen.{objects_once, object_lines_are}
 use Rattle.record_laws.proofs.SeenThere.{many_objects, objects_past}
 use Rattle.lane_world.proofs.ObjectSeen.{leads_from, legal}
-use Rattle.timer_objects.proofs.KindOfObject.{fd_objects, posix_objects}
+use Rattle.timer_objects.proofs.KindOfObject.{fd_objects, posix_objects, sleeper_objects}
+use Rattle.sleeper.specs.States.{sleeper_opening}
 use Rattle.record_laws.proofs.OwnLines.{at_line, lines_long, own_lines, ShowNotes, told_of}
 
 -- ---- the entries of an object
@@ -74,6 +75,8 @@ legal_lines s r i hs now are (kinds.Posix base) leads =
     legal posix_objects r.clock (posix_opening (clock_of s i) base s.limit) now hs (lines_of_object r i) leads are
 legal_lines s r i hs now are (kinds.Fd base) leads =
     legal fd_objects r.clock (fd_opening (clock_of s i) base s.limit) now hs (lines_of_object r i) leads are
+legal_lines s r i hs now are (kinds.Sleeper base) leads =
+    legal sleeper_objects r.clock (sleeper_opening (clock_of s i) base s.limit) now hs (lines_of_object r i) leads are
 
 -- the entries that were seen of an object lead on from where its declaration opens it
 object_leads : {s : Script} {x : WorldOf} {q : WorldPass} → AreLastOf s x q → (i : ℕ)

@@ -20,11 +20,15 @@ use Rattle.record_text.specs.declared.record.AcceptReply.{AcceptReply}
 use Rattle.record_text.specs.declared.record.AcceptReply.TheVariants as accepts
 use Rattle.record_text.specs.declared.record.ReadReply.{ReadReply}
 use Rattle.record_text.specs.declared.record.ReadReply.TheVariants as reads
+use Rattle.record_text.specs.declared.record.SleepReply.{SleepReply}
+use Rattle.record_text.specs.declared.record.SleepReply.TheVariants as sleeps
+use Rattle.record_text.specs.declared.record.InterruptReply.{InterruptReply}
+use Rattle.record_text.specs.declared.record.InterruptReply.TheVariants as interrupts
 use Rattle.record_text.specs.declared.record.ObjectEntry.{ObjectEntry}
 use Rattle.record_text.specs.declared.record.ObjectEntry.TheVariants as object_entries
 use Rattle.record_text.specs.declared.record.Answer.{Answer}
 use Rattle.record_text.specs.declared.record.Answer.TheVariants as answers
-use Rattle.record_text.specs.Replies.{answer_of_settime, answer_of_accept, answer_of_read}
+use Rattle.record_text.specs.Replies.{answer_of_settime, answer_of_accept, answer_of_read, answer_of_sleep, answer_of_interrupt}
 use Rattle.record_text.specs.Text.{entry_numbers, entry_words, shift_words, told_words, object_entry_words}
 use Rattle.record_text.specs.Answers.{answer_words, answer_numbers}
 use Rattle.record_text.specs.Numbers.{AreMachineNumbers, EntryHasNoSlack, IsReplyTo, shift_numbers, told_numbers, object_entry_numbers}
@@ -159,10 +163,17 @@ told_read (told.Running generation) h = rw (value_again generation h.0, word_dec
 told_read (told.Armed generation) h = rw (value_again generation h.0, word_decimal generation h.0) (refl, refl)
 told_read told.Spent h = (refl, refl)
 
--- a time left with its interval: a POSIX timer's has the reading and the stamp behind it
-pub left_of : ℕ → ℕ → List (List ℕ) → Answer
-left_of left interval [] = answers.Left left interval
-left_of left interval (w ∷ ws) = answers.LeftAt left interval (value w) (number 0 ws)
+-- a time left: a sleep's stands alone, a timer's has its interval behind it, and a POSIX timer's the reading and the stamp too
+pub left_of : ℕ → List (List ℕ) → Answer
+left_of left [] = answers.SleepLeft left
+left_of left (i ∷ []) = answers.Left left (value i)
+left_of left (i ∷ w ∷ ws) = answers.LeftAt left (value i) (value w) (number 0 ws)
+
+-- the word that all is over: of a sleep, of a look at one with the stamp, and of an expiry run with the timers that fired
+pub done_of : List (List ℕ) → Answer
+done_of [] = answers.Slept
+done_of (n ∷ []) = answers.SleptAt (value n)
+done_of (n ∷ w ∷ ws) = answers.Done (value w) (map value ws)
 
 -- a word that two answers begin with: what a call tells that takes a base off line ends sooner, or later where a timer is spent
 pub spent_of : ℕ → List (List ℕ) → Answer
@@ -185,7 +196,7 @@ answer_of ws =
     else if is_key ws (codes "running") then answers.Running (number 1 ws) (number 2 ws)
     else if is_key ws (codes "idle") then answers.Idle (number 1 ws)
     else if is_key ws (codes "peek") then answers.Peek (number 1 ws) (number 2 ws) (flag_of (nth 3 ws)) (flag_of (nth 4 ws)) (flag_of (nth 5 ws))
-    else if is_key ws (codes "done") then answers.Done (number 2 ws) (map value (after 3 ws))
+    else if is_key ws (codes "done") then done_of (after 1 ws)
     else if is_key ws (codes "more") then more_of (number 1 ws) (after 2 ws)
     else if is_key ws (codes "busy") then busy_of (number 1 ws) (number 2 ws) (number 3 ws) (after 4 ws)
     else if is_key ws (codes "clock") then answers.Clock (number 1 ws)
@@ -195,7 +206,7 @@ answer_of ws =
     else if is_key ws (codes "canceled") then answers.Canceled
     else if is_key ws (codes "unarmed") then answers.Unarmed (number 1 ws)
     else if is_key ws (codes "einval") then answers.Invalid
-    else if is_key ws (codes "left") then left_of (number 1 ws) (number 2 ws) (after 3 ws)
+    else if is_key ws (codes "left") then left_of (number 1 ws) (after 2 ws)
     else if is_key ws (codes "accepted") then answers.Accepted (number 1 ws)
     else if is_key ws (codes "nosignal") then answers.NoSignal
     else if is_key ws (codes "overrun") then answers.Overrun (number 1 ws) (number 2 ws)
@@ -206,10 +217,15 @@ answer_of ws =
     else if is_key ws (codes "heiroff") then answers.HeirOffline (number 1 ws)
     else if is_key ws (codes "basespent") then answers.BaseSpent (number 1 ws)
     else if is_key ws (codes "on") then answers.Online (number 1 ws)
+    else if is_key ws (codes "asleep") then answers.Asleep
+    else if is_key ws (codes "occupied") then answers.Occupied (number 1 ws)
+    else if is_key ws (codes "interrupted") then answers.Interrupted
+    else if is_key ws (codes "sleeping") then answers.Sleeping (number 1 ws)
+    else if is_key ws (codes "awake") then answers.Awake (number 1 ws)
     else answers.Readable (flag_of (nth 1 ws)) (number 2 ws) (number 3 ws)
 
 pub answer_read : AreReadBack answer_of answer_words answer_numbers
-unfolding answer_of left_of spent_of more_of busy_of
+unfolding answer_of left_of done_of spent_of more_of busy_of
 answer_read (answers.Started generation base was_armed) h =
     rw (value_again generation h.0, value_again base h.1.0, (flag_read was_armed).0, word_decimal generation h.0)
     (rw (word_decimal base h.1.0, (flag_read was_armed).1) (refl, refl))
@@ -266,6 +282,14 @@ answer_read (answers.Already stamp) h = rw (value_again stamp h.0, word_decimal 
 answer_read (answers.HeirOffline stamp) h = rw (value_again stamp h.0, word_decimal stamp h.0) (refl, refl)
 answer_read (answers.BaseSpent stamp) h = rw (value_again stamp h.0, word_decimal stamp h.0) (refl, refl)
 answer_read (answers.Online stamp) h = rw (value_again stamp h.0, word_decimal stamp h.0) (refl, refl)
+answer_read answers.Asleep h = (refl, refl)
+answer_read answers.Slept h = (refl, refl)
+answer_read (answers.Occupied stamp) h = rw (value_again stamp h.0, word_decimal stamp h.0) (refl, refl)
+answer_read (answers.SleepLeft ns) h = rw (value_again ns h.0, word_decimal ns h.0) (refl, refl)
+answer_read answers.Interrupted h = (refl, refl)
+answer_read (answers.Sleeping stamp) h = rw (value_again stamp h.0, word_decimal stamp h.0) (refl, refl)
+answer_read (answers.SleptAt stamp) h = rw (value_again stamp h.0, word_decimal stamp h.0) (refl, refl)
+answer_read (answers.Awake stamp) h = rw (value_again stamp h.0, word_decimal stamp h.0) (refl, refl)
 
 -- a reply from the answer that it gives
 pub settime_of : Answer → SettimeReply
@@ -299,6 +323,28 @@ read_is (reads.Count total) = refl
 read_is reads.Again = refl
 read_is reads.Canceled = refl
 
+pub sleep_of : Answer → SleepReply
+sleep_of answers.Asleep = sleeps.Asleep
+sleep_of (answers.Unarmed stamp) = sleeps.Unarmed stamp
+sleep_of other = sleeps.Slept
+
+pub sleep_is : (r : SleepReply) → sleep_of (answer_of_sleep r) ≡ r
+unfolding sleep_of
+sleep_is sleeps.Slept = refl
+sleep_is sleeps.Asleep = refl
+sleep_is (sleeps.Unarmed stamp) = refl
+
+pub interrupt_of : Answer → InterruptReply
+interrupt_of (answers.SleepLeft ns) = interrupts.Left ns
+interrupt_of answers.Interrupted = interrupts.Interrupted
+interrupt_of other = interrupts.Slept
+
+pub interrupt_is : (r : InterruptReply) → interrupt_of (answer_of_interrupt r) ≡ r
+unfolding interrupt_of
+interrupt_is interrupts.Slept = refl
+interrupt_is (interrupts.Left ns) = refl
+interrupt_is interrupts.Interrupted = refl
+
 pub object_entry_of : List (List ℕ) → ObjectEntry
 object_entry_of ws =
     if is_key ws (codes "settime") then object_entries.Settime (number 1 ws) (number 2 ws) (number 3 ws) (number 4 ws) (armed_of (nth 5 ws))
@@ -306,6 +352,8 @@ object_entry_of ws =
     else if is_key ws (codes "trigger") then object_entries.Trigger (number 1 ws) (number 2 ws) (counted_of (nth 3 ws))
     else if is_key ws (codes "accept") then object_entries.Accept (number 1 ws) (armed_of (nth 2 ws)) (accept_of (answer_of (after 3 ws)))
     else if is_key ws (codes "read") then object_entries.Read (number 1 ws) (armed_of (nth 2 ws)) (read_of (answer_of (after 3 ws)))
+    else if is_key ws (codes "sleep") then object_entries.Sleep (number 1 ws) (number 2 ws) (number 3 ws) (armed_of (nth 4 ws)) (sleep_of (answer_of (after 5 ws)))
+    else if is_key ws (codes "interrupt") then object_entries.Interrupt (number 1 ws) (interrupt_of (answer_of (after 2 ws)))
     else object_entries.Gettime (number 1 ws) (armed_of (nth 2 ws)) (number 3 ws) (number 4 ws)
 
 pub object_entry_read : AreReadBack object_entry_of object_entry_words object_entry_numbers
@@ -324,6 +372,13 @@ object_entry_read (object_entries.Accept reading arm reply) h =
 object_entry_read (object_entries.Read reading arm reply) h =
     rw (value_again reading h.0, (armed_read arm h.1.0).0, (answer_read (answer_of_read reply) h.1.1).0, read_is reply)
     (rw (word_decimal reading h.0, (armed_read arm h.1.0).1) (refl, (answer_read (answer_of_read reply) h.1.1).1))
+object_entry_read (object_entries.Sleep flags time reading arm reply) h =
+    rw (value_again flags h.0, value_again time h.1.0, value_again reading h.1.1.0, (armed_read arm h.1.1.1.0).0)
+    (rw ((answer_read (answer_of_sleep reply) h.1.1.1.1).0, sleep_is reply, word_decimal flags h.0, word_decimal time h.1.0, word_decimal reading h.1.1.0)
+    (rw ((armed_read arm h.1.1.1.0).1) (refl, (answer_read (answer_of_sleep reply) h.1.1.1.1).1)))
+object_entry_read (object_entries.Interrupt reading reply) h =
+    rw (value_again reading h.0, (answer_read (answer_of_interrupt reply) h.1).0, interrupt_is reply, word_decimal reading h.0)
+    (refl, (answer_read (answer_of_interrupt reply) h.1).1)
 object_entry_read (object_entries.Gettime reading arm left interval) h =
     rw (value_again reading h.0, (armed_read arm h.1.0).0, value_again left h.1.1.0, value_again interval h.1.1.1.0)
     (rw (word_decimal reading h.0, (armed_read arm h.1.0).1, word_decimal left h.1.1.0, word_decimal interval h.1.1.1.0) (refl, refl))

@@ -5,7 +5,31 @@ use Rattle.record_text.specs.declared.record.Answer.{Answer}
 use Rattle.record_text.specs.declared.record.Answer.TheVariants as answers
 use Rattle.record_text.specs.Words.{flag}
 
--- the words of what an object's call alone is answered, and none for another answer
+-- the words of what a sleeper's call alone is answered, and none for another answer
+abbrev pub sleeper_answer_words : Answer → List (List ℕ)
+sleeper_answer_words answers.Asleep = codes "asleep" ∷ []
+sleeper_answer_words answers.Slept = codes "done" ∷ []
+sleeper_answer_words (answers.Occupied stamp) = codes "occupied" ∷ decimal stamp ∷ []
+sleeper_answer_words (answers.SleepLeft ns) = codes "left" ∷ decimal ns ∷ []
+sleeper_answer_words answers.Interrupted = codes "interrupted" ∷ []
+sleeper_answer_words (answers.Sleeping stamp) = codes "sleeping" ∷ decimal stamp ∷ []
+sleeper_answer_words (answers.SleptAt stamp) = codes "done" ∷ decimal stamp ∷ []
+sleeper_answer_words (answers.Awake stamp) = codes "awake" ∷ decimal stamp ∷ []
+sleeper_answer_words other = []
+
+-- the numbers of what a sleeper's call alone is answered, and none for another answer
+abbrev pub sleeper_answer_numbers : Answer → List ℕ
+sleeper_answer_numbers answers.Asleep = []
+sleeper_answer_numbers answers.Slept = []
+sleeper_answer_numbers (answers.Occupied stamp) = stamp ∷ []
+sleeper_answer_numbers (answers.SleepLeft ns) = ns ∷ []
+sleeper_answer_numbers answers.Interrupted = []
+sleeper_answer_numbers (answers.Sleeping stamp) = stamp ∷ []
+sleeper_answer_numbers (answers.SleptAt stamp) = stamp ∷ []
+sleeper_answer_numbers (answers.Awake stamp) = stamp ∷ []
+sleeper_answer_numbers other = []
+
+-- the words of what a call of a POSIX timer or a descriptor alone is answered, and of another answer those of a sleeper's call
 abbrev pub object_answer_words : Answer → List (List ℕ)
 object_answer_words (answers.Old left interval) = codes "old" ∷ decimal left ∷ decimal interval ∷ []
 object_answer_words answers.Canceled = codes "canceled" ∷ []
@@ -20,9 +44,9 @@ object_answer_words (answers.Overrun overrun stamp) = codes "overrun" ∷ decima
 object_answer_words (answers.Count total) = codes "count" ∷ decimal total ∷ []
 object_answer_words answers.Again = codes "again" ∷ []
 object_answer_words (answers.Readable ready reading stamp) = codes "readable" ∷ flag ready ∷ decimal reading ∷ decimal stamp ∷ []
-object_answer_words other = []
+object_answer_words other = sleeper_answer_words other
 
--- the numbers of what an object's call alone is answered, and none for another answer
+-- the numbers of what a call of a POSIX timer or a descriptor alone is answered, and of another answer those of a sleeper's call
 abbrev pub object_answer_numbers : Answer → List ℕ
 object_answer_numbers (answers.Old left interval) = left ∷ interval ∷ []
 object_answer_numbers answers.Canceled = []
@@ -36,7 +60,7 @@ object_answer_numbers (answers.Overrun overrun stamp) = overrun ∷ stamp ∷ []
 object_answer_numbers (answers.Count total) = total ∷ []
 object_answer_numbers answers.Again = []
 object_answer_numbers (answers.Readable ready reading stamp) = reading ∷ stamp ∷ []
-object_answer_numbers other = []
+object_answer_numbers other = sleeper_answer_numbers other
 
 -- the words of an answer to a call that takes a base off line or on line again, and of another those of an object's call
 abbrev pub shift_answer_words : Answer → List (List ℕ)

@@ -16,7 +16,7 @@ use Rattle.record_text.specs.declared.record.ObjectEntry.{ObjectEntry}
 use Rattle.record_text.specs.declared.record.ObjectEntry.TheVariants as object_entries
 use Rattle.record_text.specs.declared.record.TimerLine.{TimerLine}
 use Rattle.record_text.specs.declared.record.RunRecord.{RunRecord}
-use Rattle.record_text.specs.Replies.{answer_of_accept, answer_of_read, answer_of_settime}
+use Rattle.record_text.specs.Replies.{answer_of_accept, answer_of_interrupt, answer_of_read, answer_of_settime, answer_of_sleep}
 use Rattle.record_text.specs.Answers.{answer_numbers}
 use Rattle.record_text.specs.Text.{RecordLine, Heading, OfClock, OfBase, OfTimer, OfLook, OfObject, OfSkip, OfCall, End, entry_numbers, write_ns, record_lines}
 
@@ -37,12 +37,18 @@ armed_number arms.None = 0
 armed_number (arms.Generation generation) = generation
 armed_number arms.Unarmed = 0
 
--- the numbers of an entry of a call that arms an expired timer again, and none of another
+-- the numbers of an entry of a sleeper's call, and none of another
+abbrev pub sleeping_numbers : ObjectEntry → List ℕ
+sleeping_numbers (object_entries.Sleep flags time reading arm reply) = flags ∷ time ∷ reading ∷ armed_number arm ∷ answer_numbers (answer_of_sleep reply)
+sleeping_numbers (object_entries.Interrupt reading reply) = reading ∷ answer_numbers (answer_of_interrupt reply)
+sleeping_numbers other = []
+
+-- the numbers of an entry of a call that arms an expired timer again, and of another those of a sleeper's call
 abbrev pub rearming_numbers : ObjectEntry → List ℕ
 rearming_numbers (object_entries.Accept reading arm reply) = reading ∷ armed_number arm ∷ answer_numbers (answer_of_accept reply)
 rearming_numbers (object_entries.Read reading arm reply) = reading ∷ armed_number arm ∷ answer_numbers (answer_of_read reply)
 rearming_numbers (object_entries.Gettime reading arm left interval) = reading ∷ armed_number arm ∷ left ∷ interval ∷ []
-rearming_numbers other = []
+rearming_numbers other = sleeping_numbers other
 
 -- the numbers of an object's entry
 abbrev pub object_entry_numbers : ObjectEntry → List ℕ

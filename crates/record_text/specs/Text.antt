@@ -29,7 +29,7 @@ use Rattle.record_text.specs.declared.record.Answer.{Answer}
 use Rattle.record_text.specs.declared.record.RunRecord.{RunRecord}
 use Rattle.record_text.specs.declared.version.Version.{Version}
 use Rattle.record_text.specs.declared.version.Version.TheVariants as versions
-use Rattle.record_text.specs.Replies.{answer_of_accept, answer_of_read, answer_of_settime}
+use Rattle.record_text.specs.Replies.{answer_of_accept, answer_of_interrupt, answer_of_read, answer_of_settime, answer_of_sleep}
 use Rattle.record_text.specs.Words.{clock_word, flag, mode_word, version_word}
 use Rattle.record_text.specs.Answers.{answer_words}
 
@@ -196,12 +196,19 @@ told_words (told.Running generation) = codes "running" ∷ decimal generation �
 told_words (told.Armed generation) = codes "armed" ∷ decimal generation ∷ []
 told_words told.Spent = codes "spent" ∷ []
 
--- the words of an entry of a call that arms an expired timer again, and none of another
+-- the words of an entry of a sleeper's call, and none of another
+abbrev pub sleeping_words : ObjectEntry → List (List ℕ)
+sleeping_words (object_entries.Sleep flags time reading arm reply) =
+    codes "sleep" ∷ decimal flags ∷ decimal time ∷ decimal reading ∷ armed_word arm ∷ answer_words (answer_of_sleep reply)
+sleeping_words (object_entries.Interrupt reading reply) = codes "interrupt" ∷ decimal reading ∷ answer_words (answer_of_interrupt reply)
+sleeping_words other = []
+
+-- the words of an entry of a call that arms an expired timer again, and of another those of a sleeper's call
 abbrev pub rearming_words : ObjectEntry → List (List ℕ)
 rearming_words (object_entries.Accept reading arm reply) = codes "accept" ∷ decimal reading ∷ armed_word arm ∷ answer_words (answer_of_accept reply)
 rearming_words (object_entries.Read reading arm reply) = codes "read" ∷ decimal reading ∷ armed_word arm ∷ answer_words (answer_of_read reply)
 rearming_words (object_entries.Gettime reading arm left interval) = codes "gettime" ∷ decimal reading ∷ armed_word arm ∷ decimal left ∷ decimal interval ∷ []
-rearming_words other = []
+rearming_words other = sleeping_words other
 
 -- the words of an object's entry
 abbrev pub object_entry_words : ObjectEntry → List (List ℕ)

@@ -3,8 +3,8 @@
 
 pub use item_list::ItemList;
 pub use record::{
-    AcceptReply, Answer, Armed, BaseLine, CallbackReply, ClockLine, Entry, Label, Look,
-    ObjectEntry, ObjectLine, ReadReply, RunRecord, SettimeReply, Skip, TimerLine,
+    AcceptReply, Answer, Armed, BaseLine, CallbackReply, ClockLine, Entry, InterruptReply, Label,
+    Look, ObjectEntry, ObjectLine, ReadReply, RunRecord, SettimeReply, Skip, SleepReply, TimerLine,
 };
 pub use version::Version;
 pub use writing::{text, text_determines_the_record};

@@ -1,6 +1,6 @@
 //! What a run leaves: its types.
 ghost use Rattle.std.specs.Prelude.{◌≡◌};
-ghost use Rattle.record_text.specs.Replies.{answer_of_accept, answer_of_read, answer_of_settime};
+ghost use Rattle.record_text.specs.Replies.{answer_of_accept, answer_of_interrupt, answer_of_read, answer_of_settime, answer_of_sleep};
 
 use crate::item_list::ItemList;
 use crate::version::Version;
@@ -128,7 +128,55 @@ impl ReadReply {
     }
 }
 
-/// An entry of an object's history as its line shows it. A reading is named by its stamp; a value, an interval and a
+/// What a sleep that made an entry was answered.
+#[derive(Clone, Copy, Debug, PartialEq, Eq)]
+pub enum SleepReply {
+    /// Its time had come already, so nothing was started.
+    Slept,
+    /// It has begun.
+    Asleep,
+    /// The timer had so many entries and was not started. The sleeper stays free.
+    Unarmed { stamp: u64 },
+}
+
+impl SleepReply {
+    /// The call's answer.
+    pub fn answer(self) -> Answer
+        ensures { result ≡ answer_of_sleep self }
+    {
+        match self {
+            SleepReply::Slept => Answer::Slept,
+            SleepReply::Asleep => Answer::Asleep,
+            SleepReply::Unarmed { stamp } => Answer::Unarmed { stamp },
+        }
+    }
+}
+
+/// What an interrupt that made an entry was answered.
+#[derive(Clone, Copy, Debug, PartialEq, Eq)]
+pub enum InterruptReply {
+    /// The sleep's time had come.
+    Slept,
+    /// A relative sleep was ended with so many nanoseconds left (EINTR).
+    Left { ns: u64 },
+    /// A sleep up to a time was ended (EINTR).
+    Interrupted,
+}
+
+impl InterruptReply {
+    /// The call's answer.
+    pub fn answer(self) -> Answer
+        ensures { result ≡ answer_of_interrupt self }
+    {
+        match self {
+            InterruptReply::Slept => Answer::Slept,
+            InterruptReply::Left { ns } => Answer::SleepLeft { ns },
+            InterruptReply::Interrupted => Answer::Interrupted,
+        }
+    }
+}
+
+/// An entry of an object's history as its line shows it. A reading is named by its stamp; a value, an interval, a sleep's time and a
 /// time left are in nanoseconds.
 #[derive(Clone, Copy, Debug, PartialEq, Eq)]
 pub enum ObjectEntry {
@@ -162,6 +210,17 @@ pub enum ObjectEntry {
         arm: Armed,
         left: u64,
         interval: u64,
+    },
+    Sleep {
+        flags: u64,
+        time: u64,
+        reading: u64,
+        arm: Armed,
+        reply: SleepReply,
+    },
+    Interrupt {
+        reading: u64,
+        reply: InterruptReply,
     },
 }
 
@@ -327,6 +386,32 @@ pub enum Answer {
     },
     /// The base is on line.
     Online {
+        stamp: u64,
+    },
+    /// A sleep has begun.
+    Asleep,
+    /// A sleep's time had come: it wasn't begun, or its end is told.
+    Slept,
+    /// The sleeper isn't free.
+    Occupied {
+        stamp: u64,
+    },
+    /// A relative sleep was ended with so many nanoseconds left (EINTR).
+    SleepLeft {
+        ns: u64,
+    },
+    /// A sleep up to a time was ended (EINTR).
+    Interrupted,
+    /// A sleep goes on.
+    Sleeping {
+        stamp: u64,
+    },
+    /// A sleep's time has come, and its end is yet to be told.
+    SleptAt {
+        stamp: u64,
+    },
+    /// The sleeper is free.
+    Awake {
         stamp: u64,
     },
 }

@@ -73,6 +73,7 @@ in_turn : (w : Witness) (c : Label) (call : Call) (from : ℕ) → HasRead w c f
 in_turn w c (calls.Cancel timer) from read = tt
 in_turn w c (calls.Peek timer) from read = tt
 in_turn w c (calls.Overrun timer) from read = tt
+in_turn w c (calls.Slept timer) from read = tt
 in_turn w c (calls.Online base) from read = tt
 in_turn w c call from read = read
 

@@ -19,7 +19,7 @@ use Rattle.run_history.specs.Fits.{Fits}
 use Rattle.run_cases.specs.Fitting.{accept_entry, accepted_record, accepted_script, beside, beside_script, cancelled_record, expired_lines, idle_record, idle_script, kept_start, late_record, moved_record, moved_script, moved_start, rearming_start, none_entry, running_record, set_entry, told_record, told_script, trigger_entry}
 use Rattle.run_cases.specs.Lines.{at, start, cancel_entry, out_entry}
 use Rattle.run_cases.proofs.Calls.{are_placed, IsRight, right}
-use Rattle.run_cases.proofs.Witnesses.{armed_anew, armed_as, armed_by, did, done_by, fired, ran, stays, step, three, turn_of, two, witness_along, witness_by}
+use Rattle.run_cases.proofs.Witnesses.{set_anew, armed_as, armed_by, did, done_by, fired, ran, stays, step, three, turn_of, two, witness_along, witness_by}
 use Rattle.run_cases.proofs.Small.{fits_by}
 use Rattle.run_cases.proofs.Tests.{le, lt, point_passes}
 
@@ -261,7 +261,7 @@ accepted_fits = fits_by accepted_witness (record {
       (three (lt refl) refl (three (lt refl, (λ e. absurd (cc), λ e. absurd (cc))) refl (three (lt refl, (λ e. refl, λ e. refl)) refl tt)))) tt;
   placed = (refl, tt);
   calls = two (
-      two (right refl refl refl (refl, tt) (refl, tt) (refl, tt) (armed_anew 0 1 (record { known = refl; good_value = lt refl; good_interval = lt refl })
+      two (right refl refl refl (refl, tt) (refl, tt) (refl, tt) (set_anew 0 1 (record { known = refl; good_value = lt refl; good_interval = lt refl })
       (armed_by 1 100, refl, refl, stays refl refl refl)) (refl, ((refl, (refl, refl, λ e. refl)), tt))
       (1, le refl, le refl, point_passes _ _ _ _ _ refl, record { armed = refl; running = refl; moving = refl }))
       (two (right refl refl refl (refl, tt) (refl, tt) (refl, tt) refl (refl, tt) tt)

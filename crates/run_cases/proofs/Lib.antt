@@ -17,3 +17,4 @@ pub mod Readings
 pub mod RefusedHeir
 pub mod RefusedStart
 pub mod BusyBase
+pub mod Sleepers

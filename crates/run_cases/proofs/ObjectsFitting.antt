@@ -1,8 +1,9 @@
 -- Records that fit, of two lanes beside each other that call and look at objects: a witness for each, and what makes it fit.
-use Rattle.std.proofs.Common.{ℕ, true, false, List, [], ◌∷◌, None, refl, inl, inr}
+use Rattle.std.proofs.Common.{ℕ, true, false, List, [], ◌∷◌, None, Some, refl, inl, inr}
 use Rattle.clock_model.specs.declared.write.Write.TheVariants as writes
 use Rattle.ktime.specs.Times.{passed}
 use Rattle.ktime.specs.declared.clock_id.ClockId.TheVariants as clocks
+use Rattle.ktime.specs.declared.mode.Mode.TheVariants as modes
 use Rattle.seq_timer.specs.declared.context.Context.TheVariants as contexts
 use Rattle.seq_timer.specs.Systems.{after_entry, changed}
 use Rattle.record_text.specs.declared.record.AcceptReply.TheVariants as acceptances
@@ -20,14 +21,14 @@ use Rattle.script_text.specs.declared.script.Kind.TheVariants as kinds
 use Rattle.script_text.specs.declared.script.LaneCall.{LaneCall}
 use Rattle.run_history.specs.Actions.{Entered, Skipped, Wrote}
 use Rattle.run_history.specs.Fits.{Fits}
-use Rattle.run_history.specs.ObjectCalls.{MakesRearming, MakesSettime}
+use Rattle.run_history.specs.ObjectCalls.{AreValidFor, MakesAnew, MakesRearming}
 use Rattle.run_history.specs.Witnesses.{CountersList, TimersList, Trace, Witness}
 use Rattle.run_cases.specs.Fitting.{accepts_record, accepts_script, armed_record, armed_script, cancelable_entry, canceled_entry, canceled_record, canceled_script, disarmed_entry, nothing_accepted, real_start, seen_record, seen_script, set_record, set_script, skipped_record, skipped_script, two_expiries_record, two_expiries_script, unreadable_record, unreadable_script}
 use Rattle.run_cases.specs.Lines.{at, by, case_object_line, case_script, line, object_record, set_entry_of, set_start, settime_to}
 use Rattle.run_cases.proofs.Calls.{IsRight, right}
 use Rattle.run_cases.proofs.Small.{fits_by}
 use Rattle.run_cases.proofs.Tests.{le, lt, point_passes}
-use Rattle.run_cases.proofs.Witnesses.{armed_anew, armed_by, did, done_by, fired, ran, stays, step, three, turn_of, two, witness_along}
+use Rattle.run_cases.proofs.Witnesses.{set_anew, armed_by, did, done_by, fired, ran, stays, step, three, turn_of, two, witness_along}
 
 -- ---- calls that make an entry of an object
 
@@ -38,17 +39,13 @@ none_armed stamp = record { arm = armings.None; ns = 0; start = []; stamp = stam
 
 -- a settime that disarms an object, and was the first
 disarmed : {Reached : ℕ → ℕ → Type 0} {limit timer : ℕ}
-    → MakesSettime Reached limit (kinds.Fd 0) timer 0 (record { sec = 0; nsec = 0 }) (record { sec = 0; nsec = 0 }) 0 (settings.Old 0 0)
+    → MakesAnew Reached limit (kinds.Fd 0) timer (Some (record { mode = modes.Rel; ns = 0 })) 0 (λ arm. object_entries.Settime 0 0 0 0 arm (settings.Old 0 0))
     (turn_of timer 0 [] disarmed_entry)
-disarmed = record {
-  taken = record { known = refl; good_value = lt refl; good_interval = lt refl };
-  cancel = None;
-  arm = armings.None;
-  start = [];
-  stamp = 0;
-  arms = refl;
-  done = refl;
-}
+    × AreValidFor (kinds.Fd 0) 0 (record { sec = 0; nsec = 0 }) (record { sec = 0; nsec = 0 })
+disarmed = (
+  record { cancel = None; arm = armings.None; start = []; stamp = 0; arms = refl; done = refl },
+  record { known = refl; good_value = lt refl; good_interval = lt refl },
+)
 
 -- ---- a lane looks at a timer, and then whether its descriptor is readable, beside another lane's expiry run
 
@@ -77,7 +74,7 @@ unreadable_fits = fits_by unreadable_witness (record {
   placed = (refl, (refl, tt));
   calls = two (
       two (right refl refl refl (refl, tt) (refl, tt) (refl, tt) refl (refl, tt) tt)
-      (two (right refl refl refl (refl, tt) (refl, tt) (refl, tt) (armed_anew 0 1 (record { known = refl; good_value = lt refl; good_interval = lt refl })
+      (two (right refl refl refl (refl, tt) (refl, tt) (refl, tt) (set_anew 0 1 (record { known = refl; good_value = lt refl; good_interval = lt refl })
       (armed_by 1 5, refl, refl, stays refl refl refl)) (refl, ((refl, (refl, refl, λ e. refl)), tt))
       (2, le refl, le refl, point_passes _ _ _ _ _ refl, record { armed = refl; running = refl; moving = refl }))
       (two (right refl refl refl (refl, tt) (refl, tt) (refl, tt)
@@ -187,7 +184,7 @@ skipped_fits = fits_by skipped_witness (record {
   placed = (refl, (refl, tt));
   calls = two (
       two (right refl refl refl (refl, tt) (refl, tt) (refl, tt) refl (refl, tt) tt)
-      (two (right refl refl refl (refl, tt) (refl, tt) (refl, tt) (armed_anew 0 1 (record { known = refl; good_value = lt refl; good_interval = lt refl })
+      (two (right refl refl refl (refl, tt) (refl, tt) (refl, tt) (set_anew 0 1 (record { known = refl; good_value = lt refl; good_interval = lt refl })
       (armed_by 1 5, refl, refl, stays refl refl refl)) (refl, ((refl, (refl, refl, λ e. refl)), tt))
       (2, le refl, le refl, point_passes _ _ _ _ _ refl, record { armed = refl; running = refl; moving = refl }))
       (two (right refl refl refl (refl, tt) (refl, tt) (refl, tt)
@@ -234,13 +231,13 @@ two_expiries_fit = fits_by two_expiries_witness (record {
   placed = (refl, (refl, tt));
   calls = two (
       two (right refl refl refl (refl, tt) (refl, tt) (refl, tt) refl (refl, tt) tt)
-      (two (right refl refl refl (refl, tt) (refl, tt) (refl, tt) (armed_anew 0 1 (record { known = refl; good_value = lt refl; good_interval = lt refl })
+      (two (right refl refl refl (refl, tt) (refl, tt) (refl, tt) (set_anew 0 1 (record { known = refl; good_value = lt refl; good_interval = lt refl })
       (armed_by 1 5, refl, refl, stays refl refl refl)) (refl, ((refl, (refl, refl, λ e. refl)), tt))
       (2, le refl, le refl, point_passes _ _ _ _ _ refl, record { armed = refl; running = refl; moving = refl }))
       (two (right refl refl refl (refl, tt) (refl, tt) (refl, tt)
       (record { one_reading = refl; claimed = refl; done = refl; contexts = (refl, tt); bodies = ((inl (1, true, refl), refl), tt) }, lt refl)
       (refl, (tt, tt)) (done_by two_expiries_witness contexts.Hard 1 0 8 refl refl (refl, tt) (λ clock. (refl, tt))))
-      (two (right refl refl refl (refl, tt) (refl, tt) (refl, tt) (armed_anew 2 4 (record { known = refl; good_value = lt refl; good_interval = lt refl })
+      (two (right refl refl refl (refl, tt) (refl, tt) (refl, tt) (set_anew 2 4 (record { known = refl; good_value = lt refl; good_interval = lt refl })
       (armed_by 4 6, refl, refl, stays refl refl refl)) (refl, ((refl, (refl, refl, λ e. refl)), tt))
       (9, le refl, le refl, point_passes _ _ _ _ _ refl, record { armed = refl; running = refl; moving = refl }))
       (two (right refl refl refl (refl, tt) (refl, tt) (refl, tt)
@@ -277,7 +274,7 @@ canceled_fits = fits_by canceled_witness (record {
       (three (lt refl, (λ e. refl, λ e. refl)) refl tt)) tt;
   placed = (refl, (refl, tt));
   calls = two (
-      two (right refl refl refl (refl, tt) (refl, tt) (refl, tt) (armed_anew 0 1 (record { known = refl; good_value = lt refl; good_interval = lt refl })
+      two (right refl refl refl (refl, tt) (refl, tt) (refl, tt) (set_anew 0 1 (record { known = refl; good_value = lt refl; good_interval = lt refl })
       (record (armed_by 1 50) { placement = record { base = 0; clock = clocks.Realtime; soft = 50; expires = 50 } }, refl, refl, stays refl refl refl)) (refl, ((refl, (refl, refl, λ e. refl)), tt))
       (1, le refl, le refl, point_passes _ _ _ _ _ refl, record { armed = refl; running = refl; moving = refl }))
       (two (right refl refl refl (refl, tt) (refl, tt) (refl, tt)
@@ -301,7 +298,7 @@ set_beside looks told times = witness_along (case_script 1 2 (kinds.Posix 0 ∷ 
 set_right : (looks : List LaneCall) (told : List Answer) (times : List Trace) → IsRight (set_beside looks told times) (at 0 0) (settime_to 50) (answers.Old 0 0)
 unfolding after_entry changed passed
 set_right looks told times =
-    right refl refl refl (refl, tt) (refl, tt) (refl, tt) (armed_anew 0 1 (record { known = refl; good_value = lt refl; good_interval = lt refl })
+    right refl refl refl (refl, tt) (refl, tt) (refl, tt) (set_anew 0 1 (record { known = refl; good_value = lt refl; good_interval = lt refl })
     (armed_by 1 50, refl, refl, stays refl refl refl)) (refl, ((refl, (refl, refl, λ e. refl)), tt))
     (1, le refl, le refl, point_passes _ _ _ _ _ refl, record { armed = refl; running = refl; moving = refl })
 

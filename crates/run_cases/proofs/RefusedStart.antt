@@ -14,7 +14,7 @@ use Rattle.run_cases.specs.Wrong.{early_refusal_record}
 use Rattle.run_cases.proofs.Calls.{right}
 use Rattle.run_cases.proofs.Small.{fits_by}
 use Rattle.run_cases.proofs.Tests.{le, lt, point_passes}
-use Rattle.run_cases.proofs.Witnesses.{armed_anew, armed_by, did, stays, step, three, turn_of, two, witness_along}
+use Rattle.run_cases.proofs.Witnesses.{set_anew, armed_by, did, stays, step, three, turn_of, two, witness_along}
 
 -- ---- it is told of the timer with the cancel
 
@@ -45,27 +45,31 @@ full_fits = fits_by full_witness (record {
       (three (lt refl, refl, le refl, le refl, (λ e. absurd (cc), λ e. absurd (cc))) refl tt))) tt;
   placed = (refl, tt);
   calls = two (
-      two (right refl refl refl (refl, tt) (refl, tt) (refl, tt) (armed_anew 0 1 (record { known = refl; good_value = lt refl; good_interval = lt refl })
+      two (right refl refl refl (refl, tt) (refl, tt) (refl, tt) (set_anew 0 1 (record { known = refl; good_value = lt refl; good_interval = lt refl })
       (armed_by 1 50, refl, refl, stays refl refl refl)) (refl, ((refl, (refl, refl, λ e. refl)), tt))
       (1, le refl, le refl, point_passes _ _ _ _ _ refl, record { armed = refl; running = refl; moving = refl }))
-      (two (right refl refl refl (refl, tt) (refl, tt) (refl, tt) (record {
-        taken = record { known = refl; good_value = lt refl; good_interval = lt refl };
-        cancel = Some (2, 1);
-        arm = armings.Generation 3;
-        start = Entered 0 3 (set_start 60 0 false) ∷ [];
-        stamp = 1;
-        arms = (armed_by 3 60, refl, refl, stays refl refl refl);
-        done = refl;
-      }) (refl, ((refl, (refl, refl, λ e. refl)), tt)) tt)
-      (two (right refl refl refl (refl, tt) (refl, tt) (refl, tt) (record {
-        taken = record { known = refl; good_value = lt refl; good_interval = lt refl };
-        cancel = Some (4, 3);
-        arm = armings.Unarmed;
-        start = [];
-        stamp = 2;
-        arms = refl;
-        done = refl;
-      }) (refl, ((record { stamp = refl; holds = le refl }, refl), tt)) (
+      (two (right refl refl refl (refl, tt) (refl, tt) (refl, tt) (
+        record {
+          cancel = Some (2, 1);
+          arm = armings.Generation 3;
+          start = Entered 0 3 (set_start 60 0 false) ∷ [];
+          stamp = 1;
+          arms = (armed_by 3 60, refl, refl, stays refl refl refl);
+          done = refl;
+        },
+        record { known = refl; good_value = lt refl; good_interval = lt refl },
+      ) (refl, ((refl, (refl, refl, λ e. refl)), tt)) tt)
+      (two (right refl refl refl (refl, tt) (refl, tt) (refl, tt) (
+        record {
+          cancel = Some (4, 3);
+          arm = armings.Unarmed;
+          start = [];
+          stamp = 2;
+          arms = refl;
+          done = refl;
+        },
+        record { known = refl; good_value = lt refl; good_interval = lt refl },
+      ) (refl, ((record { stamp = refl; holds = le refl }, refl), tt)) (
         tt,
         record {
           early = Began 0 2 ∷ Entered 0 4 (cancel_entry 3) ∷ [];

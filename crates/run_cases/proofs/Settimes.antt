@@ -130,7 +130,7 @@ module _ {w : Witness} {c : Label} {flags left old : ℕ} {value interval : Time
       → FitsCall w c (calls.Settime t flags value interval) (answers.Old left old) before after → (one.1.event ≡ events.Cancel → ⊥)
       → one ∷ more ≡ entered t (w.traces c).actions → slice_get (timer_labels w.run t) k ≡ Some c → FoundIdle w c t k
   settime_idle f t k one more fits other entries line =
-      let m = fits.does in
+      let m = fits.does.0 in
       let tr = w.traces c in
       let e = object_entries.Settime flags (nanoseconds_of value) (nanoseconds_of interval) tr.at m.arm (settings.Old left old) in
       let was = idle_uncancelled _ _ _ _ _ _ w c t tr.first tr.last m.stamp (m.stamp + 1) e m.arm m.start m.cancel one more other m.arms
@@ -150,7 +150,7 @@ module _ {w : Witness} {c : Label} {flags left old : ℕ} {value interval : Time
       → own (λ line. line.label) (λ line. line.entry) c 1 (lines_of_object w.run t) ≡ (stamp + 1, entry) ∷ [] → TakesTurn w c t stamp
   settime_turn t stamp entry fits one =
       let tr = w.traces c in
-      let m = fits.does in
+      let m = fits.does.0 in
       let mid = cancels t m.cancel ++ m.start in
       let e = object_entries.Settime flags (nanoseconds_of value) (nanoseconds_of interval) tr.at m.arm (settings.Old left old) in
       let its : (stamp + 1, entry) ∷ [] ≡ made t mid ++ (m.stamp + 1, e) ∷ [] =

@@ -3,6 +3,7 @@ use Rattle.std.proofs.Common.{◌≡◌, ◌≤◌, ℕ, ◌+◌, zero, suc, Boo
 use Rattle.std.specs.List.{AllByRecursion, list_all}
 use Rattle.std.proofs.lemmas.Bool.{and_parts, true≢false}
 use Rattle.std.proofs.lemmas.List.{get_or_past, length-map, take-map}
+use Rattle.ktime.specs.declared.mode.Mode.{Mode}
 use Rattle.ktime.specs.declared.timespec.TimeSpec.{TimeSpec}
 use Rattle.ktime.specs.declared.clock_id.ClockId.{ClockId}
 use Rattle.ktime.specs.declared.clock_id.ClockId.TheVariants as clocks
@@ -17,6 +18,7 @@ use Rattle.seq_timer.specs.declared.system.TimerEntry.{TimerEntry}
 use Rattle.seq_timer.proofs.Systems.{after_entries-entries_of}
 use Rattle.record_text.specs.declared.record.ClockLine.{ClockLine}
 use Rattle.seq_timer.specs.declared.event.Restarted.TheVariants as restarts
+use Rattle.record_text.specs.declared.record.Armed.{Armed}
 use Rattle.record_text.specs.declared.record.Armed.TheVariants as armings
 use Rattle.record_text.specs.declared.record.Entry.{Entry}
 use Rattle.record_text.specs.declared.record.ObjectEntry.{ObjectEntry}
@@ -33,7 +35,8 @@ use Rattle.script_text.specs.Declarations.{base_of, declared_as, declareds_of, t
 use Rattle.run_history.specs.Order.{calls_from}
 use Rattle.run_history.specs.Starts.{Arming, IsArming, IsJustBefore, IsSentBy, first_number}
 use Rattle.run_history.specs.Deeds.{fires}
-use Rattle.run_history.specs.ObjectCalls.{AreValidFor, Arms, MakesSettime, nanoseconds_of, start_mode}
+use Rattle.run_history.specs.ObjectCalls.{AreValidFor, Arms, MakesAnew, nanoseconds_of}
+use Rattle.timer_setting.specs.Arguments.{mode_by}
 use Rattle.run_history.specs.Truths.{IsDone}
 use Rattle.run_history.specs.Witnesses.{Witness, entries_in, entry_of_move, Fired, is_owner, Move, moves_on, OfBase, OfRise, OfTimer, Owner, owner_of, Shown, system_along, timer_along, TimersList, Trace}
 use Rattle.run_history.specs.Receipts.{move_at}
@@ -115,22 +118,27 @@ stays {Reached} {limit} {base} {a} below none same = record {
   way = subst (λ outs. IsSentBy Reached base (map (λ out. out.base) outs) a.asked) (sym none) ([], same);
 }
 
--- a settime that found its timer idle, and starts it by this entry
-pub armed_anew : {Reached : ℕ → ℕ → Type 0} {limit flags reading : ℕ} {kind : Kind} {value interval : TimeSpec} {entry : Entry} (stamp number : ℕ)
+-- a call on an object that found its timer idle, starts it by this entry, and makes this entry of its object
+pub armed_anew : {Reached : ℕ → ℕ → Type 0} {limit reading ns : ℕ} {kind : Kind} {mode : Mode} {entry : Entry} (of_object : Armed → ObjectEntry)
+    (stamp number : ℕ) → Arms Reached limit 0 mode ns reading (base_of kind) (armings.Generation number) (Entered 0 number entry ∷ [])
+    → MakesAnew Reached limit kind 0 (Some (record { mode = mode; ns = ns })) reading of_object
+    (turn_of 0 stamp (Entered 0 number entry ∷ []) (of_object (armings.Generation number)))
+armed_anew {entry = entry} of_object stamp number arms =
+    record { cancel = None; arm = armings.Generation number; start = Entered 0 number entry ∷ []; stamp = stamp; arms = arms; done = refl }
+
+-- a settime that did
+pub set_anew : {Reached : ℕ → ℕ → Type 0} {limit flags reading : ℕ} {kind : Kind} {value interval : TimeSpec} {entry : Entry} (stamp number : ℕ)
     → AreValidFor kind flags value interval
-    → Arms Reached limit 0 (start_mode kind flags) (nanoseconds_of value) reading (base_of kind) (armings.Generation number) (Entered 0 number entry ∷ [])
-    → MakesSettime Reached limit kind 0 flags value interval reading (settings.Old 0 0)
+    → Arms Reached limit 0 (mode_by flags) (nanoseconds_of value) reading (base_of kind) (armings.Generation number) (Entered 0 number entry ∷ [])
+    → MakesAnew Reached limit kind 0 (Some (record { mode = mode_by flags; ns = nanoseconds_of value })) reading
+    (λ arm. object_entries.Settime flags (nanoseconds_of value) (nanoseconds_of interval) reading arm (settings.Old 0 0))
     (turn_of 0 stamp (Entered 0 number entry ∷ [])
     (object_entries.Settime flags (nanoseconds_of value) (nanoseconds_of interval) reading (armings.Generation number) (settings.Old 0 0)))
-armed_anew {entry = entry} stamp number valid arms = record {
-  taken = valid;
-  cancel = None;
-  arm = armings.Generation number;
-  start = Entered 0 number entry ∷ [];
-  stamp = stamp;
-  arms = arms;
-  done = refl;
-}
+    × AreValidFor kind flags value interval
+set_anew {flags = flags} {reading = reading} {value = value} {interval = interval} stamp number valid arms = (
+  armed_anew (λ arm. object_entries.Settime flags (nanoseconds_of value) (nanoseconds_of interval) reading arm (settings.Old 0 0)) stamp number arms,
+  valid,
+)
 
 -- whether a start, if it is one, finds its base on line
 abbrev pub finds : Bool → Option ℕ → Bool

@@ -17,7 +17,10 @@ use Rattle.record_text.specs.declared.record.Entry.{Entry}
 use Rattle.record_text.specs.declared.record.ObjectEntry.TheVariants as object_entries
 use Rattle.record_text.specs.declared.record.ObjectEntry.{ObjectEntry}
 use Rattle.record_text.specs.declared.record.ObjectLine.{ObjectLine}
+use Rattle.record_text.specs.declared.record.InterruptReply.{InterruptReply}
+use Rattle.record_text.specs.declared.record.InterruptReply.TheVariants as ended
 use Rattle.record_text.specs.declared.record.ReadReply.TheVariants as reads
+use Rattle.record_text.specs.declared.record.SleepReply.TheVariants as sleeps
 use Rattle.record_text.specs.declared.record.RunRecord.{RunRecord}
 use Rattle.record_text.specs.declared.record.SettimeReply.TheVariants as settings
 use Rattle.record_text.specs.declared.record.TimerLine.{TimerLine}
@@ -27,7 +30,7 @@ use Rattle.script_text.specs.declared.script.Call.TheVariants as calls
 use Rattle.script_text.specs.declared.script.Callback.TheVariants as callbacks
 use Rattle.script_text.specs.declared.script.Kind.TheVariants as kinds
 use Rattle.script_text.specs.declared.script.Script.{Script}
-use Rattle.run_cases.specs.Lines.{advance_line, at, object_record, set_entry_of, set_start, settime_to, base_line, by, case_object_line, case_script, case_start, claim_lines, hard_expire, hard_raw, line, off_line_record, case_start_entry, raw_record, case_record_in, case_script_in, slack_entry, slack_start, start, cancel_entry, claim_entry, finish_entry, out_entry}
+use Rattle.run_cases.specs.Lines.{advance_line, at, base_line, by, cancel_entry, case_object_line, case_record_in, case_script, case_script_in, case_start, case_start_entry, claim_entry, claim_lines, finish_entry, hard_expire, hard_raw, line, object_record, off_line_record, out_entry, raw_record, set_entry_of, set_start, settime_to, slack_entry, slack_start, sleep_of, sleeper_record, sleeper_script, start}
 
 -- ---- a timer is started, expires, is cancelled when it is idle, and is looked at
 
@@ -494,3 +497,47 @@ busy_by looked = record (case_record_in versions.Two []
 -- its record: the look was before the claim
 abbrev pub busy_record : RunRecord
 busy_record = busy_by (answers.Peek 2 1 true false false)
+
+-- ---- a sleep's time comes, which is looked at, and told by an interrupt
+
+-- the script
+abbrev pub woken_script : Script
+woken_script = sleeper_script (sleep_of 0 10 ∷ calls.Clock (writes.Advance 10) ∷ hard_expire 0 4 ∷ calls.Slept 0 ∷ calls.Interrupt 0 ∷ [])
+
+-- the sleep's entry of the sleeper
+abbrev pub asleep_entry : ObjectEntry
+asleep_entry = object_entries.Sleep 0 10 0 (armings.Generation 1) sleeps.Asleep
+
+-- its record
+abbrev pub woken_record : RunRecord
+woken_record = sleeper_record (advance_line 0 1 10 ∷ [])
+    (line 0 0 (start modes.Rel 10 10) ∷ line 0 2 (claim_entry 0 1 1) ∷ line 0 2 (finish_entry false 1) ∷ [])
+    (case_object_line 0 0 asleep_entry ∷ case_object_line 0 2 (object_entries.Trigger 1 1 true)
+    ∷ case_object_line 0 4 (object_entries.Interrupt 1 ended.Slept) ∷ [])
+    (answers.Asleep ∷ answers.Clock 1 ∷ answers.Done 1 (0 ∷ []) ∷ answers.SleptAt 2 ∷ answers.Slept ∷ [])
+
+-- ---- a sleep for so long is interrupted, and tells the time left; one up to a time is, and tells none; one up to a time that has come isn't begun
+
+-- the script
+abbrev pub interrupted_script : Script
+interrupted_script = sleeper_script (sleep_of 0 100 ∷ calls.Clock (writes.Advance 30) ∷ calls.Interrupt 0 ∷ sleep_of 1 100 ∷ calls.Interrupt 0
+    ∷ sleep_of 1 30 ∷ [])
+
+-- the start of the second sleep
+abbrev pub second_start : Entry
+second_start = case_start_entry modes.Abs 100 1 0 0 100 false
+
+-- by how the second sleep ended, and what was then answered
+abbrev pub interrupted_by : InterruptReply → Answer → RunRecord
+interrupted_by reply answer = sleeper_record (advance_line 0 1 30 ∷ [])
+    (line 0 0 (start modes.Rel 100 100) ∷ line 0 2 (cancel_entry 1) ∷ line 0 3 second_start ∷ line 0 4 (cancel_entry 3) ∷ [])
+    (case_object_line 0 0 (object_entries.Sleep 0 100 0 (armings.Generation 1) sleeps.Asleep)
+    ∷ case_object_line 0 2 (object_entries.Interrupt 1 (ended.Left 70))
+    ∷ case_object_line 0 3 (object_entries.Sleep 1 100 1 (armings.Generation 3) sleeps.Asleep)
+    ∷ case_object_line 0 4 (object_entries.Interrupt 1 reply)
+    ∷ case_object_line 0 5 (object_entries.Sleep 1 30 1 armings.None sleeps.Slept) ∷ [])
+    (answers.Asleep ∷ answers.Clock 1 ∷ answers.SleepLeft 70 ∷ answers.Asleep ∷ answer ∷ answers.Slept ∷ [])
+
+-- its record
+abbrev pub interrupted_record : RunRecord
+interrupted_record = interrupted_by ended.Interrupted answers.Interrupted

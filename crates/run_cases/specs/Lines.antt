@@ -174,3 +174,16 @@ object_record clock timers objects answers = record {
   objects = objects;
   answers = answers;
 }
+
+-- a sleep of timer 0, of so many nanoseconds or up to that time
+abbrev pub sleep_of : ℕ → ℕ → Call
+sleep_of flags ns = calls.Sleep 0 flags (record { sec = 0; nsec = ns })
+
+-- a script of version 2 with one sleeper, one lane and these calls
+abbrev pub sleeper_script : List Call → Script
+sleeper_script called = case_script_in versions.Two 1 1 (kinds.Sleeper 0 ∷ []) (map (by 0) called ∷ [])
+
+-- its record
+abbrev pub sleeper_record : List ClockLine → List TimerLine → List ObjectLine → List Answer → RunRecord
+sleeper_record clock timers objects answers =
+    record (object_record clock (timers ∷ []) (objects ∷ []) (answers ∷ [])) { version = versions.Two }

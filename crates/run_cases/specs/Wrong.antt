@@ -6,6 +6,7 @@ use Rattle.seq_timer.specs.declared.context.Context.TheVariants as contexts
 use Rattle.seq_timer.specs.declared.standing.BaseEvent.TheVariants as shifts
 use Rattle.record_text.specs.declared.record.Answer.TheVariants as answers
 use Rattle.record_text.specs.declared.record.Entry.{Entry}
+use Rattle.record_text.specs.declared.record.InterruptReply.TheVariants as ended
 use Rattle.record_text.specs.declared.record.ObjectEntry.TheVariants as object_entries
 use Rattle.record_text.specs.declared.record.RunRecord.{RunRecord}
 use Rattle.record_text.specs.declared.record.TimerLine.{TimerLine}
@@ -16,8 +17,8 @@ use Rattle.script_text.specs.declared.script.Callback.TheVariants as callbacks
 use Rattle.script_text.specs.declared.script.Kind.TheVariants as kinds
 use Rattle.script_text.specs.declared.script.Kind.{Kind}
 use Rattle.script_text.specs.declared.script.Script.{Script}
-use Rattle.run_cases.specs.Fitting.{accepts_by, armed_seen_by, awaited_by, busy_by, canceled_by, first_expiry, full_by, nothing_by, read_again, refused_by, second_set, seen_by, set_seen_by, skipped_by, started_by, two_expiries_by, unreadable_by}
-use Rattle.run_cases.specs.Lines.{advance_line, at, object_record, set_entry_of, set_start, settime_to, base_line, by, case_object_line, case_script, case_start, claim_lines, hard_expire, hard_raw, line, off_line_record, out_entry, case_start_entry, raw_record, case_record_in, case_script_in, slack_entry, slack_start, start, cancel_entry, claim_entry, finish_entry}
+use Rattle.run_cases.specs.Fitting.{accepts_by, armed_seen_by, asleep_entry, awaited_by, busy_by, canceled_by, first_expiry, full_by, interrupted_by, nothing_by, read_again, refused_by, second_set, seen_by, set_seen_by, skipped_by, started_by, two_expiries_by, unreadable_by}
+use Rattle.run_cases.specs.Lines.{advance_line, at, base_line, by, cancel_entry, case_object_line, case_record_in, case_script, case_script_in, case_start, case_start_entry, claim_entry, claim_lines, finish_entry, hard_expire, hard_raw, line, object_record, off_line_record, out_entry, raw_record, set_entry_of, set_start, settime_to, slack_entry, slack_start, sleep_of, sleeper_record, sleeper_script, start}
 
 -- two timers whose callbacks do nothing
 abbrev pub two_timers : List Kind
@@ -310,3 +311,20 @@ silent_script = two_bases (calls.Offline 1 0 4 ∷ calls.Online 1 ∷ [])
 -- a record that breaks it
 abbrev pub silent_record : RunRecord
 silent_record = off_line_record ([] ∷ (base_line 0 (shifts.Offline 0) ∷ []) ∷ []) ([] ∷ []) (answers.Offline 0 1 ∷ answers.Online 2 ∷ [])
+
+-- ---- a sleep up to a time tells the time left: the script of the interrupted sleeps
+
+-- a record that breaks it
+abbrev pub time_left_record : RunRecord
+time_left_record = interrupted_by (ended.Left 70) (answers.SleepLeft 70)
+
+-- ---- a sleep is over before its time
+
+-- the script
+abbrev pub early_sleep_script : Script
+early_sleep_script = sleeper_script (sleep_of 0 10 ∷ calls.Slept 0 ∷ [])
+
+-- a record that breaks it
+abbrev pub early_sleep_record : RunRecord
+early_sleep_record = sleeper_record [] (line 0 0 (start modes.Rel 10 10) ∷ []) (case_object_line 0 0 asleep_entry ∷ [])
+    (answers.Asleep ∷ answers.SleptAt 1 ∷ [])

@@ -123,3 +123,15 @@ pub fn an_heir_off_line_is_refused()
 pub fn a_base_stays_on_line_while_a_function_runs_there()
     ensures { Fits fitting.busy_script fitting.busy_record }
 {}
+
+/// A sleep's time comes: it is looked at, and an interrupt tells it.
+#[tactic(auto, using(crate::proofs::Sleepers::woken_fits))]
+pub fn a_sleep_is_over_when_its_time_has_come()
+    ensures { Fits fitting.woken_script fitting.woken_record }
+{}
+
+/// A sleep for so long tells the time left when it is interrupted, one up to a time doesn't, and one up to a time that has come isn't begun.
+#[tactic(auto, using(crate::proofs::Sleepers::interrupted_fits))]
+pub fn an_interrupted_sleep_tells_the_time_left()
+    ensures { Fits fitting.interrupted_script fitting.interrupted_record }
+{}

@@ -177,3 +177,15 @@ pub fn no_base_goes_off_line_to_an_heir_off_line()
 pub fn a_base_comes_on_line_by_an_entry()
     ensures { Fits wrong.silent_script wrong.silent_record → ⊥ }
 {}
+
+/// A sleep up to a time that is interrupted tells no time left.
+#[tactic(auto, using(crate::proofs::Sleepers::time_left_doesnt_fit))]
+pub fn no_time_left_of_a_sleep_up_to_a_time()
+    ensures { Fits fitting.interrupted_script wrong.time_left_record → ⊥ }
+{}
+
+/// A sleep isn't over before its time.
+#[tactic(auto, using(crate::proofs::Sleepers::early_sleep_doesnt_fit))]
+pub fn no_sleep_is_over_before_its_time()
+    ensures { Fits wrong.early_sleep_script wrong.early_sleep_record → ⊥ }
+{}

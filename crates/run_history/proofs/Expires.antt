@@ -246,6 +246,7 @@ module _ {w : Witness} {order : List SystemEntry} {context : Context} {base at :
       by_kind (kinds.Raw x callback) is = by_callback callback is
       by_kind (kinds.Posix on) is = by_trigger is
       by_kind (kinds.Fd on) is = by_trigger is
+      by_kind (kinds.Sleeper on) is = by_trigger is
 
   fire_true : AreTrue w c from before (fires base at f) to
   fire_true = (

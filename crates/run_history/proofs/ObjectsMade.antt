@@ -8,7 +8,7 @@ use Rattle.ktime.specs.declared.timespec.TimeSpec.{TimeSpec}
 use Rattle.seq_timer.specs.Histories.{Holds}
 use Rattle.seq_timer.specs.declared.observation.Observation.TheVariants as observations
 use Rattle.timer_fd.specs.Steps.{count_length}
-use Rattle.record_text.specs.Replies.{answer_of_accept, answer_of_read, answer_of_settime}
+use Rattle.record_text.specs.Replies.{answer_of_accept, answer_of_interrupt, answer_of_read, answer_of_settime, answer_of_sleep}
 use Rattle.record_text.specs.declared.record.AcceptReply.TheVariants as acceptances
 use Rattle.record_text.specs.declared.record.AcceptReply.{AcceptReply}
 use Rattle.record_text.specs.declared.record.Answer.TheVariants as answers
@@ -22,15 +22,21 @@ use Rattle.record_text.specs.declared.record.ReadReply.TheVariants as reads
 use Rattle.record_text.specs.declared.record.ReadReply.{ReadReply}
 use Rattle.record_text.specs.declared.record.SettimeReply.TheVariants as settings
 use Rattle.record_text.specs.declared.record.SettimeReply.{SettimeReply}
+use Rattle.record_text.specs.declared.record.SleepReply.TheVariants as sleeps
+use Rattle.record_text.specs.declared.record.SleepReply.{SleepReply}
+use Rattle.record_text.specs.declared.record.InterruptReply.TheVariants as interrupts
+use Rattle.record_text.specs.declared.record.InterruptReply.{InterruptReply}
+use Rattle.timer_setting.specs.Arguments.{mode_by}
+use Rattle.timer_setting.specs.declared.arming.Wanted.{Wanted}
 use Rattle.run_history.specs.Actions.{Action, Began, Made}
-use Rattle.run_history.specs.ObjectCalls.{AreValidFor, Arms, cancels, MakesRearming, MakesSettime, nanoseconds_of, start_mode}
+use Rattle.run_history.specs.ObjectCalls.{AreValidFor, Arms, ArmsAs, cancels, IsValidSleep, MakesAnew, MakesRearming, nanoseconds_of}
 use Rattle.script_text.specs.Declarations.{base_of, kind_of, without_slack}
 use Rattle.run_history.specs.Starts.{SentTo, arming_actions}
 use Rattle.script_text.specs.declared.script.Call.TheVariants as calls
 use Rattle.script_text.specs.declared.script.Call.{Call}
 use Rattle.script_text.specs.declared.script.Kind.TheVariants as kinds
 use Rattle.run_history.specs.Calls.{AnswerHolds, Does, IsFd}
-use Rattle.run_history.specs.Truths.{DisarmedFirst, IsMoment, IsTrueEntry, IsTrueStart, SawRefusal, WasIdle, WasOffLine}
+use Rattle.run_history.specs.Truths.{DisarmedFirst, IsMoment, IsTrueEntry, IsTrueStart, RefusedBefore, SawRefusal, WasIdle, WasOffLine}
 use Rattle.run_history.specs.Witnesses.{Witness, timer_along}
 use Rattle.run_history.specs.Fits.{FitsCall, Seen}
 use Rattle.run_history.specs.Receipts.{PlacedEntry}
@@ -52,19 +58,23 @@ plain_both : (timer : ℕ) (cancel : Option (ℕ × ℕ)) (start : List Action) 
 plain_both timer None start plain = plain
 plain_both timer (Some c) start plain = (tt, plain)
 
--- ---- a settime
+-- ---- a settime, a sleep, an interrupt
 
--- how a settime disarmed its timer: it cancelled it, or it was idle where the call had begun its turn
+-- a start that such a call wants, or none, is no turn of an object
+plain_anew : (Reached : ℕ → ℕ → Type 0) (limit timer at base : ℕ) (wanted : Option Wanted) (arm : Armed) (start : List Action)
+    → ArmsAs Reached limit timer wanted at base arm start → AllByRecursion IsPlain start
+plain_anew Reached limit timer at base None arm start is = subst (AllByRecursion IsPlain) (sym is.1) tt
+plain_anew Reached limit timer at base (Some wanted) arm start is = plain_start Reached limit timer wanted.ns at base wanted.mode arm start is
+
+-- how such a call disarmed its timer: it cancelled it, or it was idle where the call had begun its turn
 abbrev pub FoundIdle : Witness → ℕ → Option (ℕ × ℕ) → ℕ → Type 0
 FoundIdle w timer None begun = Holds (timer_along w begun timer) observations.Idle
 FoundIdle w timer (Some cancel) begun = Unit
 
--- what a settime of a reading that makes an entry knows at its end, between a moment before its turn and its last
-pub record IsSet (w : Witness) (c : Label) (notes : List PlacedEntry) (at begin last timer flags : ℕ) (value interval : TimeSpec) (cancel : Option (ℕ × ℕ))
+-- what such a call of a reading that makes an entry knows at its end, between a moment before its turn and its last
+pub record IsAnew (w : Witness) (c : Label) (notes : List PlacedEntry) (at begin last timer : ℕ) (wanted : Option Wanted) (cancel : Option (ℕ × ℕ))
     (arm : Armed) (start : List Action) (stamp : ℕ) : Type 0 where
-  pub taken : AreValidFor (kind_of w.script timer) flags value interval
-  pub arms : Arms (WasOffLine w begin last) w.script.limit timer (start_mode (kind_of w.script timer) flags) (nanoseconds_of value) at (base_of
-      (kind_of w.script timer)) arm start
+  pub arms : ArmsAs (WasOffLine w begin last) w.script.limit timer wanted at (base_of (kind_of w.script timer)) arm start
   -- where its turn had begun, and where it had made its entries of the timer, which it had found idle or cancelled; the object's was yet to come
   pub begun : ℕ
   pub ends : ℕ
@@ -78,20 +88,16 @@ pub record IsSet (w : Witness) (c : Label) (notes : List PlacedEntry) (at begin 
   -- what the object's entry tells of the start holds there
   pub holds : IsTrueStart w timer (stamp + 1) true arm ends
 
--- the object's entry of a settime
-abbrev pub settime_entry : ℕ → ℕ → TimeSpec → TimeSpec → SettimeReply → Armed → ObjectEntry
-settime_entry at flags value interval reply arm = object_entries.Settime flags (nanoseconds_of value) (nanoseconds_of interval) at arm reply
+-- what such a call did, behind so many entries of the object
+abbrev pub anew_actions : ℕ → Option (ℕ × ℕ) → List Action → ℕ → ObjectEntry → List Action
+anew_actions timer cancel start stamp entry = Began timer stamp ∷ cancels timer cancel ++ start ++ Made timer (stamp + 1) entry ∷ []
 
--- what a settime did, behind so many entries of the object
-abbrev pub settime_actions : ℕ → Option (ℕ × ℕ) → List Action → ℕ → ObjectEntry → List Action
-settime_actions timer cancel start stamp entry = Began timer stamp ∷ cancels timer cancel ++ start ++ Made timer (stamp + 1) entry ∷ []
-
-disarmed : (Reached : ℕ → ℕ → Type 0) (limit : ℕ) (w : Witness) (c : Label) (timer ns at base begin begun last : ℕ) (mode : Mode) (cancel : Option (ℕ × ℕ))
-    (arm : Armed) (start : List Action) (stamp : ℕ) (entry : ObjectEntry) → Arms Reached limit timer mode ns at base arm start → FoundIdle w timer cancel begun
-    → begin ≤ begun → begun ≤ last → IsMoment w c (Began timer stamp ∷ []) begun
-    → DisarmedFirst w c begin last timer (settime_actions timer cancel start stamp entry)
-disarmed Reached limit w c timer ns at base begin begun last mode (Some cancel) arm start stamp entry arms idle from to point = tt
-disarmed Reached limit w c timer ns at base begin begun last mode None arm start stamp entry arms idle from to point = by_start arm arms
+disarmed : (Reached : ℕ → ℕ → Type 0) (limit : ℕ) (w : Witness) (c : Label) (timer at base begin begun last : ℕ) (wanted : Option Wanted)
+    (cancel : Option (ℕ × ℕ)) (arm : Armed) (start : List Action) (stamp : ℕ) (entry : ObjectEntry) → ArmsAs Reached limit timer wanted at base arm start
+    → FoundIdle w timer cancel begun → begin ≤ begun → begun ≤ last → IsMoment w c (Began timer stamp ∷ []) begun
+    → DisarmedFirst w c begin last timer (anew_actions timer cancel start stamp entry)
+disarmed Reached limit w c timer at base begin begun last wanted (Some cancel) arm start stamp entry arms idle from to point = tt
+disarmed Reached limit w c timer at base begin begun last wanted None arm start stamp entry arms idle from to point = by_wanted wanted arms
   where
     this : List Action
     this = Made timer (stamp + 1) entry ∷ []
@@ -99,10 +105,14 @@ disarmed Reached limit w c timer ns at base begin begun last mode None arm start
     was : WasIdle w c begin last timer (Began timer stamp ∷ [])
     was = (begun, from, to, point, idle)
 
-    by_start : (arm : Armed) → Arms Reached limit timer mode ns at base arm start → DisarmedFirst w c begin last timer (Began timer stamp ∷ start ++ this)
-    by_start armings.None is = subst (λ ds. DisarmedFirst w c begin last timer (Began timer stamp ∷ ds ++ this)) (sym is) was
-    by_start armings.Unarmed is = subst (λ ds. DisarmedFirst w c begin last timer (Began timer stamp ∷ ds ++ this)) (sym is) was
-    by_start (armings.Generation generation) is =
+    none : start ≡ [] → DisarmedFirst w c begin last timer (Began timer stamp ∷ start ++ this)
+    none is = subst (λ ds. DisarmedFirst w c begin last timer (Began timer stamp ∷ ds ++ this)) (sym is) was
+
+    by_start : (mode : Mode) (ns : ℕ) (arm : Armed) → Arms Reached limit timer mode ns at base arm start
+        → DisarmedFirst w c begin last timer (Began timer stamp ∷ start ++ this)
+    by_start mode ns armings.None is = none is
+    by_start mode ns armings.Unarmed is = none is
+    by_start mode ns (armings.Generation generation) is =
         subst (λ ds. DisarmedFirst w c begin last timer (Began timer stamp ∷ ds ++ this)) (sym is.1) (go is.0.outs)
       where
         go : (outs : List SentTo) → DisarmedFirst w c begin last timer
@@ -110,64 +120,127 @@ disarmed Reached limit w c timer ns at base begin begun last mode None arm start
         go [] = was
         go (out ∷ outs) = was
 
--- where its start was refused, the timer's history was full when it had made its entries of the timer
+    by_wanted : (wanted : Option Wanted) → ArmsAs Reached limit timer wanted at base arm start
+        → DisarmedFirst w c begin last timer (Began timer stamp ∷ start ++ this)
+    by_wanted None is = none is.1
+    by_wanted (Some wanted) is = by_start wanted.mode wanted.ns arm is
+
+module _ {w : Witness} {moves : Spans} {c : Label} {at begin last timer : ℕ} {wanted : Option Wanted} {cancel : Option (ℕ × ℕ)} {arm : Armed}
+    {start : List Action} {stamp : ℕ} {notes : List PlacedEntry} {call : Call} {answer : Answer} {before after : Seen} (entry : Armed → ObjectEntry)
+    (kept : IsKept w moves c (plain at begin last (anew_actions timer cancel start stamp (entry arm))) notes call answer before after)
+    (low : moves.first c ≤ begin) (anew : IsAnew w c notes at begin last timer wanted cancel arm start stamp) where
+  abbrev turn : List Action
+  turn = Began timer stamp ∷ cancels timer cancel ++ start
+
+  point : IsMoment w c turn anew.ends
+  point = moment_of kept turn anew.ends (omega (arith, low, anew.from, anew.between)) anew.high anew.stops
+
+  -- such a call disarmed its timer first
+  first : DisarmedFirst w c begin last timer (anew_actions timer cancel start stamp (entry arm))
+  first =
+      disarmed (WasOffLine w begin last) w.script.limit w c timer at (base_of (kind_of w.script timer)) begin anew.begun last wanted cancel arm start stamp
+      (entry arm) anew.arms anew.idle anew.from (omega (arith, anew.between, anew.high))
+      (moment_of kept (Began timer stamp ∷ []) anew.begun (omega (arith, low, anew.from)) (omega (arith, anew.between, anew.high)) anew.begins)
+
+  -- its start was refused just before the object's entry
+  refused_before : (full : ℕ) → SawRefusal w timer full anew.ends
+      → RefusedBefore w c begin last (anew_actions timer cancel start stamp (entry arm)) timer full
+  refused_before full saw = record {
+    early = turn;
+    number = stamp + 1;
+    entry = entry arm;
+    done = refl;
+    moment = anew.ends;
+    from = omega (arith, anew.from, anew.between);
+    to = anew.high;
+    point = point;
+    refused = saw;
+  }
+
+  anew_made : (IsTrueStart w timer (stamp + 1) true arm anew.ends → IsTrueEntry w timer (stamp + 1) (entry arm) anew.ends)
+      → (MakesAnew (WasOffLine w begin last) w.script.limit (kind_of w.script timer) timer wanted at entry (anew_actions timer cancel start stamp (entry arm))
+      → Does (WasOffLine w begin last) w.script at call answer [] [] (anew_actions timer cancel start stamp (entry arm)))
+      → AnswerHolds w begin last c at (anew_actions timer cancel start stamp (entry arm)) call answer → FitsCall w c call answer before after
+  anew_made holds does seen =
+      let upto : begin ≤ anew.ends = omega (arith, anew.from, anew.between) in
+      call_made kept low (omega (arith, upto, anew.high)) anew.behind
+      (does (record { cancel = cancel; arm = arm; start = start; stamp = stamp; arms = anew.arms; done = refl }))
+      (none_moved _ call, none_moved _ call)
+      (plain_then w c begin anew.ends last [] turn (Made timer (stamp + 1) (entry arm)) (
+        tt,
+        plain_both timer cancel start
+            (plain_anew (WasOffLine w begin last) w.script.limit timer at (base_of (kind_of w.script timer)) wanted arm start anew.arms),
+      ) upto anew.high (point, holds anew.holds))
+      seen
+
+-- where its start was refused, the timer's history was full when the call had made its entries of the timer
 abbrev pub RefusedBy : Witness → ℕ → SettimeReply → ℕ → Type 0
 RefusedBy w timer (settings.Old left old) last = Unit
 RefusedBy w timer settings.Canceled last = Unit
 RefusedBy w timer (settings.Unarmed stamp) last = SawRefusal w timer stamp last
 
-module _ (reply : SettimeReply) {w : Witness} {moves : Spans} {c : Label} {at begin last timer flags : ℕ} {value interval : TimeSpec}
-    {cancel : Option (ℕ × ℕ)} {arm : Armed} {start : List Action} {stamp : ℕ} {notes : List PlacedEntry} {before after : Seen}
-    (kept : IsKept w moves c (plain at begin last (settime_actions timer cancel start stamp (settime_entry at flags value interval reply arm))) notes
-    (calls.Settime timer flags value interval) (answer_of_settime reply) before after)
-    (low : moves.first c ≤ begin) (set : IsSet w c notes at begin last timer flags value interval cancel arm start stamp)
-    (refused : RefusedBy w timer reply set.ends) where
-  -- law: a settime that makes an entry fits
-  pub settime_made : FitsCall w c (calls.Settime timer flags value interval) (answer_of_settime reply) before after
-  settime_made =
-      let kind = kind_of w.script timer in
-      let entry = settime_entry at flags value interval reply arm in
-      let actions = settime_actions timer cancel start stamp entry in
-      let turn = Began timer stamp ∷ cancels timer cancel ++ start in
-      let upto : begin ≤ set.ends = omega (arith, set.from, set.between) in
-      let plain = plain_both timer cancel start (plain_start (WasOffLine w begin last) w.script.limit timer (nanoseconds_of value) at (base_of kind)
-      (start_mode kind flags) arm start set.arms) in
-      let point = moment_of kept turn set.ends (omega (arith, low, upto)) set.high set.stops in
-      let begun = moment_of kept (Began timer stamp ∷ []) set.begun (omega (arith, low, set.from)) (omega (arith, set.between, set.high)) set.begins in
-      let first = disarmed (WasOffLine w begin last) w.script.limit w c timer (nanoseconds_of value) at (base_of kind) begin set.begun last
-      (start_mode kind flags) cancel arm start stamp entry set.arms set.idle set.from (omega (arith, set.between, set.high)) begun in
-      call_made kept low (omega (arith, upto, set.high)) set.behind
-      (does reply actions (record { taken = set.taken; cancel = cancel; arm = arm; start = start; stamp = stamp; arms = set.arms; done = refl })) (tt, tt)
-      (plain_then w c begin set.ends last [] turn (Made timer (stamp + 1) entry) (tt, plain) upto set.high (point, set.holds))
-      (seen reply actions entry refl point refused first)
-    where
-      does : (reply : SettimeReply) (ds : List Action) → MakesSettime (WasOffLine w begin last) w.script.limit
-          (kind_of w.script timer) timer flags value interval at reply ds
-          → Does (WasOffLine w begin last) w.script at (calls.Settime timer flags value interval) (answer_of_settime reply) [] [] ds
-      does (settings.Old left old) ds makes = makes
-      does settings.Canceled ds makes = makes
-      does (settings.Unarmed stamp) ds makes = makes
+-- the same of a sleep
+abbrev pub UnsleptBy : Witness → ℕ → SleepReply → ℕ → Type 0
+UnsleptBy w timer sleeps.Slept last = Unit
+UnsleptBy w timer sleeps.Asleep last = Unit
+UnsleptBy w timer (sleeps.Unarmed stamp) last = SawRefusal w timer stamp last
 
-      seen : (reply : SettimeReply) (ds : List Action) (entry : ObjectEntry)
-          → ds ≡ (Began timer stamp ∷ cancels timer cancel ++ start) ++ Made timer (stamp + 1) entry ∷ []
-          → IsMoment w c (Began timer stamp ∷ cancels timer cancel ++ start) set.ends → RefusedBy w timer reply set.ends → DisarmedFirst w c begin last timer ds
-          → AnswerHolds w begin last c at ds (calls.Settime timer flags value interval) (answer_of_settime reply)
-      seen (settings.Old left old) ds entry is point refused first = first
-      seen settings.Canceled ds entry is point refused first = first
-      seen (settings.Unarmed full) ds entry is point refused first = (
-        first,
-        record {
-          early = Began timer stamp ∷ cancels timer cancel ++ start;
-          number = stamp + 1;
-          entry = entry;
-          done = is;
-          moment = set.ends;
-          from = omega (arith, set.from, set.between);
-          to = set.high;
-          point = point;
-          refused = refused;
-        },
-      )
+-- the start that a call with these flags and this time may make
+abbrev pub start_of : ℕ → TimeSpec → Option Wanted
+start_of flags time = Some (record { mode = mode_by flags; ns = nanoseconds_of time })
+
+module _ {w : Witness} {moves : Spans} {c : Label} {at begin last timer : ℕ} {cancel : Option (ℕ × ℕ)} {arm : Armed} {start : List Action} {stamp : ℕ}
+    {notes : List PlacedEntry} {before after : Seen} where
+  -- law: a settime that makes an entry fits
+  pub settime_made : {flags : ℕ} {value interval : TimeSpec} (reply : SettimeReply)
+      → IsKept w moves c (plain at begin last (anew_actions timer cancel start stamp
+      (object_entries.Settime flags (nanoseconds_of value) (nanoseconds_of interval) at arm reply))) notes
+      (calls.Settime timer flags value interval) (answer_of_settime reply) before after
+      → moves.first c ≤ begin → (anew : IsAnew w c notes at begin last timer (start_of flags value) cancel arm start stamp)
+      → AreValidFor (kind_of w.script timer) flags value interval → RefusedBy w timer reply anew.ends
+      → FitsCall w c (calls.Settime timer flags value interval) (answer_of_settime reply) before after
+  settime_made {flags = flags} {value = value} {interval = interval} (settings.Old left old) kept low anew taken refused =
+      let entry : Armed → ObjectEntry = λ arm. object_entries.Settime flags (nanoseconds_of value) (nanoseconds_of interval) at arm (settings.Old left old) in
+      anew_made entry kept low anew (λ is. is) (λ makes. (makes, taken)) (first entry kept low anew)
+  settime_made {flags = flags} {value = value} {interval = interval} settings.Canceled kept low anew taken refused =
+      let entry : Armed → ObjectEntry = λ arm. object_entries.Settime flags (nanoseconds_of value) (nanoseconds_of interval) at arm settings.Canceled in
+      anew_made entry kept low anew (λ is. is) (λ makes. (makes, taken)) (first entry kept low anew)
+  settime_made {flags = flags} {value = value} {interval = interval} (settings.Unarmed full) kept low anew taken refused =
+      let entry : Armed → ObjectEntry = λ arm. object_entries.Settime flags (nanoseconds_of value) (nanoseconds_of interval) at arm (settings.Unarmed full) in
+      anew_made entry kept low anew (λ is. is) (λ makes. (makes, taken)) (first entry kept low anew, refused_before entry kept low anew full refused)
+
+  -- law: a sleep that makes an entry fits
+  pub sleep_made : {flags : ℕ} {time : TimeSpec} (reply : SleepReply)
+      → IsKept w moves c (plain at begin last (anew_actions timer cancel start stamp (object_entries.Sleep flags (nanoseconds_of time) at arm reply))) notes
+      (calls.Sleep timer flags time) (answer_of_sleep reply) before after
+      → moves.first c ≤ begin → (anew : IsAnew w c notes at begin last timer (start_of flags time) cancel arm start stamp)
+      → IsValidSleep flags time → UnsleptBy w timer reply anew.ends
+      → FitsCall w c (calls.Sleep timer flags time) (answer_of_sleep reply) before after
+  sleep_made {flags = flags} {time = time} sleeps.Slept kept low anew taken refused =
+      let entry : Armed → ObjectEntry = λ arm. object_entries.Sleep flags (nanoseconds_of time) at arm sleeps.Slept in
+      anew_made entry kept low anew (λ is. is) (λ makes. (makes, taken)) (first entry kept low anew)
+  sleep_made {flags = flags} {time = time} sleeps.Asleep kept low anew taken refused =
+      let entry : Armed → ObjectEntry = λ arm. object_entries.Sleep flags (nanoseconds_of time) at arm sleeps.Asleep in
+      anew_made entry kept low anew (λ is. is) (λ makes. (makes, taken)) (first entry kept low anew)
+  sleep_made {flags = flags} {time = time} (sleeps.Unarmed full) kept low anew taken refused =
+      let entry : Armed → ObjectEntry = λ arm. object_entries.Sleep flags (nanoseconds_of time) at arm (sleeps.Unarmed full) in
+      anew_made entry kept low anew (λ is. is) (λ makes. (makes, taken)) (first entry kept low anew, refused_before entry kept low anew full refused)
+
+  -- law: an interrupt that makes an entry fits
+  pub interrupt_made : (reply : InterruptReply)
+      → IsKept w moves c (plain at begin last (anew_actions timer cancel start stamp (object_entries.Interrupt at reply))) notes
+      (calls.Interrupt timer) (answer_of_interrupt reply) before after
+      → moves.first c ≤ begin → IsAnew w c notes at begin last timer None cancel arm start stamp
+      → FitsCall w c (calls.Interrupt timer) (answer_of_interrupt reply) before after
+  interrupt_made interrupts.Slept kept low anew =
+      let entry : Armed → ObjectEntry = λ arm. object_entries.Interrupt at interrupts.Slept in
+      anew_made entry kept low anew (λ is. tt) (λ makes. makes) (first entry kept low anew)
+  interrupt_made (interrupts.Left ns) kept low anew =
+      let entry : Armed → ObjectEntry = λ arm. object_entries.Interrupt at (interrupts.Left ns) in
+      anew_made entry kept low anew (λ is. tt) (λ makes. makes) (first entry kept low anew)
+  interrupt_made interrupts.Interrupted kept low anew =
+      let entry : Armed → ObjectEntry = λ arm. object_entries.Interrupt at interrupts.Interrupted in
+      anew_made entry kept low anew (λ is. tt) (λ makes. makes) (first entry kept low anew)
 
 -- ---- an acceptance, a read, a descriptor's gettime
 

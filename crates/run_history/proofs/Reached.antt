@@ -1,14 +1,13 @@
 -- What a call did, by less and by more that it saw of bases off line.
-use Rattle.std.proofs.Common.{ℕ, ◌≤◌, List, [], ◌∷◌, arith, inl, inr}
+use Rattle.std.proofs.Common.{ℕ, ◌≤◌, Option, Some, None, List, [], ◌∷◌, arith, inl, inr}
 use Rattle.std.specs.List.{AllByRecursion}
 use Rattle.std.proofs.Math.Logic.{⊎_elim}
 use Rattle.ktime.specs.declared.mode.Mode.{Mode}
-use Rattle.ktime.specs.declared.timespec.TimeSpec.{TimeSpec}
 use Rattle.seq_timer.specs.declared.context.Context.{Context}
 use Rattle.record_text.specs.declared.record.Armed.{Armed}
 use Rattle.record_text.specs.declared.record.Armed.TheVariants as armings
 use Rattle.record_text.specs.declared.record.ObjectEntry.{ObjectEntry}
-use Rattle.record_text.specs.declared.record.SettimeReply.{SettimeReply}
+use Rattle.timer_setting.specs.declared.arming.Wanted.{Wanted}
 use Rattle.script_text.specs.Declarations.{kind_of}
 use Rattle.script_text.specs.declared.script.Callback.{Callback}
 use Rattle.script_text.specs.declared.script.Callback.TheVariants as callbacks
@@ -16,9 +15,9 @@ use Rattle.script_text.specs.declared.script.Kind.{Kind}
 use Rattle.script_text.specs.declared.script.Kind.TheVariants as kinds
 use Rattle.script_text.specs.declared.script.Script.{Script}
 use Rattle.run_history.specs.Actions.{Action}
-use Rattle.run_history.specs.Deeds.{Deed, Did, IsBody, IsCallback, IsExpiryRun, Rearms, Runs, Sets, Starts, Where}
+use Rattle.run_history.specs.Deeds.{Anew, Deed, Did, IsBody, IsCallback, IsExpiryRun, Rearms, Runs, Starts, Where}
 use Rattle.run_history.specs.Truths.{WasOffLine}
-use Rattle.run_history.specs.ObjectCalls.{Arms, MakesRearming, MakesSettime}
+use Rattle.run_history.specs.ObjectCalls.{Arms, ArmsAs, MakesAnew, MakesRearming}
 use Rattle.run_history.specs.Starts.{Arming, IsArming, IsSentBy, IsWay}
 use Rattle.run_history.specs.Witnesses.{Evacuation, Fired, Witness}
 
@@ -49,16 +48,19 @@ module _ (Fewer More : ℕ → ℕ → Type 0) (to : (base heir : ℕ) → Fewer
   arms_wider limit timer mode ns reading base (armings.Generation generation) start arms = (arms.0, arms.1, arms.2, arming_wider arms.3)
   arms_wider limit timer mode ns reading base armings.Unarmed start arms = arms
 
-  settime_wider : {limit : ℕ} {kind : Kind} {timer flags : ℕ} {value interval : TimeSpec} {reading : ℕ} {reply : SettimeReply} {actions : List Action}
-      → MakesSettime Fewer limit kind timer flags value interval reading reply actions
-      → MakesSettime More limit kind timer flags value interval reading reply actions
-  settime_wider makes = record {
-    taken = makes.taken;
+  pub as_wider : (limit timer : ℕ) (wanted : Option Wanted) (reading base : ℕ) (arm : Armed) (start : List Action)
+      → ArmsAs Fewer limit timer wanted reading base arm start → ArmsAs More limit timer wanted reading base arm start
+  as_wider limit timer None reading base arm start arms = arms
+  as_wider limit timer (Some wanted) reading base arm start arms = arms_wider limit timer wanted.mode wanted.ns reading base arm start arms
+
+  anew_wider : {limit : ℕ} {kind : Kind} {timer : ℕ} {wanted : Option Wanted} {reading : ℕ} {entry : Armed → ObjectEntry} {actions : List Action}
+      → MakesAnew Fewer limit kind timer wanted reading entry actions → MakesAnew More limit kind timer wanted reading entry actions
+  anew_wider {wanted = wanted} makes = record {
     cancel = makes.cancel;
     arm = makes.arm;
     start = makes.start;
     stamp = makes.stamp;
-    arms = arms_wider _ _ _ _ _ _ makes.arm makes.start makes.arms;
+    arms = as_wider _ _ wanted _ _ makes.arm makes.start makes.arms;
     done = makes.done;
   }
 
@@ -88,6 +90,7 @@ module _ (Fewer More : ℕ → ℕ → Type 0) (to : (base heir : ℕ) → Fewer
   body_wider limit (kinds.Raw context callback) reading f is = callback_wider limit callback reading f is
   body_wider limit (kinds.Posix base) reading f is = is
   body_wider limit (kinds.Fd base) reading f is = is
+  body_wider limit (kinds.Sleeper base) reading f is = is
 
   bodies_wider : (s : Script) (reading : ℕ) (fired : List Fired) → AllByRecursion (λ f. IsBody Fewer s.limit (kind_of s f.timer) reading f) fired
       → AllByRecursion (λ f. IsBody More s.limit (kind_of s f.timer) reading f) fired
@@ -110,7 +113,7 @@ module _ (Fewer More : ℕ → ℕ → Type 0) (to : (base heir : ℕ) → Fewer
   did_wider s reading (Starts timer request generation on was_armed) fired moved actions did =
       (did.0, did.1, did.2, did.3, did.4, arming_wider did.5)
   did_wider s reading (Runs context base shown timers IsCount) fired moved actions did = (run_wider did.0, did.1)
-  did_wider s reading (Sets timer flags value interval reply) fired moved actions did = settime_wider did
+  did_wider s reading (Anew timer wanted entry) fired moved actions did = anew_wider did
   did_wider s reading (Rearms timer entry) fired moved actions did = rearming_wider did
   did_wider s reading (Where rest IsSo) fired moved actions did = (did_wider s reading rest fired moved actions did.0, did.1)
   did_wider s reading rest fired moved actions did = did

@@ -4,6 +4,12 @@ use Rattle.clock_model.specs.Clocks.{after_write, greatest}
 use Rattle.timer_fd.specs.Steps.{count_length}
 use Rattle.posix_timer.specs.States.{setting_of}
 use Rattle.timer_fd.specs.States.{is_readable}
+use Rattle.sleeper.specs.declared.answers.SleptAnswer.TheVariants as looks
+use Rattle.sleeper.specs.declared.sleep.Sleep.{Sleep}
+use Rattle.sleeper.specs.States.{is_free}
+use Rattle.sleeper.specs.Steps.{slept_answer}
+use Rattle.ktime.specs.declared.timespec.TimeSpec.{TimeSpec}
+use Rattle.timer_setting.specs.Arguments.{mode_by}
 use Rattle.seq_timer.specs.declared.observation.Observation.TheVariants as observations
 use Rattle.seq_timer.specs.declared.standing.BaseEvent.TheVariants as shifts
 use Rattle.seq_timer.specs.Halves.{running_on}
@@ -21,16 +27,21 @@ use Rattle.record_text.specs.declared.record.Answer.TheVariants as answers
 use Rattle.record_text.specs.declared.record.AcceptReply.TheVariants as acceptances
 use Rattle.record_text.specs.declared.record.ObjectEntry.TheVariants as object_entries
 use Rattle.record_text.specs.declared.record.ReadReply.TheVariants as reads
+use Rattle.record_text.specs.declared.record.InterruptReply.{InterruptReply}
+use Rattle.record_text.specs.declared.record.InterruptReply.TheVariants as ended
+use Rattle.record_text.specs.declared.record.SettimeReply.{SettimeReply}
 use Rattle.record_text.specs.declared.record.SettimeReply.TheVariants as settings
+use Rattle.record_text.specs.declared.record.SleepReply.{SleepReply}
+use Rattle.record_text.specs.declared.record.SleepReply.TheVariants as begun
 use Rattle.run_history.specs.Actions.{Action, Shifted}
 use Rattle.run_history.specs.Histories.{reading_at}
-use Rattle.run_history.specs.ObjectCalls.{AreValidFor}
-use Rattle.run_history.specs.Objects.{fd_after, posix_after}
+use Rattle.run_history.specs.ObjectCalls.{AreValidFor, IsValidSleep, nanoseconds_of}
+use Rattle.run_history.specs.Objects.{fd_after, posix_after, sleeper_after}
 use Rattle.run_history.specs.Told.{IsOutOfRange}
 use Rattle.run_history.specs.Witnesses.{Evacuation, Fired, Witness, standing_along, timer_along}
 use Rattle.run_history.specs.Truths.{DisarmedFirst, HadEntries, IsDone, MayGo, NothingTold, RefusedBefore, RunsFirst, RunsNone}
 use Rattle.run_history.specs.Truths.{Saw, SawFull, SawFullOn, SawRefusal, StandsAt}
-use Rattle.run_history.specs.Deeds.{Cancels, Deed, Did, Evacuates, Never, Nothing, Rearms, Runs, Sets, Shifts, Starts, Where, Writes}
+use Rattle.run_history.specs.Deeds.{Anew, Cancels, Deed, Did, Evacuates, Never, Nothing, Rearms, Runs, Shifts, Starts, Where, Writes}
 
 -- a call in the one order: its label, its first and its last moment, and what it did
 pub record CallSpan : Type 0 where
@@ -57,9 +68,36 @@ looked tells = record { did = Nothing; tells = tells }
 abbrev pub full : ℕ → ℕ → Type 0 → CallRow
 full timer stamp IsSo = record { did = Where Nothing IsSo; tells = λ c. SawFull c.w timer stamp c.last }
 
--- a settime made an entry, and had disarmed its timer first
+-- a call that arms its timer anew did so, and had disarmed it first
 abbrev pub disarmed : ℕ → Deed → CallRow
 disarmed timer did = record { did = did; tells = λ c. DisarmedFirst c.w c.label c.first c.last timer c.actions }
+
+-- the same, where its start was refused just before the object's entry
+abbrev pub unarmed : ℕ → ℕ → Deed → CallRow
+unarmed timer stamp did = record {
+  did = did;
+  tells = λ c. DisarmedFirst c.w c.label c.first c.last timer c.actions × RefusedBefore c.w c.label c.first c.last c.actions timer stamp;
+}
+
+-- a settime of a reading made an entry with this reply, and an object of this kind takes its arguments
+abbrev pub sets : Kind → ℕ → ℕ → ℕ → TimeSpec → TimeSpec → SettimeReply → Deed
+sets kind reading timer flags value interval reply =
+    Where (Anew timer (Some (record { mode = mode_by flags; ns = nanoseconds_of value }))
+    (λ arm. object_entries.Settime flags (nanoseconds_of value) (nanoseconds_of interval) reading arm reply)) (AreValidFor kind flags value interval)
+
+-- a sleep did
+abbrev pub sleeps : ℕ → ℕ → ℕ → TimeSpec → SleepReply → Deed
+sleeps reading timer flags time reply =
+    Where (Anew timer (Some (record { mode = mode_by flags; ns = nanoseconds_of time })) (λ arm. object_entries.Sleep flags (nanoseconds_of time) reading arm reply))
+    (IsValidSleep flags time)
+
+-- an interrupt did, which starts nothing
+abbrev pub interrupts : ℕ → ℕ → InterruptReply → Deed
+interrupts reading timer reply = Anew timer None (λ arm. object_entries.Interrupt reading reply)
+
+-- a sleeper was looked at after so many entries, and of its sleep this was so
+abbrev pub SawSleep : Script → ℕ → ℕ → (Sleep → Type 0) → CallSpan → Type 0
+SawSleep s timer stamp IsSo c = HadEntries c.w timer stamp c.last × IsSo (sleeper_after s c.w.run timer (base_of (kind_of s timer)) stamp).sleep
 
 -- a POSIX timer
 abbrev pub IsPosix : Kind → Type 0
@@ -98,12 +136,11 @@ call_row s reading (calls.Settime timer flags value interval) answers.Invalid =
     only (Where Nothing (AreValidFor (kind_of s timer) flags value interval → ⊥))
 call_row s reading (calls.Settime timer flags value interval) (answers.Spent stamp) = full timer stamp (AreValidFor (kind_of s timer) flags value interval)
 call_row s reading (calls.Settime timer flags value interval) (answers.Old left old) =
-    disarmed timer (Sets timer flags value interval (settings.Old left old))
-call_row s reading (calls.Settime timer flags value interval) answers.Canceled = disarmed timer (Sets timer flags value interval settings.Canceled)
-call_row s reading (calls.Settime timer flags value interval) (answers.Unarmed stamp) = record {
-  did = Sets timer flags value interval (settings.Unarmed stamp);
-  tells = λ c. DisarmedFirst c.w c.label c.first c.last timer c.actions × RefusedBefore c.w c.label c.first c.last c.actions timer stamp;
-}
+    disarmed timer (sets (kind_of s timer) reading timer flags value interval (settings.Old left old))
+call_row s reading (calls.Settime timer flags value interval) answers.Canceled =
+    disarmed timer (sets (kind_of s timer) reading timer flags value interval settings.Canceled)
+call_row s reading (calls.Settime timer flags value interval) (answers.Unarmed stamp) =
+    unarmed timer stamp (sets (kind_of s timer) reading timer flags value interval (settings.Unarmed stamp))
 call_row s reading (calls.Gettime timer) (answers.LeftAt left interval shown stamp) = record {
   did = Where Nothing (IsPosix (kind_of s timer) × (shown ≡ reading));
   tells = λ c. HadEntries c.w timer stamp c.last
@@ -132,6 +169,27 @@ call_row s reading (calls.Readable timer) (answers.Readable ready shown stamp) =
   tells = λ c. HadEntries c.w timer stamp c.last
       × (is_readable (fd_after s c.w.run timer (base_of (kind_of s timer)) stamp) (reading_at c.w.run.clock reading) ≡ ready);
 }
+call_row s reading (calls.Sleep timer flags time) answers.Invalid = only (Where Nothing (IsValidSleep flags time → ⊥))
+call_row s reading (calls.Sleep timer flags time) (answers.Spent stamp) = full timer stamp (IsValidSleep flags time)
+call_row s reading (calls.Sleep timer flags time) (answers.Occupied stamp) = record {
+  did = Where Nothing (IsValidSleep flags time × (stamp < s.limit));
+  tells = SawSleep s timer stamp (λ sleep. is_free sleep ≡ false);
+}
+call_row s reading (calls.Sleep timer flags time) answers.Slept = disarmed timer (sleeps reading timer flags time begun.Slept)
+call_row s reading (calls.Sleep timer flags time) answers.Asleep = disarmed timer (sleeps reading timer flags time begun.Asleep)
+call_row s reading (calls.Sleep timer flags time) (answers.Unarmed stamp) =
+    unarmed timer stamp (sleeps reading timer flags time (begun.Unarmed stamp))
+call_row s reading (calls.Interrupt timer) (answers.Spent stamp) = looked (λ c. SawFull c.w timer stamp c.last)
+call_row s reading (calls.Interrupt timer) (answers.Awake stamp) = record {
+  did = Where Nothing (stamp < s.limit);
+  tells = SawSleep s timer stamp (λ sleep. is_free sleep ≡ true);
+}
+call_row s reading (calls.Interrupt timer) answers.Slept = disarmed timer (interrupts reading timer ended.Slept)
+call_row s reading (calls.Interrupt timer) (answers.SleepLeft ns) = disarmed timer (interrupts reading timer (ended.Left ns))
+call_row s reading (calls.Interrupt timer) answers.Interrupted = disarmed timer (interrupts reading timer ended.Interrupted)
+call_row s reading (calls.Slept timer) (answers.Sleeping stamp) = looked (SawSleep s timer stamp (λ sleep. slept_answer sleep ≡ looks.Sleeping))
+call_row s reading (calls.Slept timer) (answers.SleptAt stamp) = looked (SawSleep s timer stamp (λ sleep. slept_answer sleep ≡ looks.Slept))
+call_row s reading (calls.Slept timer) (answers.Awake stamp) = looked (SawSleep s timer stamp (λ sleep. slept_answer sleep ≡ looks.Awake))
 call_row s reading (calls.Offline base heir budget) (answers.Offline moved stamp) = record {
   did = Evacuates heir moved (Shifted base stamp (shifts.Offline heir) ∷ []) (λ number. number ≤ budget);
   tells = λ c. MayGo c.w base heir c.first × IsUnused (timer_along c.w c.last) base;
@@ -165,6 +223,7 @@ abbrev pub reads_clock : Call → Bool
 reads_clock (calls.Cancel timer) = false
 reads_clock (calls.Peek timer) = false
 reads_clock (calls.Overrun timer) = false
+reads_clock (calls.Slept timer) = false
 reads_clock (calls.Online base) = false
 reads_clock call = true
 

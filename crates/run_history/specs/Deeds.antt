@@ -1,5 +1,5 @@
 -- What calls do: callbacks in an expiry run, timers moved off a base; and what a call did as one value (`Deed`), with what that means (`Did`).
-use Rattle.std.specs.Prelude.{ℕ, ◌≡◌, ◌+◌, ◌-◌, Bool, true, false, ◌⊎◌, List, [], ◌∷◌, ◌++◌, length, map, flat_map}
+use Rattle.std.specs.Prelude.{ℕ, ◌≡◌, ◌+◌, ◌-◌, Bool, true, false, ◌⊎◌, Option, List, [], ◌∷◌, ◌++◌, length, map, flat_map}
 use Rattle.std.specs.List.{AllByRecursion}
 use Rattle.ktime.specs.declared.mode.Mode.TheVariants as modes
 use Rattle.script_text.specs.declared.script.Callback.{Callback}
@@ -19,8 +19,7 @@ use Rattle.record_text.specs.declared.record.RunRecord.{RunRecord}
 use Rattle.record_text.specs.declared.record.CallbackReply.TheVariants as told
 use Rattle.record_text.specs.declared.record.Armed.{Armed}
 use Rattle.record_text.specs.declared.record.ObjectEntry.{ObjectEntry}
-use Rattle.record_text.specs.declared.record.SettimeReply.{SettimeReply}
-use Rattle.ktime.specs.declared.timespec.TimeSpec.{TimeSpec}
+use Rattle.timer_setting.specs.declared.arming.Wanted.{Wanted}
 use Rattle.clock_model.specs.declared.write.Write.{Write}
 use Rattle.script_text.specs.declared.script.StartRequest.{StartRequest}
 use Rattle.seq_timer.specs.declared.standing.BaseEvent.{BaseEvent}
@@ -28,7 +27,7 @@ use Rattle.record_text.specs.declared.record.ObjectEntry.TheVariants as object_e
 use Rattle.script_text.specs.Declarations.{declared_of, without_slack, kind_of}
 use Rattle.run_history.specs.Histories.{timer_after}
 use Rattle.run_history.specs.Starts.{Arming, IsArming, arming_actions, was_armed_before}
-use Rattle.run_history.specs.ObjectCalls.{MakesRearming, MakesSettime}
+use Rattle.run_history.specs.ObjectCalls.{MakesAnew, MakesRearming}
 use Rattle.run_history.specs.Actions.{Action, Began, Wrote, Entered, Looked, Made, Shifted, Skipped}
 use Rattle.run_history.specs.Witnesses.{Evacuation, Fired}
 
@@ -98,6 +97,7 @@ module _ (Reached : ℕ → ℕ → Type 0) where
   IsBody limit (kinds.Raw context callback) reading f = IsCallback limit callback reading f
   IsBody limit (kinds.Posix base) reading f = IsTrigger reading f
   IsBody limit (kinds.Fd base) reading f = IsTrigger reading f
+  IsBody limit (kinds.Sleeper base) reading f = IsTrigger reading f
 
   -- what an expiry run did: each callback as its timer declares it, of the run's context, all by one reading, and the timers in the order of their
   -- claims
@@ -121,8 +121,8 @@ pub data Deed : Type 1 where
   Writes : (stamp : ℕ) (write : Write) → Deed
   -- an expiry run that shows this reading and these timers, of as many callbacks as the condition allows
   Runs : (context : Context) (base shown : ℕ) (timers : List ℕ) (IsCount : ℕ → Type 0) → Deed
-  -- a settime that made an entry
-  Sets : (timer flags : ℕ) (value interval : TimeSpec) (reply : SettimeReply) → Deed
+  -- a call that armed an object's timer anew, by this start or none, and made this entry, by what became of the start
+  Anew : (timer : ℕ) (wanted : Option Wanted) (entry : Armed → ObjectEntry) → Deed
   -- a call that made this entry of an object, by how it armed the object's timer
   Rearms : (timer : ℕ) (entry : Armed → ObjectEntry) → Deed
   -- so many timers moved to the heir, as many as the condition allows, and these actions behind
@@ -144,8 +144,7 @@ Did Reached s reading (Cancels timer generation) fired moved actions =
 Did Reached s reading (Writes stamp write) fired moved actions = actions ≡ Wrote stamp write ∷ []
 Did Reached s reading (Runs context base shown timers IsCount) fired moved actions =
     IsExpiryRun Reached s context reading base fired shown timers actions × IsCount (length fired)
-Did Reached s reading (Sets timer flags value interval reply) fired moved actions =
-    MakesSettime Reached s.limit (kind_of s timer) timer flags value interval reading reply actions
+Did Reached s reading (Anew timer wanted entry) fired moved actions = MakesAnew Reached s.limit (kind_of s timer) timer wanted reading entry actions
 Did Reached s reading (Rearms timer entry) fired moved actions = MakesRearming Reached s.limit (kind_of s timer) timer reading entry actions
 Did Reached s reading (Evacuates heir count end IsCount) fired moved actions = IsEvacuation heir reading count moved end actions × IsCount count
 Did Reached s reading (Shifts base stamp event) fired moved actions = actions ≡ Shifted base stamp event ∷ []

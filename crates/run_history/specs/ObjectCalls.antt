@@ -1,42 +1,41 @@
 -- What the calls on objects do that make an entry: which arguments they take, how they arm the object's timer, and the entry.
-use Rattle.std.specs.Prelude.{ℕ, ◌≡◌, ◌+◌, ◌≤◌, Option, Some, None, List, [], ◌∷◌, ◌++◌}
+use Rattle.std.specs.Prelude.{ℕ, ◌≡◌, ◌+◌, ◌≤◌, false, Option, Some, None, List, [], ◌∷◌, ◌++◌}
 use Rattle.ktime.specs.declared.mode.Mode.{Mode}
 use Rattle.ktime.specs.declared.mode.Mode.TheVariants as modes
 use Rattle.ktime.specs.declared.timespec.TimeSpec.{TimeSpec}
 use Rattle.ktime.specs.Times.{last_time, nanoseconds}
 use Rattle.record_text.specs.declared.record.Armed.{Armed}
 use Rattle.record_text.specs.declared.record.Armed.TheVariants as armings
-use Rattle.record_text.specs.declared.record.SettimeReply.{SettimeReply}
 use Rattle.seq_timer.specs.declared.event.EventBy.TheVariants as events
 use Rattle.seq_timer.specs.declared.event.Reply.TheVariants as replies
 use Rattle.record_text.specs.declared.record.ObjectEntry.{ObjectEntry}
-use Rattle.record_text.specs.declared.record.ObjectEntry.TheVariants as made_entries
-use Rattle.timer_setting.specs.Arguments.{mode_by}
-use Rattle.posix_timer.specs.States.{ArePosixArguments}
-use Rattle.timer_fd.specs.States.{AreFdArguments}
+use Rattle.timer_setting.specs.Arguments.{AreValid, abstime, bits_beyond, is_bad}
+use Rattle.timer_setting.specs.declared.arming.Wanted.{Wanted}
+use Rattle.timer_fd.specs.States.{fd_flags}
 use Rattle.script_text.specs.declared.script.Kind.{Kind}
 use Rattle.script_text.specs.declared.script.Kind.TheVariants as kinds
 use Rattle.run_history.specs.Actions.{Action, Began, Entered, Made}
 use Rattle.run_history.specs.Starts.{Arming, IsArming, arming_actions}
 use Rattle.script_text.specs.Declarations.{base_of, without_slack}
 
+-- the flags of a settime that an object of this kind has
+abbrev pub settime_flags : Kind → ℕ
+settime_flags (kinds.Fd base) = fd_flags
+settime_flags kind = abstime
+
 -- a settime's arguments are taken by an object of this kind
 abbrev pub AreValidFor : Kind → ℕ → TimeSpec → TimeSpec → Type 0
-AreValidFor (kinds.Raw context callback) flags value interval = ⊥
-AreValidFor (kinds.Posix base) flags value interval = ArePosixArguments flags value interval
-AreValidFor (kinds.Fd base) flags value interval = AreFdArguments flags value interval
+AreValidFor kind flags value interval = AreValid (bits_beyond (settime_flags kind) flags) value interval
 
--- how a settime's flags give its value
-abbrev pub start_mode : Kind → ℕ → Mode
-start_mode (kinds.Raw context callback) flags = modes.Rel
-start_mode (kinds.Posix base) flags = mode_by flags
-start_mode (kinds.Fd base) flags = mode_by flags
+-- a sleep's are valid
+abbrev pub IsValidSleep : ℕ → TimeSpec → Type 0
+IsValidSleep flags time = (bits_beyond abstime flags ≡ 0) × (is_bad time ≡ false)
 
 -- a time as one number of nanoseconds
 abbrev pub nanoseconds_of : TimeSpec → ℕ
 nanoseconds_of time = nanoseconds time.sec time.nsec
 
--- the cancel of a settime, where there is one: its number, and the generation that it cancelled
+-- the cancel of a call that arms its timer anew, where there is one: its number, and the generation that it cancelled
 abbrev pub cancels : ℕ → Option (ℕ × ℕ) → List Action
 cancels timer None = []
 cancels timer (Some c) = Entered timer c.0 (record { event = events.Cancel; reply = replies.Cancel c.1 }) ∷ []
@@ -50,17 +49,19 @@ module _ (Reached : ℕ → ℕ → Type 0) (limit : ℕ) where
       (a : Arming) × (actions ≡ arming_actions timer (without_slack mode ns base) reading a) × (generation ≡ a.number) × IsArming Reached limit base a
   Arms timer mode ns reading base armings.Unarmed actions = actions ≡ []
 
-  -- a settime that made an entry: in its turn of the object a cancel and a start, where there are any, and the entry of the object, with the call's own arguments
-  pub record MakesSettime (kind : Kind) (timer flags : ℕ) (value interval : TimeSpec) (reading : ℕ) (reply : SettimeReply)
-      (actions : List Action) : Type 0 where
-    pub taken : AreValidFor kind flags value interval
+  -- the same of a call that wants this start, or none
+  abbrev pub ArmsAs : ℕ → Option Wanted → ℕ → ℕ → Armed → List Action → Type 0
+  ArmsAs timer None reading base arm actions = (arm ≡ armings.None) × (actions ≡ [])
+  ArmsAs timer (Some wanted) reading base arm actions = Arms timer wanted.mode wanted.ns reading base arm actions
+
+  -- a call that arms its timer anew and made an entry: in its turn of the object a cancel and a start, where there are any, and the entry of the object
+  pub record MakesAnew (kind : Kind) (timer : ℕ) (wanted : Option Wanted) (reading : ℕ) (entry : Armed → ObjectEntry) (actions : List Action) : Type 0 where
     pub cancel : Option (ℕ × ℕ)
     pub arm : Armed
     pub start : List Action
     pub stamp : ℕ
-    pub arms : Arms timer (start_mode kind flags) (nanoseconds_of value) reading (base_of kind) arm start
-    pub done : actions ≡ Began timer stamp ∷ cancels timer cancel ++ start
-        ++ Made timer (stamp + 1) (made_entries.Settime flags (nanoseconds_of value) (nanoseconds_of interval) reading arm reply) ∷ []
+    pub arms : ArmsAs timer wanted reading (base_of kind) arm start
+    pub done : actions ≡ Began timer stamp ∷ cancels timer cancel ++ start ++ Made timer (stamp + 1) (entry arm) ∷ []
 
   -- a call that looks how a timer's periods have passed, and arms it for its next expiry where it has expired: in its turn of the object a start that keeps
   -- the timer's clock, and the entry of the object

@@ -9,6 +9,10 @@ use Rattle.record_text.specs.declared.record.AcceptReply.{AcceptReply}
 use Rattle.record_text.specs.declared.record.AcceptReply.TheVariants as acceptances
 use Rattle.record_text.specs.declared.record.ReadReply.{ReadReply}
 use Rattle.record_text.specs.declared.record.ReadReply.TheVariants as reads
+use Rattle.record_text.specs.declared.record.SleepReply.{SleepReply}
+use Rattle.record_text.specs.declared.record.SleepReply.TheVariants as sleeps
+use Rattle.record_text.specs.declared.record.InterruptReply.{InterruptReply}
+use Rattle.record_text.specs.declared.record.InterruptReply.TheVariants as interrupts
 use Rattle.record_text.specs.declared.record.ObjectEntry.{ObjectEntry}
 use Rattle.record_text.specs.declared.record.ObjectEntry.TheVariants as entries
 use Rattle.timer_setting.specs.declared.arming.Arm.{Arm}
@@ -24,6 +28,10 @@ use Rattle.timer_setting.specs.declared.answers.ReadAnswer.{ReadAnswer}
 use Rattle.timer_setting.specs.declared.answers.ReadAnswer.TheVariants as read_answers
 use Rattle.timer_setting.specs.declared.answers.SettimeAnswer.{SettimeAnswer}
 use Rattle.timer_setting.specs.declared.answers.SettimeAnswer.TheVariants as set_answers
+use Rattle.timer_setting.specs.declared.answers.SleepAnswer.{SleepAnswer}
+use Rattle.timer_setting.specs.declared.answers.SleepAnswer.TheVariants as sleep_answers
+use Rattle.timer_setting.specs.declared.answers.InterruptAnswer.{InterruptAnswer}
+use Rattle.timer_setting.specs.declared.answers.InterruptAnswer.TheVariants as interrupt_answers
 use Rattle.timer_setting.specs.declared.trigger_answer.TriggerAnswer.TheVariants as triggers
 use Rattle.timer_setting.specs.StepTables.{AnsweredCall}
 use Rattle.run_history.specs.Histories.{reading_at}
@@ -57,6 +65,24 @@ read_shown (reads.Count total) = read_answers.Count total
 read_shown reads.Again = read_answers.Again
 read_shown reads.Canceled = read_answers.Canceled
 
+-- the stamp of a refused start, which a sleep's answer tells
+abbrev pub unslept_at : SleepReply → ℕ
+unslept_at sleeps.Slept = 0
+unslept_at sleeps.Asleep = 0
+unslept_at (sleeps.Unarmed stamp) = stamp
+
+-- what a sleep answered
+abbrev pub sleep_shown : SleepReply → SleepAnswer
+sleep_shown sleeps.Slept = sleep_answers.Slept
+sleep_shown sleeps.Asleep = sleep_answers.Asleep
+sleep_shown (sleeps.Unarmed stamp) = sleep_answers.Unarmed stamp
+
+-- what an interrupt answered
+abbrev pub interrupt_shown : InterruptReply → InterruptAnswer
+interrupt_shown interrupts.Slept = interrupt_answers.Slept
+interrupt_shown (interrupts.Left ns) = interrupt_answers.Left ns
+interrupt_shown interrupts.Interrupted = interrupt_answers.Interrupted
+
 -- the entry that a line shows, where its stamps name the clock's readings
 abbrev pub object_entry_shown : List ClockLine → ObjectEntry → AnsweredCall ObjectCall ObjectReply
 object_entry_shown clock (entries.Settime flags value interval reading arm reply) = record {
@@ -79,3 +105,9 @@ object_entry_shown clock (entries.Read reading arm reply) =
     record { call = calls.Read (reading_at clock reading) (arm_shown arm 0); reply = replies.Read (read_shown reply) }
 object_entry_shown clock (entries.Gettime reading arm left interval) =
     record { call = calls.Gettime (reading_at clock reading) (arm_shown arm 0); reply = replies.Gettime (lefts.Left left interval) }
+object_entry_shown clock (entries.Sleep flags time reading arm reply) = record {
+  call = calls.Sleep (record { flags = flags; time = time; reading = reading_at clock reading; arm = arm_shown arm (unslept_at reply) });
+  reply = replies.Sleep (sleep_shown reply);
+}
+object_entry_shown clock (entries.Interrupt reading reply) =
+    record { call = calls.Interrupt (reading_at clock reading); reply = replies.Interrupt (interrupt_shown reply) }

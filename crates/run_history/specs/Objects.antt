@@ -1,4 +1,4 @@
--- The histories of a record's objects, which are POSIX timers and timer descriptors: each one's entries, and its state after each
+-- The histories of a record's objects, which are POSIX timers, timer descriptors and sleepers: each one's entries, and its state after each
 -- number of them.
 use Rattle.std.specs.Prelude.{ℕ, ◌≡◌, Option, Some, None, List, [], ◌∷◌, map, take, get_or}
 use Rattle.ktime.specs.declared.clock_id.ClockId.{ClockId}
@@ -15,6 +15,8 @@ use Rattle.posix_timer.specs.States.{PosixTimer}
 use Rattle.posix_timer.specs.Histories as posix
 use Rattle.timer_fd.specs.States.{Descriptor}
 use Rattle.timer_fd.specs.Histories as fd
+use Rattle.sleeper.specs.States.{Sleeper}
+use Rattle.sleeper.specs.Histories as sleepers
 use Rattle.script_text.specs.declared.script.Kind.{Kind}
 use Rattle.script_text.specs.declared.script.Kind.TheVariants as kinds
 use Rattle.script_text.specs.declared.script.Script.{Script}
@@ -48,6 +50,7 @@ abbrev pub IsLegalObject : Script → RunRecord → ℕ → Kind → Type 0
 IsLegalObject s r i (kinds.Raw context callback) = lines_of_object r i ≡ []
 IsLegalObject s r i (kinds.Posix base) = posix.IsPosixHistory (clock_of s i) base s.limit (object_history r i)
 IsLegalObject s r i (kinds.Fd base) = fd.IsFdHistory (clock_of s i) base s.limit (object_history r i)
+IsLegalObject s r i (kinds.Sleeper base) = sleepers.IsSleeperHistory (clock_of s i) base s.limit (object_history r i)
 
 -- a POSIX timer after its first so many entries
 abbrev pub posix_after : Script → RunRecord → ℕ → ℕ → ℕ → PosixTimer
@@ -56,6 +59,10 @@ posix_after s r i base stamp = posix.posix_state_after (clock_of s i) base s.lim
 -- a descriptor after its first so many entries
 abbrev pub fd_after : Script → RunRecord → ℕ → ℕ → ℕ → Descriptor
 fd_after s r i base stamp = fd.fd_state_after (clock_of s i) base s.limit (take stamp (object_history r i))
+
+-- a sleeper after its first so many entries
+abbrev pub sleeper_after : Script → RunRecord → ℕ → ℕ → ℕ → Sleeper
+sleeper_after s r i base stamp = sleepers.sleeper_state_after (clock_of s i) base s.limit (take stamp (object_history r i))
 
 -- how an object has armed its timer: the generation, the clock and the expiry
 pub record ArmedAs : Type 0 where
@@ -74,3 +81,4 @@ abbrev pub object_armed_after : Script → RunRecord → ℕ → ℕ → Kind �
 object_armed_after s r i stamp (kinds.Raw context callback) = None
 object_armed_after s r i stamp (kinds.Posix base) = armed_in_phase (posix_after s r i base stamp).phase
 object_armed_after s r i stamp (kinds.Fd base) = armed_in_phase (fd_after s r i base stamp).phase
+object_armed_after s r i stamp (kinds.Sleeper base) = armed_in_phase (sleeper_after s r i base stamp).phase

@@ -21,7 +21,7 @@ IsBelowLimit limit number (replies.Armed generation) = number < limit
 IsBelowLimit limit number (replies.Running generation) = Unit
 IsBelowLimit limit number replies.Spent = Unit
 
--- the object after its entry has armed its timer as the timer's start has it: with its expiry, and for a settime on its clock
+-- the object after its entry has armed its timer as the timer's start has it: with its expiry, and for a settime or a sleep on its clock
 abbrev pub IsArmedLike : Bool → Option ArmedAs → ℕ → Timer → Type 0
 IsArmedLike on_clock None generation timer = ⊥
 IsArmedLike on_clock (Some a) generation timer = (a.generation ≡ generation) × (a.expires ≡ timer.expires) × (on_clock ≡ true → a.clock ≡ timer.clock)

@@ -108,7 +108,7 @@ ButOfCancel event P = P
 abbrev pub WasIdle : Witness → Label → ℕ → ℕ → ℕ → List Action → Type 0
 WasIdle w c first last timer begun = (n : ℕ) × (first ≤ n) × (n ≤ last) × IsMoment w c begun n × Holds (timer_along w n timer) observations.Idle
 
--- a settime disarmed its timer first: when it had begun its turn it cancelled it, or the timer was idle
+-- a call that arms its timer anew disarmed it first: when it had begun its turn it cancelled it, or the timer was idle
 abbrev pub DisarmedFirst : Witness → Label → ℕ → ℕ → ℕ → List Action → Type 0
 DisarmedFirst w c first last timer (Began i stamp ∷ Entered t number entry ∷ actions) =
     ButOfCancel entry.event (WasIdle w c first last timer (Began i stamp ∷ []))
@@ -130,6 +130,8 @@ IsTrueEntry w i number (object_entries.Trigger generation reading counted) n = N
 IsTrueEntry w i number (object_entries.Accept reading arm reply) n = IsTrueStart w i number false arm n
 IsTrueEntry w i number (object_entries.Read reading arm reply) n = IsTrueStart w i number false arm n
 IsTrueEntry w i number (object_entries.Gettime reading arm left interval) n = IsTrueStart w i number false arm n
+IsTrueEntry w i number (object_entries.Sleep flags time reading arm reply) n = IsTrueStart w i number true arm n
+IsTrueEntry w i number (object_entries.Interrupt reading reply) n = NothingTold
 
 -- what a thing that a call did tells of a timer or an object is true, at a moment after what the call did before it
 abbrev pub IsTrue : Witness → Label → List Action → Action → ℕ → Type 0

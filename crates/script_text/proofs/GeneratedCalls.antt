@@ -77,6 +77,7 @@ raw_suits : (form : Form) → ((context : Context) (callback : Callback) → sui
 raw_suits form h (kinds.Raw context callback) raw = h context callback
 raw_suits form h (kinds.Posix base) raw = absurd raw
 raw_suits form h (kinds.Fd base) raw = absurd raw
+raw_suits form h (kinds.Sleeper base) raw = absurd raw
 
 all_raw : (lanes : ℕ) → AllByRecursion (λ d. IsRaw d.kind) (lane_timers lanes)
 all_raw lanes = All-flat_map (λ d. IsRaw d.kind) timers_of_lane (range_with_len 0 lanes) (All-range _ 0 lanes (λ k small. (tt, (tt, tt))))

@@ -109,6 +109,9 @@ declares d forms.Posix (values.Number i ∷ values.Clock c ∷ values.Number b �
 declares d forms.Fd (values.Number i ∷ values.Clock c ∷ values.Number b ∷ []) is fit e =
     let own = object_on d i b e in
     (record { clock = c; kind = kinds.Fd b }, record { means = refl; line = rw own.0 refl; range = own.1 })
+declares d forms.Sleeper (values.Number i ∷ values.Clock c ∷ values.Number b ∷ []) is fit e =
+    let own = object_on d i b e in
+    (record { clock = c; kind = kinds.Sleeper b }, record { means = refl; line = rw own.0 refl; range = own.1 })
 declares d _ _ is fit e = absurd cc
 
 -- a line means this declaration, and no cause refuses it but where it stands and the count of its like
@@ -129,6 +132,8 @@ declaration_again d clock (kinds.Raw contexts.Soft (callbacks.Starts n b)) range
 declaration_again d clock (kinds.Posix base) range =
     record { means = refl; part = refl; values = rw (eq-eqb (length d.timers) (length d.timers) refl, lt-ltb base d.bases range) refl; kind = refl }
 declaration_again d clock (kinds.Fd base) range =
+    record { means = refl; part = refl; values = rw (eq-eqb (length d.timers) (length d.timers) refl, lt-ltb base d.bases range) refl; kind = refl }
+declaration_again d clock (kinds.Sleeper base) range =
     record { means = refl; part = refl; values = rw (eq-eqb (length d.timers) (length d.timers) refl, lt-ltb base d.bases range) refl; kind = refl }
 declaration_again d clock kind range =
     record { means = refl; part = refl; values = rw (eq-eqb (length d.timers) (length d.timers) refl) refl; kind = refl }
@@ -261,6 +266,7 @@ suits_range : (kind : Kind) → suits forms.StartRange kind ≡ suits forms.Star
 suits_range (kinds.Raw context callback) = refl
 suits_range (kinds.Posix base) = refl
 suits_range (kinds.Fd base) = refl
+suits_range (kinds.Sleeper base) = refl
 
 as_start : (timers : List Declaration) (i : ℕ) → HasTimerFor timers i forms.StartRange → HasTimerFor timers i forms.Start
 as_start timers i suit = (suit.0, sym (suits_range _) ∙ suit.1)
@@ -306,6 +312,8 @@ calls_for d some forms.Settime
     (λ none suit. suit) e kind
 calls_for d some forms.Read (values.Number k ∷ values.Number i ∷ values.Number n ∷ []) is fit e kind =
     timer_call d forms.Read _ _ k i _ (calls.Read i n) refl refl refl (λ none suit. suit) e kind
+calls_for d some forms.Sleep (values.Number k ∷ values.Number i ∷ values.Number f ∷ values.Number s ∷ values.Number n ∷ []) is fit e kind =
+    timer_call d forms.Sleep _ _ k i _ (calls.Sleep i f (record { sec = s; nsec = n })) refl refl refl (λ none suit. suit) e kind
 calls_for d some forms.Offline (values.Number k ∷ values.Number b ∷ values.Number h ∷ values.Number n ∷ []) is fit e kind =
     (record { lane = k; call = calls.Offline b h n }, offline_call d some k b h n e)
 calls_for d some forms.Online (values.Number k ∷ values.Number b ∷ []) is fit e kind =
@@ -319,6 +327,7 @@ calls_for d some forms.Set vs is fit e kind = absurd cc
 calls_for d some forms.Suspend vs is fit e kind = absurd cc
 calls_for d some forms.Settime vs is fit e kind = absurd cc
 calls_for d some forms.Read vs is fit e kind = absurd cc
+calls_for d some forms.Sleep vs is fit e kind = absurd cc
 calls_for d some forms.Offline vs is fit e kind = absurd cc
 calls_for d some forms.Online vs is fit e kind = absurd cc
 calls_for d some forms.Version vs is fit e kind = absurd cc
@@ -333,6 +342,7 @@ calls_for d some forms.SoftOnce vs is fit e kind = absurd cc
 calls_for d some forms.SoftEvery vs is fit e kind = absurd cc
 calls_for d some forms.Posix vs is fit e kind = absurd cc
 calls_for d some forms.Fd vs is fit e kind = absurd cc
+calls_for d some forms.Sleeper vs is fit e kind = absurd cc
 calls_for d some forms.Round vs is fit e kind = absurd cc
 calls_for d some f (values.Number k ∷ values.Number i ∷ []) is fit e kind = timer_call d f _ _ k i _ _ refl refl refl (λ none suit. suit) e kind
 calls_for d some _ _ is fit e kind = absurd cc

@@ -47,6 +47,9 @@ call_line lane (calls.Accept timer) = of_numbers forms.Accept (lane ∷ timer �
 call_line lane (calls.Overrun timer) = of_numbers forms.Overrun (lane ∷ timer ∷ [])
 call_line lane (calls.Read timer len) = of_numbers forms.Read (lane ∷ timer ∷ len ∷ [])
 call_line lane (calls.Readable timer) = of_numbers forms.Readable (lane ∷ timer ∷ [])
+call_line lane (calls.Sleep timer flags time) = of_numbers forms.Sleep (lane ∷ timer ∷ flags ∷ time.sec ∷ time.nsec ∷ [])
+call_line lane (calls.Interrupt timer) = of_numbers forms.Interrupt (lane ∷ timer ∷ [])
+call_line lane (calls.Slept timer) = of_numbers forms.Slept (lane ∷ timer ∷ [])
 call_line lane (calls.Offline base heir budget) = of_numbers forms.Offline (lane ∷ base ∷ heir ∷ budget ∷ [])
 call_line lane (calls.Online base) = of_numbers forms.Online (lane ∷ base ∷ [])
 
@@ -60,6 +63,8 @@ timer_call_of forms.Gettime k i = Some (record { lane = k; call = calls.Gettime 
 timer_call_of forms.Accept k i = Some (record { lane = k; call = calls.Accept i })
 timer_call_of forms.Overrun k i = Some (record { lane = k; call = calls.Overrun i })
 timer_call_of forms.Readable k i = Some (record { lane = k; call = calls.Readable i })
+timer_call_of forms.Interrupt k i = Some (record { lane = k; call = calls.Interrupt i })
+timer_call_of forms.Slept k i = Some (record { lane = k; call = calls.Slept i })
 timer_call_of form k i = None
 
 -- that of a line that has a lane's and a timer's number and nothing else
@@ -91,6 +96,8 @@ object_call_of forms.Settime
     (values.Number k ∷ values.Number i ∷ values.Number f ∷ values.Number vs ∷ values.Number vn ∷ values.Number is ∷ values.Number in_ ∷ []) =
     Some (record { lane = k; call = calls.Settime i f (record { sec = vs; nsec = vn }) (record { sec = is; nsec = in_ }) })
 object_call_of forms.Read (values.Number k ∷ values.Number i ∷ values.Number n ∷ []) = Some (record { lane = k; call = calls.Read i n })
+object_call_of forms.Sleep (values.Number k ∷ values.Number i ∷ values.Number f ∷ values.Number s ∷ values.Number n ∷ []) =
+    Some (record { lane = k; call = calls.Sleep i f (record { sec = s; nsec = n }) })
 object_call_of form vs = None
 
 -- the call that a line asks for, and its lane
@@ -128,5 +135,8 @@ IsCallInRange lane bases timers (calls.Accept timer) = HasTimerFor timers timer 
 IsCallInRange lane bases timers (calls.Overrun timer) = HasTimerFor timers timer forms.Overrun
 IsCallInRange lane bases timers (calls.Read timer len) = HasTimerFor timers timer forms.Read
 IsCallInRange lane bases timers (calls.Readable timer) = HasTimerFor timers timer forms.Readable
+IsCallInRange lane bases timers (calls.Sleep timer flags time) = HasTimerFor timers timer forms.Sleep
+IsCallInRange lane bases timers (calls.Interrupt timer) = HasTimerFor timers timer forms.Interrupt
+IsCallInRange lane bases timers (calls.Slept timer) = HasTimerFor timers timer forms.Slept
 IsCallInRange lane bases timers (calls.Offline base heir budget) = (lane ≡ 0) × (base < bases) × (heir < base) × (budget ≤ most_budget)
 IsCallInRange lane bases timers (calls.Online base) = (lane ≡ 0) × (base < bases)

@@ -67,6 +67,7 @@ row forms.SoftOnce = soft (codes "once") []
 row forms.SoftEvery = soft (codes "every") (At fields.Free ∷ [])
 row forms.Posix = Key (codes "posix") ∷ At fields.NewTimer ∷ At fields.Clock ∷ At fields.Base ∷ []
 row forms.Fd = Key (codes "fd") ∷ At fields.NewTimer ∷ At fields.Clock ∷ At fields.Base ∷ []
+row forms.Sleeper = Key (codes "sleeper") ∷ At fields.NewTimer ∷ At fields.Clock ∷ At fields.Base ∷ []
 row forms.Round = Key (codes "round") ∷ []
 row forms.Start = called (codes "start") (At fields.Timer ∷ At fields.Mode ∷ At fields.Free ∷ At fields.Base ∷ [])
 row forms.StartRange = called (codes "startrange") (At fields.Timer ∷ At fields.Mode ∷ At fields.Free ∷ At fields.Free ∷ At fields.Base ∷ [])
@@ -84,6 +85,9 @@ row forms.Accept = called (codes "accept") (At fields.Timer ∷ [])
 row forms.Overrun = called (codes "overrun") (At fields.Timer ∷ [])
 row forms.Read = called (codes "read") (At fields.Timer ∷ At fields.Free ∷ [])
 row forms.Readable = called (codes "readable") (At fields.Timer ∷ [])
+row forms.Sleep = called (codes "sleep") (At fields.Timer ∷ At fields.Free ∷ At fields.Free ∷ At fields.Free ∷ [])
+row forms.Interrupt = called (codes "interrupt") (At fields.Timer ∷ [])
+row forms.Slept = called (codes "slept") (At fields.Timer ∷ [])
 row forms.Offline = called_first (codes "offline") (At fields.Base ∷ At fields.Heir ∷ At fields.Budget ∷ [])
 row forms.Online = called_first (codes "online") (At fields.Base ∷ [])
 
@@ -95,6 +99,10 @@ since forms.StartRange = versions.Two
 since forms.SoftExpire = versions.Two
 since forms.Offline = versions.Two
 since forms.Online = versions.Two
+since forms.Sleeper = versions.Two
+since forms.Sleep = versions.Two
+since forms.Interrupt = versions.Two
+since forms.Slept = versions.Two
 since form = versions.One
 
 -- whether what comes with one version has come by another
@@ -121,6 +129,7 @@ part forms.SoftOnce = parts.Declaration
 part forms.SoftEvery = parts.Declaration
 part forms.Posix = parts.Declaration
 part forms.Fd = parts.Declaration
+part forms.Sleeper = parts.Declaration
 part forms.Round = parts.Round
 part call = parts.Call
 
@@ -138,13 +147,16 @@ suits forms.Accept (kinds.Posix base) = true
 suits forms.Overrun (kinds.Posix base) = true
 suits forms.Read (kinds.Fd base) = true
 suits forms.Readable (kinds.Fd base) = true
+suits forms.Sleep (kinds.Sleeper base) = true
+suits forms.Interrupt (kinds.Sleeper base) = true
+suits forms.Slept (kinds.Sleeper base) = true
 suits form kind = false
 
 -- the forms that are chosen by a line's first word
 abbrev pub plain_forms : List (List ℕ × Form)
 plain_forms =
     (codes "hrt", forms.Version) ∷ (codes "bases", forms.Bases) ∷ (codes "lanes", forms.Lanes) ∷ (codes "limit", forms.Limit)
-    ∷ (codes "posix", forms.Posix) ∷ (codes "fd", forms.Fd) ∷ (codes "round", forms.Round) ∷ []
+    ∷ (codes "posix", forms.Posix) ∷ (codes "fd", forms.Fd) ∷ (codes "sleeper", forms.Sleeper) ∷ (codes "round", forms.Round) ∷ []
 
 -- those of a raw timer, by the word after its clock
 abbrev pub raw_forms : List (List ℕ × Form)
@@ -163,4 +175,5 @@ call_forms =
     ∷ (codes "advance", forms.Advance) ∷ (codes "set", forms.Set) ∷ (codes "suspend", forms.Suspend)
     ∷ (codes "settime", forms.Settime) ∷ (codes "gettime", forms.Gettime) ∷ (codes "accept", forms.Accept) ∷ (codes "overrun", forms.Overrun)
     ∷ (codes "read", forms.Read) ∷ (codes "readable", forms.Readable)
+    ∷ (codes "sleep", forms.Sleep) ∷ (codes "interrupt", forms.Interrupt) ∷ (codes "slept", forms.Slept)
     ∷ (codes "offline", forms.Offline) ∷ (codes "online", forms.Online) ∷ []

@@ -24,6 +24,7 @@ pub enum Form {
     SoftEvery,
     Posix,
     Fd,
+    Sleeper,
     Round,
     Start,
     StartRange,
@@ -40,6 +41,9 @@ pub enum Form {
     Overrun,
     Read,
     Readable,
+    Sleep,
+    Interrupt,
+    Slept,
     Offline,
     Online,
 }
@@ -118,6 +122,7 @@ pub(crate) const PLAIN: &[(&[u8], Form)] = &[
     (b"limit", Form::Limit),
     (b"posix", Form::Posix),
     (b"fd", Form::Fd),
+    (b"sleeper", Form::Sleeper),
     (b"round", Form::Round),
 ];
 
@@ -149,6 +154,9 @@ pub(crate) const CALLS: &[(&[u8], Form)] = &[
     (b"overrun", Form::Overrun),
     (b"read", Form::Read),
     (b"readable", Form::Readable),
+    (b"sleep", Form::Sleep),
+    (b"interrupt", Form::Interrupt),
+    (b"slept", Form::Slept),
     (b"offline", Form::Offline),
     (b"online", Form::Online),
 ];
@@ -181,6 +189,7 @@ impl Form {
             Form::SoftEvery => &[KEY, NEW_TIMER, CLOCK, KEY, FREE],
             Form::Posix => &[KEY, NEW_TIMER, CLOCK, BASE],
             Form::Fd => &[KEY, NEW_TIMER, CLOCK, BASE],
+            Form::Sleeper => &[KEY, NEW_TIMER, CLOCK, BASE],
             Form::Round => &[KEY],
             Form::Start => &[LANE, KEY, TIMER, Some(Field::Mode), FREE, BASE],
             Form::StartRange => &[LANE, KEY, TIMER, Some(Field::Mode), FREE, FREE, BASE],
@@ -197,6 +206,9 @@ impl Form {
             Form::Overrun => &[LANE, KEY, TIMER],
             Form::Read => &[LANE, KEY, TIMER, FREE],
             Form::Readable => &[LANE, KEY, TIMER],
+            Form::Sleep => &[LANE, KEY, TIMER, FREE, FREE, FREE],
+            Form::Interrupt => &[LANE, KEY, TIMER],
+            Form::Slept => &[LANE, KEY, TIMER],
             Form::Offline => &[
                 FIRST_LANE,
                 KEY,
@@ -218,7 +230,11 @@ impl Form {
             | Form::StartRange
             | Form::SoftExpire
             | Form::Offline
-            | Form::Online => Version::Two,
+            | Form::Online
+            | Form::Sleeper
+            | Form::Sleep
+            | Form::Interrupt
+            | Form::Slept => Version::Two,
             _ => Version::One,
         }
     }
@@ -246,7 +262,8 @@ impl Form {
             | Form::SoftOnce
             | Form::SoftEvery
             | Form::Posix
-            | Form::Fd => Part::Declaration,
+            | Form::Fd
+            | Form::Sleeper => Part::Declaration,
             Form::Round => Part::Round,
             _ => Part::Call,
         }
@@ -283,6 +300,14 @@ impl Form {
                 let (lane, timer) = (lane as u32, timer as u32);
                 (lane, Call::Readable { timer })
             }
+            Form::Interrupt => {
+                let (lane, timer) = (lane as u32, timer as u32);
+                (lane, Call::Interrupt { timer })
+            }
+            Form::Slept => {
+                let (lane, timer) = (lane as u32, timer as u32);
+                (lane, Call::Slept { timer })
+            }
             _ => return None,
         };
         Some(LaneCall { lane, call })
@@ -298,6 +323,7 @@ impl Form {
             Form::Settime | Form::Gettime => matches!(kind, Kind::Posix { .. } | Kind::Fd { .. }),
             Form::Accept | Form::Overrun => matches!(kind, Kind::Posix { .. }),
             Form::Read | Form::Readable => matches!(kind, Kind::Fd { .. }),
+            Form::Sleep | Form::Interrupt | Form::Slept => matches!(kind, Kind::Sleeper { .. }),
             _ => false,
         }
     }

@@ -33,6 +33,10 @@ pub enum Kind {
     Fd {
         base: u32,
     },
+    /// A sleeper, its timer on this base.
+    Sleeper {
+        base: u32,
+    },
 }
 
 /// A timer of a script: the clock that it is declared on, and its kind.
@@ -93,6 +97,17 @@ pub enum Call {
         len: u64,
     },
     Readable {
+        timer: u32,
+    },
+    Sleep {
+        timer: u32,
+        flags: u64,
+        time: TimeSpec,
+    },
+    Interrupt {
+        timer: u32,
+    },
+    Slept {
         timer: u32,
     },
     /// Takes the base off line, and moves at most so many timers to the heir.

@@ -2,7 +2,7 @@
 ghost use Rattle.std.specs.Prelude.{◌≡◌, ◌++◌, ◌∷◌, OnOk, string_bytes, codes, length, map};
 ghost use Rattle.std.specs.Fmt.{decimal};
 ghost use Rattle.record_text.specs.Numbers.{AreMachineNumbers};
-ghost use Rattle.record_text.specs.Answers.{answer_numbers, object_answer_numbers, shift_answer_numbers, answer_words, object_answer_words, shift_answer_words};
+ghost use Rattle.record_text.specs.Answers.{answer_numbers, object_answer_numbers, shift_answer_numbers, sleeper_answer_numbers, answer_words, object_answer_words, shift_answer_words, sleeper_answer_words};
 ghost use Rattle.record_text.specs.Text.{spaced};
 
 use crate::item_list::ItemList;
@@ -91,7 +91,7 @@ fn write_shift_answer(out: &mut String, answer: &Answer) -> Result<(), AllocErro
     Ok(())
 }
 
-/// Writes the words of what an object's call alone is answered, each after a space. It writes nothing for another answer.
+/// Writes the words of what a call of a POSIX timer or a descriptor alone is answered, or of a sleeper's call.
 fn write_object_answer(out: &mut String, answer: &Answer) -> Result<(), AllocError>
     ensures text { OnOk result (string_bytes out.new ≡ string_bytes out.old ++ spaced (object_answer_words answer.now)) }
     ensures numbers { OnOk result (AreMachineNumbers (object_answer_numbers answer.now)) }
@@ -118,6 +118,25 @@ fn write_object_answer(out: &mut String, answer: &Answer) -> Result<(), AllocErr
             reading,
             stamp,
         } => write_word(out, "readable", &[ready.into(), reading, stamp])?,
+        _ => write_sleeper_answer(out, answer)?,
+    }
+    Ok(())
+}
+
+/// Writes the words of what a sleeper's call alone is answered, each after a space. It writes nothing for another answer.
+fn write_sleeper_answer(out: &mut String, answer: &Answer) -> Result<(), AllocError>
+    ensures text { OnOk result (string_bytes out.new ≡ string_bytes out.old ++ spaced (sleeper_answer_words answer.now)) }
+    ensures numbers { OnOk result (AreMachineNumbers (sleeper_answer_numbers answer.now)) }
+{
+    match *answer {
+        Answer::Asleep => write_word(out, "asleep", &[])?,
+        Answer::Slept => write_word(out, "done", &[])?,
+        Answer::Occupied { stamp } => write_word(out, "occupied", &[stamp])?,
+        Answer::SleepLeft { ns } => write_word(out, "left", &[ns])?,
+        Answer::Interrupted => write_word(out, "interrupted", &[])?,
+        Answer::Sleeping { stamp } => write_word(out, "sleeping", &[stamp])?,
+        Answer::SleptAt { stamp } => write_word(out, "done", &[stamp])?,
+        Answer::Awake { stamp } => write_word(out, "awake", &[stamp])?,
         _ => {}
     }
     Ok(())

@@ -1,9 +1,9 @@
 //! The words of an object's entries.
 ghost use Rattle.std.specs.Prelude.{◌≡◌, ◌<◌, ◌^◌, ◌++◌, ◌∷◌, [], OnOk, string_bytes};
 ghost use Rattle.std.specs.Fmt.{decimal};
-ghost use Rattle.record_text.specs.Numbers.{armed_number, rearming_numbers, object_entry_numbers, AreMachineNumbers};
+ghost use Rattle.record_text.specs.Numbers.{armed_number, rearming_numbers, object_entry_numbers, sleeping_numbers, AreMachineNumbers};
 ghost use Rattle.record_text.specs.Answers.{answer_numbers, answer_words};
-ghost use Rattle.record_text.specs.Text.{armed_word, rearming_words, spaced, object_entry_words};
+ghost use Rattle.record_text.specs.Text.{armed_word, rearming_words, sleeping_words, spaced, object_entry_words};
 
 use crate::record::{Answer, Armed, ObjectEntry};
 use crate::writing::sections::HasWords;
@@ -42,7 +42,7 @@ impl HasWords for ObjectEntry {
     }
 }
 
-/// Writes the words of an entry of a call that arms an expired timer again. It writes nothing for another entry.
+/// Writes the words of an entry of a call that arms an expired timer again, or of a sleeper's call.
 fn write_rearming(out: &mut String, entry: ObjectEntry) -> Result<(), AllocError>
     ensures text { OnOk result (string_bytes out.new ≡ string_bytes out.old ++ spaced (rearming_words entry)) }
     ensures numbers { OnOk result (AreMachineNumbers (rearming_numbers entry)) }
@@ -73,6 +73,31 @@ fn write_rearming(out: &mut String, entry: ObjectEntry) -> Result<(), AllocError
             write_word(out, "gettime", &[reading])?;
             write_armed(out, arm)?;
             write_numbers(out, &[left, interval])?;
+        }
+        sleeping => write_sleeping(out, sleeping)?,
+    }
+    Ok(())
+}
+
+/// Writes the words of an entry of a sleeper's call. It writes nothing for another entry.
+fn write_sleeping(out: &mut String, entry: ObjectEntry) -> Result<(), AllocError>
+    ensures text { OnOk result (string_bytes out.new ≡ string_bytes out.old ++ spaced (sleeping_words entry)) }
+    ensures numbers { OnOk result (AreMachineNumbers (sleeping_numbers entry)) }
+{
+    match entry {
+        ObjectEntry::Sleep {
+            flags,
+            time,
+            reading,
+            arm,
+            reply,
+        } => {
+            write_word(out, "sleep", &[flags, time])?;
+            write_outcome(out, reading, arm, &reply.answer())?;
+        }
+        ObjectEntry::Interrupt { reading, reply } => {
+            write_word(out, "interrupt", &[reading])?;
+            reply.answer().write_words(out)?;
         }
         _ => {}
     }

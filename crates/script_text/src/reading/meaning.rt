@@ -45,6 +45,10 @@ pub fn declaration(form: Form, values: &[Value]) -> Option<Declaration>
             let base = *base as u32;
             (clock, Kind::Fd { base })
         }
+        (Form::Sleeper, [Number(_), Clock(clock), Number(base)]) => {
+            let base = *base as u32;
+            (clock, Kind::Sleeper { base })
+        }
         _ => return None,
     };
     let clock = *clock;
@@ -185,6 +189,7 @@ fn object_call(form: Form, values: &[Value]) -> Option<LaneCall>
 {
     let (lane, call) = match (form, values) {
         (Form::Settime, values) => return settime(values),
+        (Form::Sleep, values) => return sleep(values),
         (Form::Read, [Number(lane), Number(timer), Number(len)]) => {
             let (timer, len) = (*timer as u32, *len);
             (lane, Call::Read { timer, len })
@@ -223,6 +228,34 @@ fn settime(values: &[Value]) -> Option<LaneCall>
         interval: TimeSpec {
             sec: *period_sec,
             nsec: *period_nsec,
+        },
+    };
+    let lane = *lane as u32;
+    Some(LaneCall { lane, call })
+}
+
+/// The sleep that a line of these values asks for.
+#[tactic(auto, unfolding(crate::specs::CallLines::object_call_of))]
+fn sleep(values: &[Value]) -> Option<LaneCall>
+    requires { AreShort (row forms.Sleep) values.now }
+    ensures { result ≡ object_call_of forms.Sleep values.now }
+{
+    let [
+        Number(lane),
+        Number(timer),
+        Number(flags),
+        Number(sec),
+        Number(nsec),
+    ] = values
+    else {
+        return None;
+    };
+    let call = Call::Sleep {
+        timer: *timer as u32,
+        flags: *flags,
+        time: TimeSpec {
+            sec: *sec,
+            nsec: *nsec,
         },
     };
     let lane = *lane as u32;

@@ -1,0 +1,14 @@
+use Rattle.std.proofs.Common.{refl}
+use Rattle.timer_objects.specs.Calls.{Interrupts}
+use Rattle.lane_run.proofs.Objects.{calls_object}
+use Rattle.lane_run.proofs.object_calls.interrupt.Goals as goal
+
+pub returns-clause-call : goal.returns-clause-call
+returns-clause-call g c =
+    let was = c.requires.reading in
+    let made = c.interrupt-answer in (
+      made.result,
+      c.interrupt_answer.ensures,
+      calls_object (λ x old new reading. Interrupts x.objects x.timers.about old new c.args.timer reading made.result) c.args.reading
+          made.new.log.receipts made.new.object_log.receipts c.world.view_is c.note_logs.ensures.rest.3 (record { same = refl; shows = was.shows; count = was.count }) c.in_ok-logs.ensures.empty made.ensures.interrupts c.in_ok-note_logs.ensures.notes,
+    )
