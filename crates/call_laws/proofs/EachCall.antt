@@ -35,7 +35,7 @@ use Rattle.timer_objects.specs.declared.answers.Gettime.TheVariants as gettimes
 use Rattle.timer_objects.specs.declared.answers.Gettime.{Gettime}
 use Rattle.timer_objects.specs.declared.object.Kind as object_kind
 use Rattle.timer_objects.specs.declared.object.Kind.TheVariants as over
-use Rattle.call_laws.proofs.ObjectLooks.{fd_looked, keeps_look, posix_looked}
+use Rattle.call_laws.proofs.ObjectLooks.{fd_looked, keeps_look, posix_found, posix_looked}
 
 -- ---- looks at objects
 
@@ -46,10 +46,10 @@ keeps_overrun {s = s} {l = l} {m = m} {timer = timer} next called =
     let c = called.1 in
     let found = called.0 in
     subst (λ a. KeepsCall s l (calls.Overrun timer) a m) (sym c.tells)
-    (keeps_look m next (answers.Overrun found.overrun found.stamp) c.looks.1 (clock_left c.clock)
+    (keeps_look m next (answers.Overrun found.overrun found.stamp) c.looks.2 (clock_left c.clock)
     (c.notes ∙ no_notes-joins l.notes ∙ sym (with_done-joins l.notes l.label [] [])) (λ e. refl) (λ e follows point is. (
       point,
-      ap (λ (u : PosixTimer). u.overrun) (sym (posix_looked s e.run timer found.stamp (kind_of s timer) is)) ∙ sym c.looks.2,
+      ap (λ (u : PosixTimer). u.overrun) (sym (posix_found s e.run timer found.stamp (kind_of s timer) is c.looks.3)) ∙ sym c.looks.4,
     )))
 
 -- law: a lane keeps a look at whether a descriptor is ready

@@ -1,10 +1,11 @@
 -- A look at an object, as its lane keeps it.
 use Rattle.call_laws.proofs.Parts.{part_seen}
 use Rattle.timer_objects.specs.Known.{seen_of}
-use Rattle.std.proofs.Common.{◌≡◌, ℕ, List, [], length, sym, ap, ◌∙◌, subst}
+use Rattle.std.proofs.Common.{◌≡◌, ℕ, Some, List, [], length, sym, ap, ◌∙◌, subst}
+use Rattle.std.proofs.lemmas.Option.{same_Some}
 use Rattle.counted_row.specs.Views.{StateAfter}
 use Rattle.posix_timer.specs.States.{PosixTimer}
-use Rattle.timer_objects.specs.Calls.{LooksAtObject}
+use Rattle.timer_objects.specs.Calls.{LooksAtObject, posix_in}
 use Rattle.timer_objects.specs.declared.log.ObjectReceipt.{ObjectReceipt}
 use Rattle.base_row.specs.declared.log.Receipt.{Receipt}
 use Rattle.timer_objects.specs.Meaning.{object_meaning}
@@ -55,6 +56,12 @@ pub posix_looked : (s : Script) (r : RunRecord) (i n : ℕ) (k : Kind) {t : Posi
     → t ≡ posix_after s r i (base_of k) n
 posix_looked s r i n (kinds.Posix base) is = cc
 posix_looked s r i n k is = absurd (cc)
+
+-- law: so is the one in an object that was looked at
+pub posix_found : (s : Script) (r : RunRecord) (i n : ℕ) (k : Kind) {object : Object} {t : PosixTimer} → object ≡ object_after s r i n k
+    → posix_in object ≡ Some t → t ≡ posix_after s r i (base_of k) n
+posix_found s r i n (kinds.Posix base) {t = t} is has = same_Some t (posix_after s r i base n) (sym has ∙ ap posix_in is)
+posix_found s r i n k is has = let none = sym has ∙ ap posix_in is in absurd cc
 
 pub fd_looked : (s : Script) (r : RunRecord) (i n : ℕ) (k : Kind) {t : Descriptor} → objects.Fd t ≡ object_after s r i n k → t ≡ fd_after s r i (base_of k) n
 fd_looked s r i n (kinds.Fd base) is = cc

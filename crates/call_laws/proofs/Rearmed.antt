@@ -47,6 +47,9 @@ if_timely false o q wanted one other is = other is
 pub wanted_timely : (r : Rearming) (object : Object) (reading : ClockReading) (wanted : Wanted) → wanted_by r object reading ≡ Some wanted → IsTimely wanted
 wanted_timely rearmings.Accepting (objects.Posix t) reading wanted is =
     if_timely _ (next_start t.phase t.interval reading) None wanted (next_timely t.phase t.interval reading wanted) (λ none. absurd (cc)) is
+wanted_timely rearmings.Accepting (objects.Queued t) reading wanted is =
+    if_timely _ (next_start t.timer.phase t.timer.interval reading) None wanted (next_timely t.timer.phase t.timer.interval reading wanted)
+    (λ none. absurd (cc)) is
 wanted_timely rearmings.Reading (objects.Fd t) reading wanted is =
     if_timely _ None (next_start t.phase t.interval reading) wanted (λ none. absurd (cc)) (next_timely t.phase t.interval reading wanted) is
 wanted_timely rearmings.Getting (objects.Fd t) reading wanted is = next_timely t.phase t.interval reading wanted is

@@ -74,6 +74,10 @@ module _ (flags value interval : ℕ) (reading : ClockReading) (answer : Settime
   settime_noted (objects.Posix t) arm allows tells =
       noted_so arm _ (settimes.Old (posix_left t reading) t.interval) (refl, refl, λ clock. refl) (ap settime_told (settime_same tells))
       (λ w timer last armed. tt)
+  settime_noted (objects.Queued t) (arms.Unarmed stamp) allows tells = refused_so stamp tells
+  settime_noted (objects.Queued t) arm allows tells =
+      noted_so arm _ (settimes.Old (posix_left t.timer reading) t.timer.interval) (refl, refl, λ clock. refl) (ap settime_told (settime_same tells))
+      (λ w timer last armed. tt)
   settime_noted (objects.Fd t) (arms.Unarmed stamp) allows tells = refused_so stamp tells
   settime_noted (objects.Fd t) arm allows tells = old (answers_canceled t flags value reading) (settime_same tells)
     where

@@ -84,6 +84,7 @@ module _ (flags time : ℕ) (reading : ClockReading) (answer : SleepAnswer) wher
   sleep_noted objects.Raw arm allows tells = absurd allows
   sleep_noted (objects.Posix t) arm allows tells = absurd allows
   sleep_noted (objects.Fd t) arm allows tells = absurd allows
+  sleep_noted (objects.Queued t) arm allows tells = absurd allows
   sleep_noted (objects.Sleeper s) arm allows tells = by_arm arm (same_sleep tells)
 
 -- ---- an interrupt
@@ -116,4 +117,5 @@ module _ (reading : ClockReading) (answer : InterruptAnswer) where
   interrupt_noted objects.Raw allows tells = absurd allows
   interrupt_noted (objects.Posix t) allows tells = absurd allows
   interrupt_noted (objects.Fd t) allows tells = absurd allows
+  interrupt_noted (objects.Queued t) allows tells = absurd allows
   interrupt_noted (objects.Sleeper s) allows tells = by_sleep s.sleep (sleep_left s reading) s.stamp allows.1 (same_end tells)

@@ -33,6 +33,7 @@ pub(crate) fn told(call: ObjectCall, reply: ObjectReply) -> NoteOrSkip
         ObjectCall::Gettime { reading, arm } => (gettime(reading, arm, reply), None),
         ObjectCall::Sleep(call) => (sleep(call, reply), None),
         ObjectCall::Interrupt { reading } => (interrupt(reading, reply), None),
+        ObjectCall::Overflow { .. } => (None, None),
     }
 }
 

@@ -151,7 +151,7 @@ fn gettime_answer(answer: Gettime, kind: Kind, reading: u64) -> Answer
                 interval,
                 stamp,
             },
-            Kind::Raw | Kind::Posix | Kind::Sleeper,
+            Kind::Raw | Kind::Posix | Kind::Sleeper | Kind::Queued,
         ) => Answer::LeftAt {
             left,
             interval,

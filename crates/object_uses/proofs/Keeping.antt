@@ -71,13 +71,13 @@ module _ (x : ObjectsOf) (o : Opening) (old new : Caller) (id : ℕ) where
         keeps_added old.objects new.objects id _ sets.enters.commits.adds,
       )
 
-  keeps_looked : {object : Object} {n : ℕ} → LooksAtObject old new id object n → KeepsBoth old new
+  pub keeps_looked : {object : Object} {n : ℕ} → LooksAtObject old new id object n → KeepsBoth old new
   keeps_looked looks = (keeps_looks old.timers new.timers looks.timers, keeps_read old.objects new.objects looks.reads.pass)
 
-  keeps_full : (n : ℕ) → FindsFull x old new id n → KeepsBoth old new
+  pub keeps_full : (n : ℕ) → FindsFull x old new id n → KeepsBoth old new
   keeps_full n full = (keeps_looks old.timers new.timers full.looks, keeps_read old.objects new.objects full.reads.pass)
 
-  keeps_none : new ≡ old → KeepsBoth old new
+  pub keeps_none : new ≡ old → KeepsBoth old new
   keeps_none same = subst (λ (c : Caller). KeepsBoth old c) (sym same)
       (record { id = refl; claims = refl; seen = begins_refl old.timers.seen; mine = begins_refl old.timers.mine }, keeps_same old.objects)
 
@@ -112,7 +112,7 @@ module _ (x : ObjectsOf) (o : Opening) (old new : Caller) (id flags value interv
   keeps_unless None a made = keeps_settime a made
   keeps_unless (Some r) a refused = keeps_none x o old new id refused.1
 
-  keeps_call : (r : Rearming) (reply : ObjectReply) → RearmingMade x o old new id r reading reply → KeepsBoth old new
+  pub keeps_call : (r : Rearming) (reply : ObjectReply) → RearmingMade x o old new id r reading reply → KeepsBoth old new
   keeps_call r reply made = (
     keeps_turn made.turn (keeps_armed o made.begun made.worked id _ _ reading made.arm old.log new.log made.arms),
     keeps_added old.objects new.objects id _ made.enters.commits.adds,

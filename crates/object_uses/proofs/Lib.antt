@@ -2,3 +2,4 @@ pub mod Alike
 pub mod Keeping
 pub mod Taking
 pub mod Rooms
+pub mod NextSignals

@@ -14,3 +14,7 @@ room_at terms base n low room = grind (arith, nat_tests)
 pub room_on : (x : ObjectsOf) (o : Opening) (id n : ℕ) → Suits x o → id < length x.decls → o.bases ≤ 2 → 4 ≤ n → most_noted x o id ≤ n
 room_on x o id n suits within few room =
     room_at (timer_at o.timers id).terms (decl_at x id).base n (omega (arith, suits.bases id within, few)) room
+
+-- so it is for each object
+pub rooms_on : (x : ObjectsOf) (o : Opening) (n : ℕ) → Suits x o → o.bases ≤ 2 → 4 ≤ n → (id : ℕ) → id < length x.decls → most_noted x o id ≤ n
+rooms_on x o n suits few room id within = room_on x o id n suits within few room

@@ -51,6 +51,8 @@ module _ (reading : ClockReading) (arm : Arm) (n : ℕ) where
   signal_of (objects.Posix t) e = let by = signal_by t t.pending refl e in record { timer = t; is = refl; pending = by.0; overrun = by.1 }
   signal_of (objects.Fd t) e = absurd (none-some n (sym e))
   signal_of (objects.Sleeper t) e = absurd (none-some n (sym e))
+  signal_of (objects.Queued t) e =
+      let by = signal_by t.timer t.timer.pending refl e in record { timer = t.timer; is = refl; pending = by.0; overrun = by.1 }
 
   count_by : (t : Descriptor) (off none nil : Bool) (a b c : Descriptor) → c.count ≡ 0
       → Some n ≡ number_in (replies.Read (if off then reads.Canceled else (if none then reads.Again else (if nil then reads.Again
@@ -66,6 +68,7 @@ module _ (reading : ClockReading) (arm : Arm) (n : ℕ) where
   count_of objects.Raw e = absurd (none-some n (sym e))
   count_of (objects.Posix t) e = absurd (none-some n (sym e))
   count_of (objects.Sleeper t) e = absurd (none-some n (sym e))
+  count_of (objects.Queued t) e = absurd (none-some n (sym e))
   count_of (objects.Fd t) e =
       let by = count_by t (is_canceled t reading) (nat_eq t.count 0) (nat_eq (total_in t reading) 0) _ _ _ refl e in record {
         arm = arm;

@@ -1,5 +1,5 @@
 -- What callers are told of objects, by all that their passes have seen.
-use Rattle.std.specs.Prelude.{ℕ, ◌≡◌, ◌+◌, ◌≤◌, ◌<◌, List, [], ◌∷◌, ◌++◌, length, true}
+use Rattle.std.specs.Prelude.{ℕ, ◌≡◌, ◌+◌, ◌≤◌, ◌<◌, List, [], ◌∷◌, ◌++◌, length, true, Some}
 use Rattle.ktime.specs.Readings.{ClockReading}
 use Rattle.pass_names.specs.declared.Pass.{Pass}
 use Rattle.pass_names.specs.Names.{after_retire}
@@ -32,7 +32,7 @@ use Rattle.timer_objects.specs.declared.log.ObjectReceipt.{ObjectReceipt}
 use Rattle.timer_objects.specs.declared.callback.Callback.{Callback}
 use Rattle.timer_objects.specs.Callbacks.{bases_of}
 use Rattle.timer_objects.specs.Meaning.{object_meaning}
-use Rattle.timer_objects.specs.Calls.{Caller}
+use Rattle.timer_objects.specs.Calls.{Caller, posix_in}
 use Rattle.timer_objects.specs.Known.{IsObjectsPass, KeepsObjectsPass, ObjectsOf, ObjectsPass, Suits, most_noted, seen_of}
 
 -- a thread has a pass of the timers and one of the objects, which stand over these timers
@@ -85,7 +85,7 @@ pub record EndsWith (p q : ObjectsPass) (id : ℕ) : Type 0 where
 -- a POSIX timer's signal is pending, and the overrun is by the periods that have passed at this reading
 pub record HasSignal (object : Object) (reading : ClockReading) (n : ℕ) : Type 0 where
   pub timer : PosixTimer
-  pub is : object ≡ objects.Posix timer
+  pub is : posix_in object ≡ Some timer
   pub pending : timer.pending ≡ true
   pub overrun : n ≡ overrun_of (periods_in timer.phase timer.interval reading)
 

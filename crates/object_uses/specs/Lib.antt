@@ -1,3 +1,4 @@
 pub mod Callers
 pub mod Stands
 pub mod Waiting
+pub mod Queued

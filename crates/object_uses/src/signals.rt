@@ -1,6 +1,6 @@
 //! The signals of a periodic POSIX timer, and their overruns.
 ghost use Rattle.std.specs.Prelude.{◌≡◌, ◌≤◌, ◌+◌};
-ghost use Rattle.timer_objects.specs.declared.object.Kind.TheVariants as kinds;
+ghost use Rattle.timer_objects.specs.Calls.{IsPosixKind};
 ghost use Rattle.timer_objects.specs.Known.{decl_at, most_noted};
 ghost use Rattle.object_uses.specs.Callers.{AcceptFits, KeepsPasses, MayCall};
 
@@ -26,7 +26,7 @@ pub fn accept_signal<R: Wait>(
     reading: Reading,
 ) -> AcceptAnswer
     requires may { MayCall timers.now objects.now pass.old objects_pass.old log.old object_log.old id }
-    requires kind { (decl_at objects.now id).kind ≡ kinds.Posix }
+    requires kind { IsPosixKind (decl_at objects.now id).kind }
     ensures keeps { KeepsPasses timers.now objects.now pass.old pass.new objects_pass.old objects_pass.new }
     ensures accepts { AcceptFits objects_pass.old objects_pass.new id reading result }
     ensures room { (log.old.spare ≤ log.new.spare + most_noted objects.now timers.now.about id) × (object_log.old.spare ≤ object_log.new.spare + 1) }

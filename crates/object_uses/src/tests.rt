@@ -10,6 +10,7 @@ mod of_timer_objects;
 mod off_line;
 mod passes;
 mod places;
+mod queued;
 mod sleeping;
 mod stand;
 mod waiting;

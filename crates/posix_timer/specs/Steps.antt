@@ -8,6 +8,7 @@ use Rattle.timer_setting.specs.declared.arming.Arm.{Arm}
 use Rattle.timer_setting.specs.declared.arming.Arm.TheVariants as arms
 use Rattle.timer_setting.specs.Arguments.{abstime, bits_beyond, start_by}
 use Rattle.timer_setting.specs.declared.object_timer.ObjectTimer.{ObjectTimer}
+use Rattle.timer_setting.specs.declared.phase.Phase.TheVariants as phases
 use Rattle.timer_setting.specs.Kinds.{ObjectKind}
 use Rattle.timer_setting.specs.Phases.{IsOutcomeOf, expired, is_expiry_of, next_start, periods_in, phase_by, rearmed}
 use Rattle.timer_setting.specs.Settimes.{start_wanted, trigger_answer}
@@ -75,6 +76,10 @@ accepted t reading arm =
       overrun = overrun_of (periods_in t.phase t.interval reading);
       stamp = t.stamp + 1;
     } else record t { stamp = t.stamp + 1 }
+
+-- the timer after an expiry whose signal found no room in its queue: it is disarmed
+abbrev pub posix_overflowed : PosixTimer → PosixTimer
+posix_overflowed t = record t { interval = 0; phase = phases.Idle; pending = false; stamp = t.stamp + 1 }
 
 -- what a call needs: it is one of a POSIX timer's
 abbrev pub PosixAllows : PosixTimer → ObjectCall → Type 0

@@ -5,6 +5,7 @@ ghost use Rattle.timer_setting.specs.Kinds.{IsKind};
 ghost use Rattle.timer_setting.specs.StepTables.{AnsweredCall};
 ghost use Rattle.timer_setting.specs.declared.object_call.ObjectCall.{ObjectCall};
 ghost use Rattle.timer_setting.specs.declared.object_call.ObjectReply.{ObjectReply};
+ghost use Rattle.posix_timer.specs.Queued.{queued_kind};
 ghost use Rattle.posix_timer.specs.Histories.{IsPosixHistory, posix_state_after};
 ghost use Rattle.posix_timer.specs.Steps.{PosixAllows, posix_answer, posix_kind, posix_step};
 
@@ -22,4 +23,9 @@ pub fn one_more_entry()
 /// POSIX timers are a kind of object: what holds of the calls of every kind.
 pub fn posix_timers_are_a_kind()
     ensures { IsKind posix_kind }
+{}
+
+/// So are POSIX timers whose signals go to a queue.
+pub fn queued_timers_are_a_kind()
+    ensures { IsKind queued_kind }
 {}

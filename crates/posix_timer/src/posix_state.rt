@@ -2,11 +2,11 @@
 ghost use Rattle.std.specs.Prelude.{◌≡◌, ◌≤◌, ◌<◌, ◌↔◌, ◌⊎◌, ℕ};
 ghost use Rattle.ktime.specs.Times.{last_time, second};
 ghost use Rattle.timer_setting.specs.Arguments.{abstime, bits_beyond, time_of};
-ghost use Rattle.timer_setting.specs.Phases.{IsOutcomeOf};
+ghost use Rattle.timer_setting.specs.Phases.{IsOutcomeOf, is_expiry_of};
 ghost use Rattle.timer_setting.specs.Settimes.{most_entries};
 ghost use Rattle.timer_setting.specs.StepTables.{IsAnswered};
 ghost use Rattle.posix_timer.specs.States.{PosixTimer, ArePosixArguments, PosixInvariant, posix_opening, setting_of};
-ghost use Rattle.posix_timer.specs.Steps.{PosixAllows, accept_refusal, accept_wanted, accepted, kept_by, posix_answer, posix_set, posix_settime_answer, posix_settime_wanted, posix_settime_refusal, posix_step, posix_table, posix_trigger_refusal};
+ghost use Rattle.posix_timer.specs.Steps.{PosixAllows, accept_refusal, accept_wanted, accepted, kept_by, posix_answer, posix_overflowed, posix_set, posix_settime_answer, posix_settime_wanted, posix_settime_refusal, posix_step, posix_table, posix_trigger_refusal};
 ghost use Rattle.timer_setting.specs.declared.object_call.ObjectCall.TheVariants as calls;
 ghost use Rattle.timer_setting.specs.declared.object_call.ObjectReply.TheVariants as replies;
 
@@ -155,6 +155,24 @@ impl PosixState {
             return AcceptAnswer::Spent { stamp };
         }
         self.take(reading, arm)
+    }
+
+    /// Whether an expiry of this generation counts, by this reading.
+    pub fn is_expiry(&self, generation: u64, reading: Reading) -> bool
+        ensures { result ≡ is_expiry_of self.now.phase generation reading }
+    {
+        self.timer.phase.is_expiry(generation, reading)
+    }
+
+    /// Makes the entry of an expiry whose signal found no room in its queue: the timer is disarmed.
+    pub fn overflow(&mut self)
+        requires room { self.old.stamp < self.old.limit }
+        ensures { self.new ≡ posix_overflowed self.old }
+    {
+        self.timer.stamp += 1;
+        self.timer.phase = Phase::Idle;
+        self.timer.interval = 0;
+        self.pending = false;
     }
 
     /// The overrun of the last signal that was accepted (`timer_getoverrun`).

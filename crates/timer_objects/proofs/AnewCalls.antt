@@ -1,6 +1,5 @@
 -- A call that arms its object's timer anew: it may be made, its reply, and the phase that it leaves.
-use Rattle.std.proofs.Common.{arith, refl, sym, ap, subst, ◌≡◌, ◌≢◌, ◌∙◌, ℕ, ◌<◌, Bool, true, false, not, nat_eq, List}
-use Rattle.ktime.specs.Times.{last_time}
+use Rattle.std.proofs.Common.{arith, refl, sym, subst, ◌≡◌, ◌∙◌, ℕ, ◌<◌, Bool, true, false, not, nat_eq, List}
 use Rattle.seq_timer.specs.Tables.{timer_at}
 use Rattle.base_row.specs.declared.log.Receipt.{Receipt}
 use Rattle.base_row.specs.declared.view.Opening.{Opening}
@@ -10,13 +9,12 @@ use Rattle.timer_setting.specs.declared.answers.SleepAnswer.{SleepAnswer}
 use Rattle.timer_setting.specs.declared.arming.Arm.{Arm}
 use Rattle.timer_setting.specs.declared.arming.Arm.TheVariants as arms
 use Rattle.timer_setting.specs.declared.object_call.ObjectReply.TheVariants as replies
-use Rattle.timer_setting.specs.declared.phase.Phase.{Phase}
 use Rattle.timer_setting.specs.declared.phase.Phase.TheVariants as phases
 use Rattle.timer_setting.specs.declared.settime_call.SettimeCall.{SettimeCall}
 use Rattle.timer_setting.specs.Phases.{IsOutcomeOf, phase_by}
 use Rattle.sleeper.specs.declared.sleep.Sleep.{Sleep}
 use Rattle.sleeper.specs.declared.sleep.Sleep.TheVariants as sleeping
-use Rattle.sleeper.specs.States.{Sleeper, is_free, sleep_left}
+use Rattle.sleeper.specs.States.{is_free, sleep_left}
 use Rattle.sleeper.specs.Steps.{end_of, has_come, sleep_answer, sleep_start}
 use Rattle.timer_objects.specs.declared.anew.Anew.{Anew}
 use Rattle.timer_objects.specs.declared.anew.Anew.TheVariants as anews

@@ -9,6 +9,7 @@ use Rattle.timer_setting.specs.Kinds.{IsKind, IsSameMade, IsSameStep, arm_in, as
 use Rattle.timer_setting.specs.Phases.{IsOutcomeOf}
 use Rattle.timer_setting.specs.Settimes.{timer_expired, trigger_answer}
 use Rattle.posix_timer.proofs.AsKind.{posix_is_a_kind}
+use Rattle.posix_timer.proofs.QueuedAsKind.{queued_is_a_kind}
 use Rattle.timer_fd.proofs.AsKind.{fd_is_a_kind}
 use Rattle.sleeper.proofs.AsKind.{sleeper_is_a_kind}
 use Rattle.timer_objects.specs.declared.object.Kind.{Kind}
@@ -22,24 +23,28 @@ room objects.Raw c allows = absurd allows
 room (objects.Posix t) c allows = posix_is_a_kind.room t c allows
 room (objects.Fd t) c allows = fd_is_a_kind.room t c allows
 room (objects.Sleeper s) c allows = sleeper_is_a_kind.room s c allows
+room (objects.Queued t) c allows = queued_is_a_kind.room t c allows
 
 counted : (x : Object) (c : ObjectCall) → ObjectAllows x c → (object_timer (object_step x c)).stamp ≡ (object_timer x).stamp + 1
 counted objects.Raw c allows = absurd allows
 counted (objects.Posix t) c allows = posix_is_a_kind.counted t c allows
 counted (objects.Fd t) c allows = fd_is_a_kind.counted t c allows
 counted (objects.Sleeper s) c allows = sleeper_is_a_kind.counted s c allows
+counted (objects.Queued t) c allows = queued_is_a_kind.counted t c allows
 
 made : (x : Object) (c : ObjectCall) → ObjectAllows x c → IsSameMade (object_timer x) (object_timer (object_step x c))
 made objects.Raw c allows = absurd allows
 made (objects.Posix t) c allows = posix_is_a_kind.made t c allows
 made (objects.Fd t) c allows = fd_is_a_kind.made t c allows
 made (objects.Sleeper s) c allows = sleeper_is_a_kind.made s c allows
+made (objects.Queued t) c allows = queued_is_a_kind.made t c allows
 
 outcome : (x : Object) (c : ObjectCall) → ObjectAllows x c → IsOutcomeOf (arm_in c) (object_wanted x c)
 outcome objects.Raw c allows = absurd allows
 outcome (objects.Posix t) c allows = posix_is_a_kind.outcome t c allows
 outcome (objects.Fd t) c allows = fd_is_a_kind.outcome t c allows
 outcome (objects.Sleeper s) c allows = sleeper_is_a_kind.outcome s c allows
+outcome (objects.Queued t) c allows = queued_is_a_kind.outcome t c allows
 
 module _ (generation : ℕ) (reading : ClockReading) where
   abbrev call : ObjectCall
@@ -50,12 +55,14 @@ module _ (generation : ℕ) (reading : ClockReading) where
   expires (objects.Posix t) allows = posix_is_a_kind.expires t generation reading allows
   expires (objects.Fd t) allows = fd_is_a_kind.expires t generation reading allows
   expires (objects.Sleeper s) allows = sleeper_is_a_kind.expires s generation reading allows
+  expires (objects.Queued t) allows = queued_is_a_kind.expires t generation reading allows
 
   triggered : (x : Object) → ObjectAllows x call → object_answer x call ≡ replies.Trigger (trigger_answer (object_timer x).phase generation reading)
   triggered objects.Raw allows = absurd allows
   triggered (objects.Posix t) allows = refl
   triggered (objects.Fd t) allows = refl
   triggered (objects.Sleeper s) allows = refl
+  triggered (objects.Queued t) allows = refl
 
 told : (x : Object) (c : ObjectCall) → ObjectAllows x c → IsSameStep object_kind.table x c (as_told c)
 told objects.Raw c allows = absurd allows
@@ -68,6 +75,9 @@ told (objects.Fd t) c allows =
 told (objects.Sleeper s) c allows =
     let same = sleeper_is_a_kind.told s c allows in
     record { allows = same.allows; next = ap objects.Sleeper same.next; answer = same.answer }
+told (objects.Queued t) c allows =
+    let same = queued_is_a_kind.told t c allows in
+    record { allows = same.allows; next = ap objects.Queued same.next; answer = same.answer }
 
 -- law: so they are a kind
 pub objects_are_a_kind : IsKind object_kind
@@ -87,6 +97,7 @@ kind_over-step objects.Raw c = refl
 kind_over-step (objects.Posix t) c = refl
 kind_over-step (objects.Fd t) c = refl
 kind_over-step (objects.Sleeper s) c = refl
+kind_over-step (objects.Queued t) c = refl
 
 -- so is an object that was just made of its kind
 pub kind_over-opened : (kind : Kind) (clock : ClockId) (base limit : ℕ) → kind_over (opened_as kind clock base limit) ≡ kind
@@ -94,6 +105,7 @@ kind_over-opened kinds.Raw clock base limit = refl
 kind_over-opened kinds.Posix clock base limit = refl
 kind_over-opened kinds.Fd clock base limit = refl
 kind_over-opened kinds.Sleeper clock base limit = refl
+kind_over-opened kinds.Queued clock base limit = refl
 
 -- a timer by itself has no calls
 pub has_calls : (x : Object) (c : ObjectCall) → ObjectAllows x c → kind_over x ≢ kinds.Raw
@@ -101,9 +113,11 @@ has_calls objects.Raw c allows = absurd allows
 has_calls (objects.Posix t) c allows = λ e. cc
 has_calls (objects.Fd t) c allows = λ e. cc
 has_calls (objects.Sleeper s) c allows = λ e. cc
+has_calls (objects.Queued t) c allows = λ e. cc
 
 pub is_raw : (x : Object) → kind_over x ≡ kinds.Raw → x ≡ objects.Raw
 is_raw objects.Raw e = refl
 is_raw (objects.Posix t) e = cc
 is_raw (objects.Fd t) e = cc
 is_raw (objects.Sleeper s) e = cc
+is_raw (objects.Queued t) e = cc

@@ -1,47 +1,33 @@
 -- A call that makes an entry and may start its object's timer before that, in one turn of the object.
-use Rattle.std.proofs.Common.{refl, sym, subst, false, ◌≡◌, ◌∙◌, ◌≢◌, ℕ, ◌<◌, List, [], ◌∷◌, ◌++◌, length}
+use Rattle.std.proofs.Common.{refl, sym, subst, false, ◌≡◌, ℕ, ◌<◌, List, [], ◌∷◌, ◌++◌, length}
 use Rattle.ktime.specs.Readings.{ClockReading}
 use Rattle.base_row.specs.declared.view.Opening.{Opening}
 use Rattle.hr_timers.specs.Known.{KnownOfTimers}
 use Rattle.base_row.specs.declared.log.Receipt.{Receipt}
 use Rattle.timer_setting.specs.declared.arming.Arm.{Arm}
-use Rattle.timer_setting.specs.Arguments.{start_by}
 use Rattle.timer_setting.specs.Phases.{IsOutcomeOf}
-use Rattle.timer_setting.specs.declared.answers.SettimeAnswer.{SettimeAnswer}
 use Rattle.counted_row.specs.declared.view.Locked.{Locked}
 use Rattle.counted_row.specs.Views.{IsPassOfRow, Locks}
 use Rattle.timer_objects.specs.declared.log.ObjectReceipt.{ObjectReceipt}
 use Rattle.timer_objects.specs.declared.object.Decl.{Decl}
-use Rattle.timer_objects.specs.declared.object.Kind.TheVariants as kinds
 use Rattle.timer_objects.specs.declared.object.Object.{Object}
 use Rattle.timer_setting.specs.declared.object_call.ObjectCall.{ObjectCall}
-use Rattle.timer_setting.specs.declared.object_call.ObjectCall.TheVariants as calls
-use Rattle.timer_setting.specs.declared.object_call.ObjectReply.TheVariants as replies
 use Rattle.timer_setting.specs.declared.object_call.ObjectReply.{ObjectReply}
 use Rattle.timer_objects.specs.declared.anew.Anew.{Anew}
 use Rattle.timer_objects.specs.declared.anew.EndedAnew.TheVariants as endings
 use Rattle.timer_objects.specs.declared.wanting.Rearming.{Rearming}
 use Rattle.timer_objects.specs.declared.wanting.Ended.{Ended}
 use Rattle.timer_objects.specs.declared.wanting.Ended.TheVariants as ends
-use Rattle.timer_objects.specs.Steps.{IsObjectOf, ObjectAllows, object_answer}
+use Rattle.timer_objects.specs.Steps.{IsObjectOf, ObjectAllows}
 use Rattle.timer_objects.specs.Meaning.{object_meaning}
 use Rattle.timer_objects.specs.Known.{Enters, HoldsObject, IsObjectsPass, ObjectsOf, ObjectsPass, Suits, decl_at, receipt_of, row_of}
 use Rattle.timer_objects.specs.Arming.{ArmsFor, Disarms}
-use Rattle.timer_objects.specs.Calls.{
-  BearsStart,
-  Caller,
-  HasWaited,
-  RearmingMade,
-  EntersCall,
-  SettimeMade,
-  rearming_call,
-  wanted_by,
-}
+use Rattle.timer_objects.specs.Calls.{Caller, HasWaited, RearmingMade, rearming_call, wanted_by}
 use Rattle.timer_objects.specs.Turns.{HasTurn}
 use Rattle.timer_objects.specs.Anew.{EndsAnew, IsValidAnew, RepliesAnew, anew_call, anew_reading, anew_wanted, refuses}
-use Rattle.timer_objects.specs.Rearming.{Ends, EndsAt, KeepsNames, MakesEntry, rearming_kind}
+use Rattle.timer_objects.specs.Rearming.{Ends, EndsAt, KeepsNames, MakesEntry, HasRearming}
 use Rattle.timer_objects.proofs.Bearing.{allows, bears, replies_to}
-use Rattle.timer_objects.proofs.Entering.{answered, commits, enters_call, stamp_before}
+use Rattle.timer_objects.proofs.Entering.{commits, enters_call, stamp_before}
 use Rattle.timer_objects.proofs.Retrying.{arms_names, enters_after, turn_after, turn_names}
 use Rattle.timer_objects.proofs.AnewCalls.{bears_anew, may_anew, replies_anew}
 
@@ -53,7 +39,7 @@ module _ (x : ObjectsOf) (id : ℕ) (h : Locked Object) (index : h.index ≡ id)
   holds_it = subst (λ i. IsObjectOf (decl_at x i) x.limit h.stamp h.state) index holds
 
   module _ (room : h.stamp < x.limit) (arm : Arm) where
-    pub may_rearm : (r : Rearming) (reading : ClockReading) → d.kind ≡ rearming_kind r → IsOutcomeOf arm (wanted_by r h.state reading)
+    pub may_rearm : (r : Rearming) (reading : ClockReading) → HasRearming r d.kind → IsOutcomeOf arm (wanted_by r h.state reading)
         → ObjectAllows h.state (rearming_call r reading arm)
     may_rearm r reading kind outcome = allows d x.limit h.stamp reading arm r h.state holds_it kind room outcome
 
@@ -75,7 +61,7 @@ module _ (x : ObjectsOf) (id : ℕ) (h : Locked Object) (index : h.index ≡ id)
     turn_at {call} e = subst (λ n. HasTurn id n u v w z) (sym (stamp_before x p m q id h call reply locks row isq e)) turn
 
     -- law: a call that arms the timer again was made
-    pub rearms : (r : Rearming) (reading : ClockReading) → d.kind ≡ rearming_kind r
+    pub rearms : (r : Rearming) (reading : ClockReading) → HasRearming r d.kind
         → ArmsFor o v w id (wanted_by r h.state reading) d.base reading arm log log' → Enters m q h (rearming_call r reading arm) reply
         → olog' ≡ olog ++ receipt_of h (rearming_call r reading arm) ∷ []
         → (made : MakesEntry x o begun done id r reading reply) × (made.0.enters.commits.state ≡ h.state)

@@ -26,43 +26,50 @@ use Rattle.timer_objects.specs.declared.wanting.Rearming.TheVariants as rearming
 use Rattle.timer_objects.specs.Steps.{IsObjectOf, ObjectAllows, kind_over, object_answer, object_step, object_timer}
 use Rattle.timer_objects.specs.Arming.{ArmsFor}
 use Rattle.timer_objects.specs.Calls.{BearsRestart, phase_of, rearming_call, wanted_by}
-use Rattle.timer_objects.specs.Rearming.{RepliesTo, rearming_kind}
+use Rattle.timer_objects.specs.Rearming.{HasRearming, RepliesTo}
 use Rattle.timer_objects.proofs.Restarting.{expiry}
 
-rearming_kind-Raw : (r : Rearming) → rearming_kind r ≢ kinds.Raw
-rearming_kind-Raw rearmings.Accepting e = cc
-rearming_kind-Raw rearmings.Reading e = cc
-rearming_kind-Raw rearmings.Getting e = cc
+rearming-Raw : (r : Rearming) → HasRearming r kinds.Raw → ⊥
+rearming-Raw rearmings.Accepting has = has
+rearming-Raw rearmings.Reading e = cc
+rearming-Raw rearmings.Getting e = cc
 
 module _ (d : Decl) (limit n : ℕ) (reading : ClockReading) (arm : Arm) where
   has_room : (x : Object) → IsObjectOf d limit n x → d.kind ≢ kinds.Raw → n < limit → (object_timer x).stamp < (object_timer x).limit
   has_room x is other few = omega (arith, (is.timer other).limit, (is.timer other).stamp, few)
 
-  pub allows : (r : Rearming) (x : Object) → IsObjectOf d limit n x → d.kind ≡ rearming_kind r → n < limit → IsOutcomeOf arm (wanted_by r x reading)
+  pub allows : (r : Rearming) (x : Object) → IsObjectOf d limit n x → HasRearming r d.kind → n < limit → IsOutcomeOf arm (wanted_by r x reading)
       → ObjectAllows x (rearming_call r reading arm)
   allows r x is k few outcome =
-      at r x (sym k ∙ is.kind) (has_room x is (λ raw. rearming_kind-Raw r (sym k ∙ raw)) few) outcome
+      at r x (subst (HasRearming r) is.kind k) (has_room x is (λ raw. rearming-Raw r (subst (HasRearming r) raw k)) few) outcome
     where
-      at : (r : Rearming) (x : Object) → rearming_kind r ≡ kind_over x → (object_timer x).stamp < (object_timer x).limit → IsOutcomeOf arm (wanted_by r x reading)
+      at : (r : Rearming) (x : Object) → HasRearming r (kind_over x) → (object_timer x).stamp < (object_timer x).limit → IsOutcomeOf arm (wanted_by r x reading)
           → ObjectAllows x (rearming_call r reading arm)
       at rearmings.Accepting (objects.Posix t) k room outcome = (room, outcome)
+      at rearmings.Accepting (objects.Queued t) k room outcome = (room, outcome)
       at rearmings.Reading (objects.Fd t) k room outcome = (room, outcome)
       at rearmings.Getting (objects.Fd t) k room outcome = (room, outcome)
-      at r x k room outcome = absurd cc
+      at rearmings.Accepting x k room outcome = absurd k
+      at rearmings.Reading x k room outcome = absurd cc
+      at rearmings.Getting x k room outcome = absurd cc
 
-  pub replies_to : (r : Rearming) (x : Object) (reply : ObjectReply) → IsObjectOf d limit n x → d.kind ≡ rearming_kind r
+  pub replies_to : (r : Rearming) (x : Object) (reply : ObjectReply) → IsObjectOf d limit n x → HasRearming r d.kind
       → reply ≡ object_answer x (rearming_call r reading arm) → RepliesTo r reply
-  replies_to r x reply is k e = at r x reply (sym k ∙ is.kind) e
+  replies_to r x reply is k e = at r x reply (subst (HasRearming r) is.kind k) e
     where
       unspent : (n : ℕ) (b : Bool) (overrun : ℕ) → (if b then acceptances.Accepted overrun else acceptances.NoSignal) ≡ acceptances.Spent n → ⊥
       unspent n true overrun e = cc
       unspent n false overrun e = cc
 
-      at : (r : Rearming) (x : Object) (reply : ObjectReply) → rearming_kind r ≡ kind_over x → reply ≡ object_answer x (rearming_call r reading arm) → RepliesTo r reply
+      at : (r : Rearming) (x : Object) (reply : ObjectReply) → HasRearming r (kind_over x) → reply ≡ object_answer x (rearming_call r reading arm) → RepliesTo r reply
       at rearmings.Accepting (objects.Posix t) reply k e = (_, e, λ n. unspent n t.pending (overrun_of (periods_in t.phase t.interval reading)))
+      at rearmings.Accepting (objects.Queued t) reply k e =
+          (_, e, λ n. unspent n t.timer.pending (overrun_of (periods_in t.timer.phase t.timer.interval reading)))
       at rearmings.Reading (objects.Fd t) reply k e = (fd_read_answer t reading, e, λ n f. grind (arith, f), λ f. grind (arith, f))
       at rearmings.Getting (objects.Fd t) reply k e = (left_by arm t reading, t.interval, e)
-      at r x reply k e = absurd cc
+      at rearmings.Accepting x reply k e = absurd k
+      at rearmings.Reading x reply k e = absurd cc
+      at rearmings.Getting x reply k e = absurd cc
 
 module _ (o : Opening) (v w : KnownOfTimers) (id base : ℕ) (reading : ClockReading) (arm : Arm) (log log' : List Receipt) where
   bears_none : (phase : Phase) → arm ≡ arms.NotAsked → BearsRestart o w id arm phase
@@ -100,6 +107,8 @@ module _ (o : Opening) (v w : KnownOfTimers) (id base : ℕ) (reading : ClockRea
   pub bears : (r : Rearming) (x : Object) → ArmsFor o v w id (wanted_by r x reading) base reading arm log log'
       → BearsRestart o w id arm (phase_of (object_step x (rearming_call r reading arm)))
   bears rearmings.Accepting (objects.Posix t) started = bears_accept t.phase t.interval t.pending (nat_lt t.stamp t.limit) _ _ refl started
+  bears rearmings.Accepting (objects.Queued t) started =
+      bears_accept t.timer.phase t.timer.interval t.timer.pending (nat_lt t.timer.stamp t.timer.limit) _ _ refl started
   bears rearmings.Reading (objects.Fd t) started = bears_read t.phase t.interval (is_canceled t reading) (nat_eq t.count 0) _ _ _ refl started
   bears rearmings.Getting (objects.Fd t) started = bears_expired arm t.phase t.interval started refl
   bears r x started = bears_none _ started.0

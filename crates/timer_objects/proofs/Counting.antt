@@ -44,6 +44,7 @@ opened_timer d limit kinds.Raw other = absurd (other refl)
 opened_timer d limit kinds.Posix other = record { clock = refl; base = refl; limit = refl; stamp = refl }
 opened_timer d limit kinds.Fd other = record { clock = refl; base = refl; limit = refl; stamp = refl }
 opened_timer d limit kinds.Sleeper other = record { clock = refl; base = refl; limit = refl; stamp = refl }
+opened_timer d limit kinds.Queued other = record { clock = refl; base = refl; limit = refl; stamp = refl }
 
 opened_is : (d : Decl) (limit : ℕ) → IsObjectOf d limit 0 (opened_object limit d)
 opened_is d limit = record { kind = sym (kind_over-opened d.kind d.clock d.base limit); timer = opened_timer d limit d.kind; none = λ raw. refl }

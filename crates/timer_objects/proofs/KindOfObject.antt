@@ -10,6 +10,9 @@ use Rattle.timer_setting.specs.declared.object_call.ObjectReply.{ObjectReply}
 use Rattle.posix_timer.specs.States.{PosixTimer, posix_opening}
 use Rattle.posix_timer.specs.Steps.{posix_kind}
 use Rattle.posix_timer.proofs.AsKind.{posix_is_a_kind}
+use Rattle.posix_timer.proofs.QueuedAsKind.{queued_is_a_kind}
+use Rattle.posix_timer.specs.Queued.{queued_kind, queued_opening}
+use Rattle.posix_timer.specs.declared.queued_state.QueuedState.{QueuedState}
 use Rattle.timer_fd.specs.States.{Descriptor, fd_opening}
 use Rattle.timer_fd.specs.Steps.{fd_kind}
 use Rattle.timer_fd.proofs.AsKind.{fd_is_a_kind}
@@ -66,6 +69,17 @@ sleeper_objects = record {
   answer = λ t c. refl;
 }
 
+-- law: and POSIX timers with queued signals
+abbrev pub queued_objects : KindOfObject QueuedState
+queued_objects = record {
+  kind = queued_kind;
+  law = queued_is_a_kind;
+  object = objects.Queued;
+  allows = λ t c may. may;
+  step = λ t c. refl;
+  answer = λ t c. refl;
+}
+
 -- law: a timer by itself stays one
 pub raw_leads : (log : List (Entry ObjectCall ObjectReply)) (now : Object) → Leads object_meaning objects.Raw log now → now ≡ objects.Raw
 raw_leads [] now leads = leads
@@ -92,3 +106,4 @@ history_of_kind kinds.Raw clock base limit log now leads = (raw_none log now lea
 history_of_kind kinds.Posix clock base limit log now leads = calls_of_kind posix_objects (posix_opening clock base limit) log now leads
 history_of_kind kinds.Fd clock base limit log now leads = calls_of_kind fd_objects (fd_opening clock base limit) log now leads
 history_of_kind kinds.Sleeper clock base limit log now leads = calls_of_kind sleeper_objects (sleeper_opening clock base limit) log now leads
+history_of_kind kinds.Queued clock base limit log now leads = calls_of_kind queued_objects (queued_opening clock base limit) log now leads

@@ -1,6 +1,6 @@
 -- What the functions of timers leave of the objects' pass that was lent to them, and what a run of them leaves.
 use Rattle.std.proofs.Common.{◌≡◌, ℕ, List, refl, sym, subst, inl, inr, ◌∙◌}
-use Rattle.std.specs.Prelude.{Option, Some, None}
+use Rattle.std.specs.Prelude.{Option, Some, None, []}
 use Rattle.ktime.specs.Readings.{ClockReading}
 use Rattle.base_row.specs.declared.view.Opening.{Opening}
 use Rattle.hr_timers.specs.declared.numbers.ClaimNumbers.{ClaimNumbers}
@@ -80,12 +80,14 @@ pub leaves_pass : (o : Opening) (reading : ClockReading) (x : Context) (base bud
 leaves_pass o reading =
     run_leaves firing o reading LeavesPass leaves_same leaves_trans (λ h h' v w c restart fires. leaves_fired o h h' v w c reading restart fires)
 
--- a pass that was lent is one of the objects after it
+-- a pass that belongs to these objects' row, with nothing held or claimed, is one of theirs
+pub pass_left : (x y : ObjectsOf) (p : ObjectsPass) → y ≡ x → IsPassOfRow (row_of y) p → p.knows.held ≡ None → p.knows.claims ≡ [] → Knows object_meaning p.knows
+    → IsObjectsPass x p
+pass_left x y p e row idle unclaimed knows =
+    record { row = subst (λ (z : ObjectsOf). IsPassOfRow (row_of z) p) e row; idle = idle; unclaimed = unclaimed; knows = knows }
+
+-- so a pass that was lent is one of the objects after it
 pub pass_after : (x : ObjectsOf) (h h' : Firing) → h.objects.now ≡ x → LeavesPass h h' → Knows object_meaning h.objects_pass.now.knows
     → IsObjectsPass x h'.objects_pass.now
-pass_after x h h' e left knows = record {
-  row = subst (λ (y : ObjectsOf). IsPassOfRow (row_of y) h'.objects_pass.now) (left.loan.objects ∙ e) h'.row;
-  idle = h'.idle;
-  unclaimed = h'.unclaimed;
-  knows = left.knows knows;
-}
+pass_after x h h' e left knows =
+    pass_left x h'.objects.now h'.objects_pass.now (left.loan.objects ∙ e) h'.row h'.idle h'.unclaimed (left.knows knows)

@@ -1,5 +1,5 @@
 -- A settime: what its steps leave.
-use Rattle.std.proofs.Common.{arith, refl, sym, ap, subst, ◌≡◌, ◌≢◌, ◌∙◌, ℕ, ◌+◌, ◌≤◌, ◌<◌, Bool, true, false, nat_eq, List, [], ◌∷◌}
+use Rattle.std.proofs.Common.{arith, refl, sym, ap, subst, ◌≡◌, ◌∙◌, ℕ, ◌+◌, ◌≤◌, ◌<◌, Bool, true, false, List, [], ◌∷◌}
 use Rattle.std.specs.Prelude.{Some, None, if◌then◌else◌}
 use Rattle.ktime.specs.declared.clock_id.ClockId.{ClockId}
 use Rattle.ktime.specs.declared.clock_id.ClockId.TheVariants as clocks
@@ -34,7 +34,6 @@ use Rattle.timer_fd.specs.Steps.{answers_canceled, fd_settime_answer}
 use Rattle.timer_setting.specs.declared.object_call.ObjectCall.TheVariants as calls
 use Rattle.timer_setting.specs.declared.object_call.ObjectReply.TheVariants as replies
 use Rattle.timer_objects.specs.declared.object.Decl.{Decl}
-use Rattle.timer_objects.specs.declared.object.Kind.TheVariants as kinds
 use Rattle.timer_objects.specs.declared.object.Object.{Object}
 use Rattle.timer_objects.specs.declared.object.Object.TheVariants as objects
 use Rattle.timer_objects.specs.Steps.{IsObjectOf, IsTimerOf, ObjectAllows, kind_over, object_answer, object_step, object_timer}
@@ -66,6 +65,7 @@ module _ (d : Decl) (limit n : ℕ) (x : Object) (c : SettimeCall) (is : IsObjec
       at : (x : Object) → HasSetting (kind_over x) → (object_timer x).stamp < (object_timer x).limit → bits_beyond (flags_of (kind_over x)) c.flags ≡ 0
           → ObjectAllows x (calls.Settime c)
       at (objects.Posix t) has room flags = (room, flags, value, interval, outcome)
+      at (objects.Queued t) has room flags = (room, flags, value, interval, outcome)
       at (objects.Fd t) has room flags = (room, flags, value, interval, outcome)
       at objects.Raw has room flags = absurd (has.0 refl)
       at (objects.Sleeper s) has room flags = absurd (has.1 refl)
@@ -92,6 +92,7 @@ module _ (d : Decl) (limit n : ℕ) (x : Object) (c : SettimeCall) (is : IsObjec
 
       at : (x : Object) → HasSetting (kind_over x) → (a : SettimeAnswer) × (object_answer x (calls.Settime c) ≡ replies.Settime a) × IsSettimeEntry a
       at (objects.Posix t) has = posix t c.arm
+      at (objects.Queued t) has = posix t.timer c.arm
       at (objects.Fd t) has = descriptor t c.arm
       at objects.Raw has = absurd (has.0 refl)
       at (objects.Sleeper s) has = absurd (has.1 refl)
@@ -102,6 +103,7 @@ module _ (d : Decl) (limit n : ℕ) (x : Object) (c : SettimeCall) (is : IsObjec
     where
       at : (x : Object) → HasSetting (kind_over x) → phase_of (object_step x (calls.Settime c)) ≡ phase_by (object_timer x).clock c.flags c.value c.reading c.arm
       at (objects.Posix t) has = refl
+      at (objects.Queued t) has = refl
       at (objects.Fd t) has = refl
       at objects.Raw has = absurd (has.0 refl)
       at (objects.Sleeper s) has = absurd (has.1 refl)

@@ -1,5 +1,5 @@
 -- A trigger, from the clauses of the lock of its object and of its end.
-use Rattle.std.proofs.Common.{◌≡◌, ℕ, ◌+◌, ◌<◌, List, [], ◌∷◌, ◌++◌, length, ap, sym, ◌∙◌, subst}
+use Rattle.std.proofs.Common.{◌≡◌, ℕ, ◌+◌, ◌<◌, List, [], ◌∷◌, ◌++◌, length, ap, sym, ◌∙◌, subst, refl}
 use Rattle.pass_names.specs.Passes.{Adds}
 use Rattle.hr_timers.specs.Known.{KnownOfTimers}
 use Rattle.counted_row.specs.declared.view.Locked.{Locked}
@@ -23,23 +23,37 @@ module _ (x : ObjectsOf) (p m q : ObjectsPass) (id : ℕ) (h : Locked Object) (c
   counted : h.stamp ≡ length (seen_of m id)
   counted = locks.now.stamp ∙ ap (λ i. length (seen_of m i)) locks.index
 
-  pub entered : (answer : ObjectReply) → Enters m q h call answer → h.stamp < x.limit → log' ≡ log ++ receipt_of h call ∷ []
-      → (v begun w : KnownOfTimers) → HasTurn id h.stamp v begun begun w → EntersTrigger x p q log log' v w id call
-  entered answer enters room noted v begun w turn =
+  -- the trigger of the object as it was held
+  pub record EntersHeld (v w : KnownOfTimers) : Type 0 where
+    pub made : EntersTrigger x p q log log' v w id call
+    pub state : made.commits.state ≡ h.state
+    pub before : length made.commits.adds.before ≡ h.stamp
+
+  pub entered_held : (answer : ObjectReply) → Enters m q h call answer → h.stamp < x.limit → log' ≡ log ++ receipt_of h call ∷ []
+      → (v begun w : KnownOfTimers) → HasTurn id h.stamp v begun begun w → EntersHeld v w
+  entered_held answer enters room noted v begun w turn =
       let told = subst (λ r. Adds m.knows.pass q.knows.pass h.index (record { call = call; reply = r } ∷ [])) enters.reply enters.adds in
       let commits : Commits object_meaning p q id call = commits_of locks here after.row told enters.knows after.knows in
       record {
-        commits = commits;
-        declared = state_is x id commits.adds.before commits.state
-            (subst (λ made. StateAfter object_meaning made id commits.adds.before commits.state) (sym commits.opening ∙ after.row.made) commits.at);
-        may = enters.may;
-        room = subst (λ n. n < x.limit) counted room;
-        begun = begun;
-        turn = subst (λ n. HasTurn id n v begun begun w) counted turn;
-        receipt = noted ∙ (λ i. log ++ record {
-          object = locks.index i;
-          number = counted i + 1;
-          call = call;
-          reply = object_answer h.state call;
-        } ∷ []);
+        state = refl;
+        before = sym counted;
+        made = record {
+          commits = commits;
+          declared = state_is x id commits.adds.before commits.state
+              (subst (λ made. StateAfter object_meaning made id commits.adds.before commits.state) (sym commits.opening ∙ after.row.made) commits.at);
+          may = enters.may;
+          room = subst (λ n. n < x.limit) counted room;
+          begun = begun;
+          turn = subst (λ n. HasTurn id n v begun begun w) counted turn;
+          receipt = noted ∙ (λ i. log ++ record {
+            object = locks.index i;
+            number = counted i + 1;
+            call = call;
+            reply = object_answer h.state call;
+          } ∷ []);
+        };
       }
+
+  pub entered : (answer : ObjectReply) → Enters m q h call answer → h.stamp < x.limit → log' ≡ log ++ receipt_of h call ∷ []
+      → (v begun w : KnownOfTimers) → HasTurn id h.stamp v begun begun w → EntersTrigger x p q log log' v w id call
+  entered answer enters room noted v begun w turn = (entered_held answer enters room noted v begun w turn).made

@@ -18,7 +18,7 @@ use Rattle.timer_setting.specs.declared.answers.AcceptAnswer.{AcceptAnswer}
 use Rattle.timer_setting.specs.declared.answers.AcceptAnswer.TheVariants as acceptances
 use Rattle.timer_setting.specs.declared.object_call.ObjectCall.TheVariants as calls
 use Rattle.timer_setting.specs.declared.object_call.ObjectReply.TheVariants as replies
-use Rattle.posix_timer.specs.States.{setting_of}
+use Rattle.posix_timer.specs.States.{PosixTimer, setting_of}
 use Rattle.timer_setting.specs.declared.answers.SettimeAnswer.{SettimeAnswer}
 use Rattle.timer_setting.specs.declared.answers.SettimeAnswer.TheVariants as settings
 use Rattle.timer_setting.specs.declared.answers.ReadAnswer.{ReadAnswer}
@@ -128,6 +128,7 @@ flags_of kinds.Raw = abstime
 flags_of kinds.Posix = abstime
 flags_of kinds.Fd = fd_flags
 flags_of kinds.Sleeper = abstime
+flags_of kinds.Queued = abstime
 
 -- why the arguments of a settime are refused, if they are: an unknown flag comes first, then a bad time
 abbrev pub argument_refusal : Kind → ℕ → TimeSpec → TimeSpec → Option SettimeAnswer
@@ -161,6 +162,18 @@ Settimes x o old new id flags value interval reading a =
     (SettimeMade x o old new id flags (time_of value) (time_of interval) reading a) (λ refusal. (a ≡ refusal) × (new ≡ old))
 
 -- ---- accept, read, and gettime of a descriptor
+
+-- an object of this kind is a POSIX timer, with queued signals or not
+abbrev pub IsPosixKind : Kind → Type 0
+IsPosixKind kinds.Posix = Unit
+IsPosixKind kinds.Queued = Unit
+IsPosixKind kind = ⊥
+
+-- the POSIX timer that an object is
+abbrev pub posix_in : Object → Option PosixTimer
+posix_in (objects.Posix t) = Some t
+posix_in (objects.Queued t) = Some t.timer
+posix_in object = None
 
 -- the phase of a timer that was armed again has its generation and expiry
 abbrev pub BearsRestart : Opening → KnownOfTimers → ℕ → Arm → Phase → Type 0
@@ -222,7 +235,7 @@ pub record LooksAtObject (old new : Caller) (id : ℕ) (object : Object) (n : �
   pub log : new.log ≡ old.log
   pub object_log : new.object_log ≡ old.object_log
 
--- a gettime: of a POSIX timer a look, of a descriptor a call that may arm its timer again, and makes entry number `stamp`
+-- a gettime: of a POSIX timer, with queued signals or not, a look, of a descriptor a call that may arm its timer again, and makes entry number `stamp`
 abbrev pub Gettimes : ObjectsOf → Opening → Caller → Caller → ℕ → ClockReading → Kind → Gettime → Type 0
 Gettimes x o old new id reading kinds.Posix (gettimes.Left left interval stamp) =
     (t : _) × LooksAtObject old new id (objects.Posix t) stamp × (record { left = left; interval = interval } ≡ setting_of t reading)
@@ -230,6 +243,9 @@ Gettimes x o old new id reading kinds.Posix (gettimes.Spent stamp) = ⊥
 Gettimes x o old new id reading kinds.Fd (gettimes.Left left interval stamp) =
     RearmingMade x o old new id rearmings.Getting reading (replies.Gettime (lefts.Left left interval)) × (stamp ≡ length (seen_of new.objects id))
 Gettimes x o old new id reading kinds.Fd (gettimes.Spent n) = FindsFull x old new id n
+Gettimes x o old new id reading kinds.Queued (gettimes.Left left interval stamp) =
+    (t : _) × LooksAtObject old new id (objects.Queued t) stamp × (record { left = left; interval = interval } ≡ setting_of t.timer reading)
+Gettimes x o old new id reading kinds.Queued (gettimes.Spent stamp) = ⊥
 Gettimes x o old new id reading kinds.Raw a = ⊥
 Gettimes x o old new id reading kinds.Sleeper a = ⊥
 
@@ -239,7 +255,8 @@ LooksReadable old new id reading a = (t : _) × LooksAtObject old new id (object
 
 -- the overrun of the last signal of a POSIX timer that was accepted
 abbrev pub LooksOverrun : Caller → Caller → ℕ → Overrun → Type 0
-LooksOverrun old new id a = (t : _) × LooksAtObject old new id (objects.Posix t) a.stamp × (a.overrun ≡ t.overrun)
+LooksOverrun old new id a =
+    (object : Object) × (t : PosixTimer) × LooksAtObject old new id object a.stamp × (posix_in object ≡ Some t) × (a.overrun ≡ t.overrun)
 
 -- ---- sleepers
 

@@ -5,6 +5,7 @@ use Rattle.counted_row.specs.declared.view.Entry.{Entry}
 use Rattle.timer_setting.specs.StepTables.{AnsweredCall}
 use Rattle.timer_setting.specs.declared.object_call.ObjectCall.{ObjectCall}
 use Rattle.timer_setting.specs.declared.object_call.ObjectReply.{ObjectReply}
+use Rattle.posix_timer.specs.Queued.{IsQueuedHistory, queued_state_after}
 use Rattle.posix_timer.specs.Histories.{IsPosixHistory, posix_state_after}
 use Rattle.timer_fd.specs.Histories.{IsFdHistory, fd_state_after}
 use Rattle.sleeper.specs.Histories.{IsSleeperHistory, sleeper_state_after}
@@ -27,6 +28,8 @@ IsHistoryOfKind kinds.Fd clock base limit history object =
     IsFdHistory clock base limit history × (object ≡ objects.Fd (fd_state_after clock base limit history))
 IsHistoryOfKind kinds.Sleeper clock base limit history object =
     IsSleeperHistory clock base limit history × (object ≡ objects.Sleeper (sleeper_state_after clock base limit history))
+IsHistoryOfKind kinds.Queued clock base limit history object =
+    IsQueuedHistory clock base limit history × (object ≡ objects.Queued (queued_state_after clock base limit history))
 
 -- a history that the object of a declaration gives, and the object then
 abbrev pub IsHistoryOf : Decl → ℕ → List (AnsweredCall ObjectCall ObjectReply) → Object → Type 0

@@ -1,11 +1,12 @@
 -- What a caller of objects knows of them.
-use Rattle.std.specs.Prelude.{ℕ, ◌≡◌, ◌+◌, ◌<◌, List, [], ◌∷◌, length, get_or, Some, None}
+use Rattle.std.specs.Prelude.{ℕ, ◌≡◌, ◌+◌, ◌<◌, List, [], ◌∷◌, length, get_or, Option, Some, None}
 use Rattle.atomic_table.specs.Seated.{TableId}
 use Rattle.ktime.specs.declared.clock_id.ClockId.TheVariants as clocks
 use Rattle.pass_names.specs.Passes.{Adds, Begins, GoesOn, entries}
 use Rattle.seq_timer.specs.Tables.{timer_at}
 use Rattle.base_row.specs.declared.view.Opening.{Opening}
 use Rattle.hr_timers.specs.Ways.{most_to_start}
+use Rattle.signal_queue.specs.Views.{QueueOf}
 use Rattle.counted_row.specs.declared.view.Entry.{Entry}
 use Rattle.counted_row.specs.declared.view.Locked.{Locked}
 use Rattle.counted_row.specs.Views.{IsPassOfRow, Knows, PassOfRow, RowOf, committed}
@@ -23,6 +24,8 @@ pub record ObjectsOf : Type 0 where
   pub id : TableId
   pub decls : List Decl
   pub limit : ℕ
+  -- the queue of signals that they were made with
+  pub queue : Option QueueOf
 
 -- the row that they stand in
 abbrev pub row_of : ObjectsOf → RowOf Object

@@ -12,3 +12,5 @@ pub mod Rearming
 pub mod Callbacks
 pub mod Triggers
 pub mod Firings
+pub mod Signals
+pub mod QueuedFirings

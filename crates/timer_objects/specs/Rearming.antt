@@ -26,7 +26,7 @@ use Rattle.counted_row.specs.Views.{IsPassOfRow, Locks}
 use Rattle.timer_objects.specs.Meaning.{object_meaning}
 use Rattle.timer_objects.specs.declared.log.ObjectReceipt.{ObjectReceipt}
 use Rattle.timer_objects.specs.Known.{HoldsObject, IsObjectsPass, ObjectsOf, ObjectsPass, Suits, row_of, seen_of}
-use Rattle.timer_objects.specs.Calls.{Caller, FindsFull, RearmingMade}
+use Rattle.timer_objects.specs.Calls.{Caller, FindsFull, IsPosixKind, RearmingMade}
 use Rattle.timer_objects.specs.Steps.{object_timer}
 use Rattle.timer_objects.specs.Turns.{turns_told}
 use Rattle.base_row.specs.declared.log.Receipt.{Receipt}
@@ -42,11 +42,11 @@ pub record KeepsNames (old new : Caller) : Type 0 where
   pub claims : new.timers.claims ≡ old.timers.claims
   pub objects : new.objects.knows.pass.id ≡ old.objects.knows.pass.id
 
--- the kind of object that has such a call
-abbrev pub rearming_kind : Rearming → Kind
-rearming_kind rearmings.Accepting = kinds.Posix
-rearming_kind rearmings.Reading = kinds.Fd
-rearming_kind rearmings.Getting = kinds.Fd
+-- an object of this kind has such a call
+abbrev pub HasRearming : Rearming → Kind → Type 0
+HasRearming rearmings.Accepting kind = IsPosixKind kind
+HasRearming rearmings.Reading kind = kind ≡ kinds.Fd
+HasRearming rearmings.Getting kind = kind ≡ kinds.Fd
 
 -- the history of an object that has one has room for an entry
 abbrev pub HasEntryRoom : Object → Type 0

@@ -10,6 +10,7 @@ use Rattle.timer_setting.specs.declared.object_timer.ObjectTimer.{ObjectTimer}
 use Rattle.timer_setting.specs.Kinds.{ObjectKind}
 use Rattle.timer_setting.specs.Settimes.{made_timer}
 use Rattle.posix_timer.specs.States.{posix_opening}
+use Rattle.posix_timer.specs.Queued.{QueuedAllows, queued_answer, queued_object_timer, queued_opening, queued_step, queued_wanted}
 use Rattle.posix_timer.specs.Steps.{PosixAllows, posix_answer, posix_object_timer, posix_step, posix_wanted}
 use Rattle.timer_fd.specs.States.{fd_opening}
 use Rattle.timer_fd.specs.Steps.{FdAllows, fd_answer, fd_object_timer, fd_step, fd_wanted}
@@ -27,6 +28,7 @@ opened_as kinds.Raw clock base limit = objects.Raw
 opened_as kinds.Posix clock base limit = objects.Posix (posix_opening clock base limit)
 opened_as kinds.Fd clock base limit = objects.Fd (fd_opening clock base limit)
 opened_as kinds.Sleeper clock base limit = objects.Sleeper (sleeper_opening clock base limit)
+opened_as kinds.Queued clock base limit = objects.Queued (queued_opening clock base limit)
 
 -- the same of its declaration
 abbrev pub opened_object : ℕ → Decl → Object
@@ -38,6 +40,7 @@ ObjectAllows objects.Raw c = ⊥
 ObjectAllows (objects.Posix t) c = PosixAllows t c
 ObjectAllows (objects.Fd t) c = FdAllows t c
 ObjectAllows (objects.Sleeper s) c = SleeperAllows s c
+ObjectAllows (objects.Queued t) c = QueuedAllows t c
 
 -- the object after a call
 abbrev pub object_step : Object → ObjectCall → Object
@@ -45,6 +48,7 @@ object_step objects.Raw c = objects.Raw
 object_step (objects.Posix t) c = objects.Posix (posix_step t c)
 object_step (objects.Fd t) c = objects.Fd (fd_step t c)
 object_step (objects.Sleeper s) c = objects.Sleeper (sleeper_step s c)
+object_step (objects.Queued t) c = objects.Queued (queued_step t c)
 
 -- what a call answers
 abbrev pub object_answer : Object → ObjectCall → ObjectReply
@@ -52,6 +56,7 @@ object_answer objects.Raw c = replies.None
 object_answer (objects.Posix t) c = posix_answer t c
 object_answer (objects.Fd t) c = fd_answer t c
 object_answer (objects.Sleeper s) c = sleeper_answer s c
+object_answer (objects.Queued t) c = queued_answer t c
 
 -- the timer that an object keeps; a timer by itself keeps none
 abbrev pub object_timer : Object → ObjectTimer
@@ -59,6 +64,7 @@ object_timer objects.Raw = made_timer clocks.Monotonic 0 0
 object_timer (objects.Posix t) = posix_object_timer t
 object_timer (objects.Fd t) = fd_object_timer t
 object_timer (objects.Sleeper s) = timer_of s
+object_timer (objects.Queued t) = queued_object_timer t
 
 -- the start that a call with valid arguments wants
 abbrev pub object_wanted : Object → ObjectCall → Option Wanted
@@ -66,6 +72,7 @@ object_wanted objects.Raw c = None
 object_wanted (objects.Posix t) c = posix_wanted t c
 object_wanted (objects.Fd t) c = fd_wanted t c
 object_wanted (objects.Sleeper s) c = sleeper_wanted s c
+object_wanted (objects.Queued t) c = queued_wanted t c
 
 -- objects of whatever kind
 abbrev pub object_kind : ObjectKind Object
@@ -77,6 +84,7 @@ kind_over objects.Raw = kinds.Raw
 kind_over (objects.Posix t) = kinds.Posix
 kind_over (objects.Fd t) = kinds.Fd
 kind_over (objects.Sleeper s) = kinds.Sleeper
+kind_over (objects.Queued t) = kinds.Queued
 
 -- a timer that was made by this declaration with this limit, of an object with so many entries
 pub record IsTimerOf (decl : Decl) (most n : ℕ) (t : ObjectTimer) : Type 0 where

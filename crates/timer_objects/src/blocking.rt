@@ -136,7 +136,7 @@ fn has_some(object: &Object, reading: Reading) -> bool
 {
     match object {
         Object::Fd(timer) => timer.readable(reading),
-        Object::Raw | Object::Posix(_) | Object::Sleeper(_) => false,
+        Object::Raw | Object::Posix(_) | Object::Sleeper(_) | Object::Queued(_) => false,
     }
 }
 

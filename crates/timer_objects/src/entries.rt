@@ -3,8 +3,8 @@ ghost use Rattle.std.specs.Prelude.{◌≡◌, ◌≤◌, ◌<◌, ◌+◌, leng
 ghost use Rattle.hr_timers.specs.Known.{IsPassOf, PassOf};
 ghost use Rattle.timer_objects.specs.declared.object.Kind.TheVariants as kinds;
 ghost use Rattle.timer_objects.specs.Known.{IsObjectsPass, ObjectsPass, Suits, decl_at, most_noted};
-ghost use Rattle.timer_objects.specs.Calls.{Accepts, ReadsFd, rearming_call};
-ghost use Rattle.timer_objects.specs.Rearming.{Ends, EndsAt, HasLocked, IsHolding, KeepsNames, LeavesPasses, IsCallerOf, caller_of, rearming_kind};
+ghost use Rattle.timer_objects.specs.Calls.{Accepts, IsPosixKind, ReadsFd, rearming_call};
+ghost use Rattle.timer_objects.specs.Rearming.{Ends, EndsAt, HasLocked, HasRearming, IsHolding, KeepsNames, LeavesPasses, IsCallerOf, caller_of};
 
 use crate::arming::arm;
 use crate::log::ObjectLog;
@@ -36,7 +36,7 @@ impl Objects {
         requires objects { IsObjectsPass self.now objects_pass.old }
         requires suits { Suits self.now timers.now.about }
         requires within { id < length self.now.decls }
-        requires kind { (decl_at self.now id).kind ≡ kinds.Posix }
+        requires kind { IsPosixKind (decl_at self.now id).kind }
         requires room { (most_noted self.now timers.now.about id ≤ log.old.spare) × (1 ≤ object_log.old.spare) }
         ensures pass { IsPassOf timers.now pass.new }
         ensures objects { IsObjectsPass self.now objects_pass.new }
@@ -128,7 +128,7 @@ impl Objects {
         reading: Reading,
     ) -> Ended
         requires may { IsCallerOf self.now timers.now pass.old objects_pass.old id }
-        requires kind { (decl_at self.now id).kind ≡ rearming_kind call }
+        requires kind { HasRearming call (decl_at self.now id).kind }
         requires room { (most_noted self.now timers.now.about id ≤ log.old.spare) × (1 ≤ object_log.old.spare) }
         ensures leaves { LeavesPasses self.now timers.now pass.new objects_pass.new }
         ensures ends { Ends self.now timers.now.about (caller_of pass.old objects_pass.old log.old object_log.old) (caller_of pass.new objects_pass.new log.new object_log.new) id call reading result }
@@ -169,7 +169,7 @@ impl Objects {
         held: Held<Object>,
     ) -> Ended
         requires holding { IsHolding self.now timers.now pass.old objects_pass.old id held }
-        requires kind { (decl_at self.now id).kind ≡ rearming_kind call }
+        requires kind { HasRearming call (decl_at self.now id).kind }
         requires room { (most_noted self.now timers.now.about id ≤ log.old.spare) × (1 ≤ object_log.old.spare) }
         ensures leaves { LeavesPasses self.now timers.now pass.new objects_pass.new }
         ensures ends { (first : PassOf) (begun : ObjectsPass) → HasLocked self.now first pass.old begun objects_pass.old id held → EndsAt self.now timers.now.about (caller_of first begun log.old object_log.old) (caller_of pass.new objects_pass.new log.new object_log.new) id call reading result held.state }

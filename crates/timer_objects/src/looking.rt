@@ -6,7 +6,7 @@ ghost use Rattle.timer_objects.specs.declared.object.Kind.TheVariants as kinds;
 ghost use Rattle.timer_objects.specs.Known.{IsObjectsPass, Suits, decl_at, most_noted};
 ghost use Rattle.timer_objects.specs.Steps.{IsObjectOf};
 ghost use Rattle.timer_objects.specs.Turns.{turns_told};
-ghost use Rattle.timer_objects.specs.Calls.{Gettimes, HasSetting, LooksOverrun, LooksReadable, LooksSlept};
+ghost use Rattle.timer_objects.specs.Calls.{Gettimes, HasSetting, IsPosixKind, LooksOverrun, LooksReadable, LooksSlept, posix_in};
 ghost use Rattle.timer_objects.specs.Rearming.{FindsObject, IsCallerOf, KeepsNames, LeavesPasses, caller_of};
 
 use crate::answers::{Gettime, Overrun, Readable, Slept};
@@ -18,6 +18,7 @@ use counted_row::RowPass;
 use expire_pass::Log;
 use hr_timers::{Pass, Timers};
 use ktime::Reading;
+use posix_timer::PosixState;
 use std::sync::Wait;
 use timer_setting::{GettimeAnswer, ObjectReply};
 
@@ -55,6 +56,18 @@ impl Objects {
                     unreachable!()
                 };
                 let setting = timer.gettime(reading);
+                Gettime::Left {
+                    left: setting.left,
+                    interval: setting.interval,
+                    stamp,
+                }
+            }
+            Kind::Queued => {
+                let (object, stamp) = self.look_at(rt, timers, pass, objects_pass, id);
+                let Object::Queued(queued) = object else {
+                    unreachable!()
+                };
+                let setting = queued.timer.gettime(reading);
                 Gettime::Left {
                     left: setting.left,
                     interval: setting.interval,
@@ -188,7 +201,7 @@ impl Objects {
         requires objects { IsObjectsPass self.now objects_pass.old }
         requires suits { Suits self.now timers.now.about }
         requires within { id < length self.now.decls }
-        requires kind { (decl_at self.now id).kind ≡ kinds.Posix }
+        requires kind { IsPosixKind (decl_at self.now id).kind }
         ensures pass { IsPassOf timers.now pass.new }
         ensures objects { IsObjectsPass self.now objects_pass.new }
         ensures looks { LooksOverrun (caller_of pass.old objects_pass.old _log.old _object_log.old) (caller_of pass.new objects_pass.new _log.new _object_log.new) id result }
@@ -196,7 +209,7 @@ impl Objects {
         ensures untouched { (_log.new ≡ _log.old) × (_object_log.new ≡ _object_log.old) }
     {
         let (object, stamp) = self.look_at(rt, timers, pass, objects_pass, id);
-        let Object::Posix(timer) = object else {
+        let Some(timer) = posix_of(&object) else {
             unreachable!()
         };
         Overrun {
@@ -235,5 +248,16 @@ impl Objects {
             answer: sleeper.slept(),
             stamp,
         }
+    }
+}
+
+/// The POSIX timer that an object is, with queued signals or not.
+fn posix_of(object: &Object) -> Option<PosixState>
+    ensures { result ≡ posix_in object.now }
+{
+    match object {
+        Object::Posix(timer) => Some(*timer),
+        Object::Queued(queued) => Some(queued.timer),
+        Object::Raw | Object::Fd(_) | Object::Sleeper(_) => None,
     }
 }

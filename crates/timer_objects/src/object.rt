@@ -4,7 +4,7 @@ ghost use Rattle.timer_setting.specs.Settimes.{most_entries};
 ghost use Rattle.timer_objects.specs.Steps.{opened_object};
 
 use ktime::ClockId;
-use posix_timer::PosixState;
+use posix_timer::{PosixState, QueuedState};
 use sleeper::SleeperState;
 use timer_fd::FdState;
 use timer_setting::{ObjectCall, ObjectReply};
@@ -20,6 +20,8 @@ pub enum Kind {
     Fd,
     /// A sleeper.
     Sleeper,
+    /// A POSIX timer whose signals go to the queue that its objects were made with, where a `QueuedFiring` runs its function; a `Firing` sends none.
+    Queued,
 }
 
 /// What an object is declared with: its kind, the clock of its timer, and the base on which that is armed.
@@ -37,6 +39,7 @@ pub enum Object {
     Posix(PosixState),
     Fd(FdState),
     Sleeper(SleeperState),
+    Queued(QueuedState),
 }
 
 impl Object {
@@ -51,6 +54,7 @@ impl Object {
             Kind::Posix => Object::Posix(PosixState::make(decl.clock, decl.base, limit)),
             Kind::Fd => Object::Fd(FdState::make(decl.clock, decl.base, limit)),
             Kind::Sleeper => Object::Sleeper(SleeperState::make(decl.clock, decl.base, limit)),
+            Kind::Queued => Object::Queued(QueuedState::make(decl.clock, decl.base, limit)),
         }
     }
 }
@@ -70,6 +74,7 @@ impl counted_row::Object for Object {
             Object::Posix(timer) => timer.apply(*call),
             Object::Fd(timer) => timer.apply(*call),
             Object::Sleeper(sleeper) => sleeper.apply(*call),
+            Object::Queued(timer) => timer.apply(*call),
         }
     }
 

@@ -1,7 +1,11 @@
 //! Objects that many threads share, and what each call does at their row.
-ghost use Rattle.std.specs.Prelude.{◌≡◌, ◌≤◌, ◌<◌, ◌+◌, ◌^◌, [], ◌∷◌, ◌++◌, Some, length, IfOk, MatchBool};
+ghost use Rattle.std.specs.Prelude.{◌≡◌, ◌≤◌, ◌<◌, ◌+◌, ◌^◌, [], ◌∷◌, ◌++◌, Some, None, IsSome, length, IfOk, MatchBool};
 ghost use Rattle.pass_names.specs.Names.{AnswersFor, IsLast};
-ghost use Rattle.pass_names.specs.Passes.{HasEach, Meets, Retires};
+ghost use Rattle.pass_names.specs.Passes.{Begins, HasEach, Meets, Retires};
+ghost use Rattle.signal_queue.specs.Rules.{turns};
+ghost use Rattle.signal_queue.specs.Turns.{popped, pushed};
+ghost use Rattle.signal_queue.specs.Views.{KnowsQueue, first_queue_view};
+ghost use Rattle.timer_objects.specs.Signals.{IsSignalPass};
 ghost use Rattle.timer_setting.specs.Settimes.{most_entries};
 ghost use Rattle.counted_row.specs.Views.{IsPassOfRow, Locks, first_view, new_view, released, split_view};
 ghost use Rattle.timer_objects.specs.BlockingReads.{descriptors_below};
@@ -12,6 +16,7 @@ use crate::log::{ObjectLog, note};
 use crate::object::{Decl, Kind, Object};
 use crate::readers::{Bells, Reader};
 use counted_row::{Held, Row, RowPass};
+use signal_queue::{SignalPass, Signals};
 use std::alloc::{AllocError, Global};
 use std::marker::Model;
 use std::sync::Wait;
@@ -24,6 +29,7 @@ pub struct Objects {
     decls: Vec<Decl>,
     limit: u64,
     bells: Bells,
+    signals: Option<Signals>,
 }
 
 impl Model for Objects {
@@ -34,7 +40,7 @@ impl Model for Objects {
 
     ghost Value = { ObjectsOf };
 
-    ghost view = { λ o. record { id = o.row.id; decls = o.decls.items; limit = o.limit } };
+    ghost view = { λ o. record { id = o.row.id; decls = o.decls.items; limit = o.limit; queue = o.signals } };
 
     ghost invariant = { λ o. (o.row.made ≡ opened_objects o.decls.items o.limit) × (0 < o.limit) × (o.limit ≤ most_entries) };
 }
@@ -49,7 +55,7 @@ impl Objects {
     ) -> Result<(Objects, RowPass<Object>), AllocError>
         requires some { 0 < max_events }
         requires few { max_events ≤ most_entries }
-        ensures made { IfOk result (λ r. (r.0.decls ≡ decls.now) × (r.0.limit ≡ max_events)) }
+        ensures made { IfOk result (λ r. (r.0.decls ≡ decls.now) × (r.0.limit ≡ max_events) × (r.0.queue ≡ None)) }
         ensures pass { IfOk result (λ r. IsObjectsPass r.0 r.1) }
         ensures first { IfOk result (λ r. r.1.knows ≡ first_view (opened_objects decls.now max_events)) }
     {
@@ -65,7 +71,7 @@ impl Objects {
         requires some { 0 < max_events }
         requires few { max_events ≤ most_entries }
         requires numbers { length decls.now ≤ 2 ^ 32 }
-        ensures made { IfOk result (λ r. (r.0.decls ≡ decls.now) × (r.0.limit ≡ max_events)) }
+        ensures made { IfOk result (λ r. (r.0.decls ≡ decls.now) × (r.0.limit ≡ max_events) × (r.0.queue ≡ None)) }
         ensures pass { IfOk result (λ r. IsObjectsPass r.0 r.1) }
         ensures first { IfOk result (λ r. r.1.knows ≡ first_view (opened_objects decls.now max_events)) }
         ensures readers { IfOk result (λ r. r.2.items ≡ descriptors_below decls.now (length decls.now)) }
@@ -73,6 +79,36 @@ impl Objects {
         let (bells, readers) = Bells::of_descriptors(alloc, decls)?;
         let (objects, pass) = Objects::with_bells(alloc, decls, max_events, bells)?;
         Ok((objects, pass, readers))
+    }
+
+    /// Objects as `make` makes them, and a queue of at most so many signals, with its first pass: for who has queued timers. Their signals go there where their functions are
+    /// run by a handler that `QueuedFiring::make` gives.
+    pub fn make_queued(
+        alloc: Global,
+        decls: &[Decl],
+        max_events: u64,
+        room: usize,
+    ) -> Result<(Objects, RowPass<Object>, SignalPass), AllocError>
+        requires some { 0 < max_events }
+        requires few { max_events ≤ most_entries }
+        requires room { 0 < room }
+        ensures made { IfOk result (λ r. (r.0.decls ≡ decls.now) × (r.0.limit ≡ max_events)) }
+        ensures queue { IfOk result (λ r. IsSignalPass r.0 r.2 × (r.2.knows.room ≡ room)) }
+        ensures known { IfOk result (λ r. KnowsQueue r.2.knows) }
+        ensures pass { IfOk result (λ r. IsObjectsPass r.0 r.1) }
+        ensures first { IfOk result (λ r. (r.1.knows ≡ first_view (opened_objects decls.now max_events)) × (r.2.knows.pass ≡ first_queue_view.pass)) }
+    {
+        let (mut objects, pass) = Objects::make(alloc, decls, max_events)?;
+        match Signals::make(alloc, room) {
+            Ok((signals, signal_pass)) => {
+                objects.signals = Some(signals);
+                Ok((objects, pass, signal_pass))
+            }
+            Err(AllocError) => {
+                objects.close(pass);
+                Err(AllocError)
+            }
+        }
     }
 
     /// Objects of these declarations with these bells, and the first pass.
@@ -84,7 +120,7 @@ impl Objects {
     ) -> Result<(Objects, RowPass<Object>), AllocError>
         requires some { 0 < max_events }
         requires few { max_events ≤ most_entries }
-        ensures made { IfOk result (λ r. (r.0.decls ≡ decls.now) × (r.0.limit ≡ max_events)) }
+        ensures made { IfOk result (λ r. (r.0.decls ≡ decls.now) × (r.0.limit ≡ max_events) × (r.0.queue ≡ None)) }
         ensures pass { IfOk result (λ r. IsObjectsPass r.0 r.1) }
         ensures first { IfOk result (λ r. r.1.knows ≡ first_view (opened_objects decls.now max_events)) }
     {
@@ -96,6 +132,7 @@ impl Objects {
             decls: kept,
             limit: max_events,
             bells,
+            signals: None,
         };
         Ok((objects, pass))
     }
@@ -108,6 +145,18 @@ impl Objects {
     /// Wakes the reader of a descriptor, if it has one.
     pub(crate) fn ring(&self, id: u32) {
         self.bells.ring(id);
+    }
+
+    /// The queue of signals of objects that `make_queued` made: who splits its pass calls it. A signal that a caller puts there itself is taken for that of
+    /// its timer's expiry where that has the number.
+    pub fn signals(&self) -> &Signals
+        requires some { IsSome self.now.queue }
+        ensures { Some result.now ≡ self.now.queue }
+    {
+        match &self.signals {
+            Some(signals) => signals,
+            None => unreachable!(),
+        }
     }
 
     /// What an object was declared with.
@@ -215,7 +264,7 @@ impl Objects {
         self.row.join(main, other);
     }
 
-    /// Ends objects with their last pass.
+    /// Ends objects with their last pass; those that have a queue, whose passes nothing else takes, by `close_queued`.
     pub fn close(self, pass: RowPass<Object>)
         requires pass { IsObjectsPass self pass }
         requires last { IsLast pass.knows.pass.id }
@@ -228,8 +277,35 @@ impl Objects {
             decls: _,
             limit: _,
             bells: _,
+            signals: _,
         } = self;
         row.close(pass);
+    }
+
+    /// Ends objects that have a queue with the last passes of both.
+    pub fn close_queued(self, pass: RowPass<Object>, signal_pass: SignalPass)
+        requires pass { IsObjectsPass self pass }
+        requires queue { IsSignalPass self signal_pass }
+        requires last { IsLast pass.knows.pass.id × IsLast signal_pass.knows.pass.id }
+
+        // All entries of all objects are the pass's own, each once, and it has seen all histories whole; and so are all turns of the queue.
+        ensures all { HasEach pass.knows.pass.seen pass.knows.pass.mine }
+        ensures turns { HasEach signal_pass.knows.pass.seen signal_pass.knows.pass.mine }
+        ensures known { KnowsQueue signal_pass.knows }
+        ensures popped { Begins (popped (turns signal_pass.knows)) (pushed (turns signal_pass.knows)) }
+    {
+        let Objects {
+            row,
+            decls: _,
+            limit: _,
+            bells: _,
+            signals,
+        } = self;
+        row.close(pass);
+        match signals {
+            Some(signals) => signals.close(signal_pass),
+            None => unreachable!(),
+        }
     }
 }
 

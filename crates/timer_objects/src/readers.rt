@@ -74,7 +74,7 @@ impl Bells {
                     })?;
                     Some(bell)
                 }
-                Kind::Raw | Kind::Posix | Kind::Sleeper => None,
+                Kind::Raw | Kind::Posix | Kind::Sleeper | Kind::Queued => None,
             };
             bells.push(bell)?;
         }

@@ -102,7 +102,9 @@ fn times_by(
     ensures { result ≡ checked_times (bits_beyond (flags_of kind) flags) value interval }
 {
     match kind {
-        Kind::Raw | Kind::Posix | Kind::Sleeper => posix_timer::times_of(flags, value, interval),
+        Kind::Raw | Kind::Posix | Kind::Sleeper | Kind::Queued => {
+            posix_timer::times_of(flags, value, interval)
+        }
         Kind::Fd => timer_fd::times_of(flags, value, interval),
     }
 }

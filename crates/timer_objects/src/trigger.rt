@@ -23,7 +23,7 @@ pub(crate) fn trigger_of(kind: Kind, claim: &Claim, reading: Reading) -> Option<
     let generation = claim.generation();
     match kind {
         Kind::Raw => None,
-        Kind::Posix | Kind::Fd | Kind::Sleeper => Some(ObjectCall::Trigger {
+        Kind::Posix | Kind::Fd | Kind::Sleeper | Kind::Queued => Some(ObjectCall::Trigger {
             generation,
             reading,
         }),
@@ -83,7 +83,7 @@ fn tell_reader(objects: &Objects, id: u32, reply: &ObjectReply) {
 }
 
 /// Lets the lock of an object go whose history is full, and notes the trigger that was refused.
-fn skip(
+pub(crate) fn skip(
     objects: &Objects,
     pass: &mut RowPass<Object>,
     held: Held<Object>,

@@ -37,6 +37,7 @@ pub(crate) fn wanted(call: Rearming, object: &Object, reading: Reading) -> Optio
 {
     match (call, object) {
         (Rearming::Accepting, Object::Posix(timer)) => timer.accept_wants(reading),
+        (Rearming::Accepting, Object::Queued(queued)) => queued.timer.accept_wants(reading),
         (Rearming::Reading, Object::Fd(timer)) => timer.read_wants(COUNT_LENGTH, reading),
         (Rearming::Getting, Object::Fd(timer)) => timer.gettime_wants(reading),
         _ => None,

@@ -95,7 +95,10 @@ impl Stand {
         ensures keeps { KeepsStand self.old self.new }
     {
         self.make_room(4)?;
-        if matches!(self.objects.kind(id), Kind::Raw | Kind::Sleeper) {
+        if matches!(
+            self.objects.kind(id),
+            Kind::Raw | Kind::Sleeper | Kind::Queued
+        ) {
             return Ok(false);
         }
         let (timers, objects) = (&self.timers, &self.objects);
@@ -177,7 +180,7 @@ impl Stand {
                 );
                 Ok(answer == ReadAnswer::Count { total: 1 })
             }
-            Kind::Raw | Kind::Sleeper => Ok(false),
+            Kind::Raw | Kind::Sleeper | Kind::Queued => Ok(false),
         }
     }
 
@@ -214,7 +217,7 @@ impl Stand {
                 );
                 !answer.ready
             }
-            Kind::Raw | Kind::Sleeper => false,
+            Kind::Raw | Kind::Sleeper | Kind::Queued => false,
         }
     }
 

@@ -42,6 +42,7 @@ arm_in (calls.Read reading arm) = arm
 arm_in (calls.Gettime reading arm) = arm
 arm_in (calls.Sleep c) = c.arm
 arm_in (calls.Interrupt reading) = arms.NotAsked
+arm_in (calls.Overflow generation reading) = arms.NotAsked
 
 -- ---- what is known of a kind
 

@@ -25,6 +25,8 @@ pub enum ObjectCall {
     Sleep(SleepCall),
     /// A sleep is ended, or its end told.
     Interrupt { reading: Reading },
+    /// The function of a POSIX timer's high-resolution timer runs, and its queue has no room for the signal.
+    Overflow { generation: u64, reading: Reading },
 }
 
 /// What such a call answers.
@@ -39,4 +41,6 @@ pub enum ObjectReply {
     Gettime(GettimeAnswer),
     Sleep(SleepAnswer),
     Interrupt(InterruptAnswer),
+    /// The signal found no room.
+    Full,
 }

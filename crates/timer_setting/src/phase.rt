@@ -29,7 +29,7 @@ pub enum Phase {
 impl Phase {
     /// Whether an expiry of this generation is the object's, and its time has come: what was armed by an earlier generation and moved since is the
     /// object's still.
-    pub(crate) fn is_expiry(self, generation: u64, reading: Reading) -> bool
+    pub fn is_expiry(self, generation: u64, reading: Reading) -> bool
         ensures { result ≡ is_expiry_of self generation reading }
     {
         match self {

@@ -54,7 +54,7 @@ fn arm<R: Wait>(
 {
     let at = Reading::at(5);
     match objects.kind(0) {
-        Kind::Raw | Kind::Sleeper => {
+        Kind::Raw | Kind::Sleeper | Kind::Queued => {
             timers.start(rt, pass, 0, Mode::Abs, 100, 0, at);
         }
         Kind::Posix | Kind::Fd => {

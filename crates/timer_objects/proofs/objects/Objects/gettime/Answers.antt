@@ -19,3 +19,22 @@ returns-in-Posix-object-clause-gets g c =
       },
       c.gettime-setting.ensures.setting,
     )
+
+pub returns-in-Queued-object-clause-gets : goal.returns-in-Queued-object-clause-gets
+returns-in-Queued-object-clause-gets g c =
+    let seen = c.look_at-object-in-Queued.ensures in
+    let finds = seen.finds in
+    let state = sym c.in-Queued-object.is ∙ finds.state in
+    rw (← c.in-Queued.ensures) (
+      c.in-Queued-object.queued,
+      record {
+        reads = finds.reads;
+        state = state;
+        stamp = finds.stamp;
+        timers = seen.looks;
+        told = seen.told;
+        log = refl;
+        object_log = refl;
+      },
+      c.gettime-setting-in-Queued.ensures.setting,
+    )
