@@ -1,20 +1,22 @@
 """What bases have along an order: their queues, what runs there, and their heirs; what a step needs of them; and which steps a move could spoil by coming
 earlier than it has to."""
 from timers import CLOCKS
+from world import ROOM
 
 RANKS = {clock: rank for rank, clock in enumerate(CLOCKS)}
 
 
 class Bases:
-    """All bases at one moment: each queue's (expiry, timer, soft expiry) in turn, what runs in each context, and each base's heir."""
+    """All bases at one moment: each queue's (expiry, timer, soft expiry) in turn, what runs in each context, and each base's heir; and the
+    signals that wait."""
 
-    __slots__ = ("queues", "running", "heirs")
+    __slots__ = ("queues", "running", "heirs", "signals")
 
-    def __init__(self, queues=(), running=(), heirs=()):
-        self.queues, self.running, self.heirs = dict(queues), dict(running), dict(heirs)
+    def __init__(self, queues=(), running=(), heirs=(), signals=()):
+        self.queues, self.running, self.heirs, self.signals = dict(queues), dict(running), dict(heirs), signals
 
     def copy(self):
-        return Bases(self.queues, self.running, self.heirs)
+        return Bases(self.queues, self.running, self.heirs, self.signals)
 
     def take(self, node):
         """One move."""
@@ -34,7 +36,11 @@ class Bases:
 
     def ties(self):
         """The queues in which equal expiries stand: all else is known by which moves were made."""
-        return tuple(sorted(item for item in self.queues.items() if any(a[0] == b[0] for a, b in zip(item[1], item[1][1:]))))
+        return self.signals, tuple(sorted(item for item in self.queues.items() if any(a[0] == b[0] for a, b in zip(item[1], item[1][1:]))))
+
+    def signal(self, node):
+        """One push or pop of a signal."""
+        self.signals = (*self.signals, node.step.needs[1]) if node.kind == "push" else self.signals[1:]
 
     def runs(self, base):
         return self.running.get((base, False)) or self.running.get((base, True))
@@ -58,6 +64,8 @@ class Bases:
     def give(self, needs):
         """Whether the bases are as a step needs them."""
         kind, base, *rest = needs
+        if kind in OF_SIGNALS:
+            return gives(self.signals, *needs)
         if kind == "claim":
             soft, reading, timer = rest
             return not self.running.get((base, soft)) and self.next_of(base, soft, reading) == timer
@@ -77,6 +85,8 @@ class Bases:
     def lack(self, needs):
         """Why a step can't come now."""
         kind, base, *rest = needs
+        if kind in OF_SIGNALS:
+            return f"{len(self.signals)} signals wait" + (f", and the oldest is {self.signals[0][1]} of object {self.signals[0][0]}" if self.signals else "")
         if kind == "online":
             return f"base {base} is off line"
         if kind == "might":
@@ -88,7 +98,15 @@ class Bases:
         return f"no timer is next on base {base}" if timer is None else f"timer {timer} is next on base {base}"
 
 
-OF_BASES = ("claim", "done", "online", "might", "first", "front", "full", "more", "clear")
+def gives(signals, kind, what):
+    """Whether a queue of signals, the oldest first, lets one be pushed or popped, or is as it is told to be."""
+    if kind == "pop":
+        return signals[:1] == (what,)
+    return not signals if kind == "empty" else (len(signals) < ROOM) == (kind == "push")
+
+
+OF_SIGNALS = ("push", "pop", "empty", "no room")
+OF_BASES = ("claim", "done", "online", "might", "first", "front", "full", "more", "clear", *OF_SIGNALS)
 
 
 def look_at_effects(histories, node):
@@ -144,7 +162,7 @@ class Spoils:
 
     def look_for(self, node, others):
         node.spoils = [-1] * len(self.chains)
-        if not node.step.move:
+        if not node.step.move and not node.step.turn and node.kind not in ("push", "pop"):
             return
         for other in others:
             if other.chain != node.chain and node.spoils[other.chain] < other.place < node.behind[other.chain] and self.spoils(node, other):
@@ -153,12 +171,14 @@ class Spoils:
     def spoils(self, node, other):
         """Whether a move could spoil what another node needs, or the order of equal expiries."""
         needs = other.step.needs
+        if other.kind == "among":
+            return any(it and it[0] == needs[1] for it in (node.step.move, node.step.turn))
+        if node.kind in OF_SIGNALS or other.kind in OF_SIGNALS:
+            return other.kind in {"push": ("push", "empty"), "pop": ("no room",)}.get(node.kind, ())
         if node.joins and other.joins and self.are_tied(node, other):
             return True
         if not needs:
             return False
-        if other.kind == "among":
-            return node.step.move[0] == needs[1]
         if other.kind == "apart":
             return node.label == other.label
         if other.kind in ("way begins", "way", "online", "might"):

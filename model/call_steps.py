@@ -107,10 +107,18 @@ class CallSteps(ObjectSteps):
             line = self.take(("object", timer), "trigger")
             self.need(line.fields["generation"] == generation, f"{line.says()}, is of another generation than its claim")
             self.turn = line.name, line.number
+            self.send(timer, line)
             self.enter(line)
             return
         self.left.remove(skip)
         self.look_full(timer, skip.number, skip.says())
+
+    def send(self, timer, line):
+        """In its turn an expiry of a queued timer that counts sends its signal, or finds the queue full."""
+        if self.is_sent(timer, line.number):
+            self.add(f"the signal of {line.says()}", needs=("push", (timer, line.number)))
+        elif line.fields["outcome"] == "full":
+            self.add(f"{line.says()}, with no room for its signal", needs=("no room", "signals"))
 
     def callback(self, timer, declared, generation):
         if declared.callback == "every" and self.is_next(timer, "forward"):

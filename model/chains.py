@@ -26,13 +26,14 @@ class Chains:
     def __init__(self, histories):
         self.h, script = histories, histories.script
         self.chains = [[] for _ in range(script.lanes)]
-        self.begins, self.makes = {}, {}
+        self.begins, self.makes, self.pushes, self.pops = {}, {}, {}, {}
         for of_lane in script.calls:
             for call in of_lane:
                 self.add_call(call)
         # How far each chain has come at the end of each round.
         self.ends = [[sum(node.round <= number for node in chain) for chain in self.chains] for number in range(script.rounds + 1)]
         self.tie_lists()
+        self.tie_signals()
 
     def add_call(self, call):
         """The steps of a branch stand behind the steps of their call that come first, and before its last one."""
@@ -55,6 +56,8 @@ class Chains:
         step = node.step
         if step.turn:
             self.begins[step.turn] = node
+        if node.kind in ("push", "pop"):
+            (self.pushes if node.kind == "push" else self.pops)[step.needs[1]] = node
         if step.move:
             self.makes[step.move] = node
             self.begins.setdefault(step.move, node)
@@ -73,6 +76,18 @@ class Chains:
             node.before.append(self.makes[name, low])
         if (name, high + 1) in self.begins:
             self.begins[name, high + 1].before.append(node)
+
+    def tie_signals(self):
+        """Signals that a lane pops in turn were pushed in turn, and those that nobody pops were pushed behind them."""
+        last = {}
+        for signal, pop in self.pops.items():
+            push = self.pushes[signal]
+            pop.before.append(push)
+            push.before += last.get(pop.chain, [])
+            last[pop.chain] = [push]
+        for signal, push in self.pushes.items():
+            if signal not in self.pops:
+                push.before += [it for pushes in last.values() for it in pushes]
 
     # ---- whether there is an order at all, whatever bases have
 

@@ -38,11 +38,13 @@ class CrowdedMaker(Maker):
         kind, drawn = self.kinds[timer], self.random.random()
         if kind == "sleeper":
             return self.sleep(timer) if drawn < 0.45 else f"{'interrupt' if drawn < 0.8 else 'slept'} {timer}"
-        if kind not in ("posix", "fd") or drawn < 0.2:
+        if kind == "queued" and drawn < 0.35:
+            return "sigwait"
+        if kind not in ("posix", "queued", "fd") or drawn < 0.2:
             return super().call_of(timer)
         if drawn < 0.55:
-            return f"settime {timer} {self.random.choice([0, 1, 1] if kind == 'posix' else [0, 1, 3, 3])} {self.setting()}"
-        return f"accept {timer}" if kind == "posix" else f"read {timer} 8"
+            return f"settime {timer} {self.random.choice([0, 1, 3, 3] if kind == 'fd' else [0, 1, 1])} {self.setting()}"
+        return f"read {timer} 8" if kind == "fd" else f"accept {timer}"
 
     def call(self, lane):
         """One call of a lane: what it does most is to expire, to write the clock, and to call one of the few timers."""
@@ -56,10 +58,19 @@ class CrowdedMaker(Maker):
         timer = self.random.randrange(len(self.kinds))
         return f"peek {timer}" if drawn > 0.93 else self.call_of(timer)
 
+    def signal_call(self):
+        """One call of a round in which queued timers are set, expire, and have their signals taken."""
+        timer = self.random.choice([number for number, kind in enumerate(self.kinds) if kind == "queued"])
+        setting, expire = f"settime {timer} 1 0 1 0 {self.small()}", f"expire {self.homes[timer]} 8"
+        return self.random.choice([setting, setting, expire, expire, expire, "sigwait"])
+
     def round(self):
         """The calls of a round, of at least two lanes."""
         lanes = sorted(self.random.sample(range(self.lanes), self.random.randrange(2, self.lanes + 1)))
         each = self.random.choice([1, 2, 3, 5, 8, 16, 30])
+        if "queued" in self.kinds and self.random.random() < 0.4:
+            calls = [f"{lane} {self.signal_call()}" for _ in range(each) for lane in lanes]
+            return [f"{lanes[0]} advance 1", *calls, *[f"{lanes[0]} sigwait"] * self.random.choice([0, 2, 4])]
         return [f"{lane} {self.call(lane)}" for _ in range(each) for lane in lanes]
 
     def lines(self):

@@ -7,7 +7,7 @@ from typing import NamedTuple
 
 import objects
 import timers
-from objects import NOT_ASKED, Accept, Gettime, Interrupt, Object, Read, Settime, Sleep, Trigger
+from objects import NOT_ASKED, Accept, Gettime, Interrupt, Object, Overflow, Read, Settime, Sleep, Trigger
 from timers import Cancel, Claim, Finish, Forward, NotLegal, Out, Reading, Start, Terms, Timer
 from world import LAST_STANDING, REACH, World
 
@@ -216,6 +216,8 @@ class Histories:
         refused = given.get("answer", {}).get("entries", 0) if kind in (Settime, Sleep) else 0
         armed = given.get("arm", "none")
         arm = {"none": NOT_ASKED, "unarmed": ("unarmed", refused)}.get(armed, ("armed", armed))
+        if kind is Trigger:
+            return (Overflow(*arguments, reading) if given["outcome"] == "full" else Trigger(*arguments, reading, line.number)), arm, arguments
         return kind(*arguments, reading), arm, arguments
 
     def object_states(self, number):

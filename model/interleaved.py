@@ -2,7 +2,7 @@
 So its records have races that threads come to rarely. With a fault let in, some of its records are wrong."""
 import objects
 import timers
-from objects import NOT_ASKED, Accept, Gettime, Interrupt, Read, Settime, Sleep, Trigger
+from objects import NOT_ASKED, POSIX, Accept, Gettime, Interrupt, Read, Settime, Sleep, Trigger
 from timers import Claim, Finish, Forward, Out, Start
 from world import LAST_STANDING, World
 
@@ -12,6 +12,7 @@ FAULTS = {
     "done": "a run is done too early",
     "reading": "a call reads an older clock",
     "look": "a look at an object takes no lock",
+    "signal": "a wait takes the newest signal",
     "turn": "an object's lock is let go before its entry",
 }
 
@@ -176,15 +177,20 @@ class Interleaved(World):
 
     def triggering(self, number, call):
         yield from self.locking(number)
-        self.trigger(number, call)
+        if self.object_stamp(number) >= self.limit:
+            self.trigger(number, call)
+        else:
+            sent = self.sent(number, call)
+            yield
+            self.enter_object(number, "trigger", sent, call.generation)
         self.locked.discard(number)
 
-    def making(self, number, verb, call, *arguments, cancels=False):
-        """A call that makes an entry of an object, under the object's lock."""
+    def making(self, number, verb, call, *arguments, cancels=False, signal=None):
+        """A call that makes an entry of an object, under the object's lock; one that waited for a signal accepts that one alone."""
         yield
         while True:
             yield from self.locking(number)
-            refused = self.refusal(number, call)
+            refused = self.unaccepted(number, signal) if signal else self.refusal(number, call)
             if refused:
                 self.locked.discard(number)
                 return refused
@@ -217,7 +223,7 @@ class Interleaved(World):
 
     def steps_gettime(self, I):
         reading = self.read()
-        if self.objects[I].kind == "posix":
+        if self.objects[I].kind in POSIX:
             return (yield from self.seeing(I, lambda it, stamp: f"left {it.left(reading)} {it.interval} {reading.stamp} {stamp}"))
         answer = yield from self.making(I, "gettime", Gettime(reading))
         return answer if answer.startswith("spent") else f"left {answer}"
@@ -257,6 +263,17 @@ class Interleaved(World):
 
     def steps_slept(self, I):
         return self.seeing(I, lambda it, stamp: f"{it.slept()} {stamp}")
+
+    # ---- signals
+
+    def steps_sigwait(self):
+        reading = self.read()
+        yield
+        if not self.signals:
+            return "empty"
+        number, signal = self.signals.pop(-1 if self.goes_wrong("signal") else 0)
+        answer = yield from self.making(number, "accept", Accept(reading), signal=signal)
+        return answer if answer.startswith(("spent", "stale")) else f"signal {number} {signal} {answer.split()[1]}"
 
     # ---- bases off line and on line
 

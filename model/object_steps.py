@@ -1,4 +1,4 @@
-"""The steps of calls on POSIX timers, descriptors and sleepers."""
+"""The steps of calls on POSIX timers, descriptors and sleepers, and of waits for signals."""
 import objects
 from histories import many
 from steps import Steps, is_idle
@@ -13,7 +13,9 @@ class ObjectSteps(Steps):
             return None
         line = self.take(("object", number), event)
         self.turn = line.name, line.number
-        told = {name: value for name, value in self.answer.items() if name not in ("kind", "lane", "call")}
+        told = {name: value for name, value in self.answer.items() if name not in ("kind", "lane", "call", "signal_timer", "signal_entry")}
+        if self.told == "signal":
+            told["answer"] = "accepted"
         if event == "gettime":
             given = {"answer": "left", "left": line.fields["left"], "interval": line.fields["interval"]}
         else:
@@ -158,3 +160,31 @@ class ObjectSteps(Steps):
         self.answers("sleeping", "done", "awake")
         number, = self.has("entries")
         self.look_object(I, number, lambda it: it.slept() == self.told)
+
+    # ---- signals
+
+    def is_sent(self, number, signal):
+        """Whether an entry of an object is a queued timer's expiry that counted."""
+        if number not in self.h.objects or self.h.objects[number][0].kind != "queued" or not 1 <= signal <= self.length(("object", number)):
+            return False
+        line = self.h.entries["object", number][signal - 1]
+        return line.event == "trigger" and line.fields["outcome"] == "counted"
+
+    def do_sigwait(self):
+        self.answers("signal", "stale", "spent", "empty")
+        if self.told == "empty":
+            self.has()
+            self.add("no signal that waits", needs=("empty", "signals"))
+            return
+        number, signal, *_ = self.has("signal_timer", "signal_entry", *["overrun"] * (self.told == "signal"))
+        self.need(self.is_sent(number, signal), f"object {number} sent no signal {signal}")
+        self.add(f"signal {signal} of object {number} as the oldest", needs=("pop", (number, signal)))
+        if self.told == "signal":
+            line = self.next_of("object", number)
+            fresh = line is not None and self.h.objects[number][line.number - 1].is_fresh(signal)
+            self.need(fresh, f"signal {signal} of object {number} isn't the one that is pending")
+            self.rearm(number, "accept")
+            return
+        limit, states = self.h.script.limit, self.h.objects[number]
+        right = [n for n, it in enumerate(states) if n >= signal and (n >= limit if self.told == "spent" else n < limit and not it.is_fresh(signal))]
+        self.look_among(f"signal {signal} of object {number} {self.told}", ("object", number), right)

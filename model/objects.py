@@ -1,4 +1,4 @@
-"""POSIX timers, timer descriptors and sleepers: each a state over its timer, the start that a call wants, and the call's step."""
+"""POSIX timers, queued ones too, timer descriptors and sleepers: each a state over its timer, the start that a call wants, and the call's step."""
 from typing import NamedTuple, Optional, Tuple
 
 from timers import Reading, effective_clock, need, next_after, passed, sat
@@ -6,6 +6,9 @@ from timers import Reading, effective_clock, need, next_after, passed, sat
 OVERRUN_MOST = 2147483647
 COUNT_MOST = 2**64 - 1
 NSEC_MOST = 999999999
+
+# The kinds whose calls are those of a POSIX timer.
+POSIX = ("posix", "queued")
 
 IDLE = ("idle",)
 # What became of the start that a call wanted: none was, it armed this generation, or the timer's limit refused it.
@@ -20,6 +23,16 @@ class Settime(NamedTuple):
 
 
 class Trigger(NamedTuple):
+    """An expiry. Where a queued timer counts it, `number` is that of its entry."""
+
+    generation: int
+    reading: Reading
+    number: int = 0
+
+
+class Overflow(NamedTuple):
+    """An expiry of a queued timer that would count, when the queue of signals has no room."""
+
     generation: int
     reading: Reading
 
@@ -48,7 +61,7 @@ class Interrupt(NamedTuple):
 
 class Object(NamedTuple):
     """The state of an object. A phase is idle, armed (generation, clock, expiry) or expired (clock, expiry). A sleeper is free, in a relative or an absolute
-    sleep, or woken; its timer is armed exactly while it sleeps."""
+    sleep, or woken; its timer is armed exactly while it sleeps. The signal is that of a queued timer's last expiry that counted, by its entry's number."""
 
     kind: str
     clock: str
@@ -61,6 +74,7 @@ class Object(NamedTuple):
     cancelable: bool = False
     seen: int = 0
     sleep: str = "free"
+    signal: int = 0
 
     def was_canceled(self, reading):
         """A descriptor's setting with both flags is canceled by a later change of the real offset."""
@@ -68,6 +82,10 @@ class Object(NamedTuple):
 
     def is_readable(self, reading):
         return self.count != 0 or self.was_canceled(reading)
+
+    def is_fresh(self, signal):
+        """Whether a queued timer's signal is still the one that is pending."""
+        return self.pending and self.signal == signal
 
     def left(self, reading):
         """The time left. An armed POSIX timer that is overdue has 1 ns left, a descriptor and a sleeper none."""
@@ -77,7 +95,7 @@ class Object(NamedTuple):
         now = reading.of(clock)
         if self.phase[0] == "expired":
             return next_after(expires, now, self.interval) - now
-        return expires - now if now < expires else int(self.kind == "posix")
+        return expires - now if now < expires else int(self.kind in POSIX)
 
     def slept(self):
         """What a look at a sleeper is answered."""
@@ -86,7 +104,7 @@ class Object(NamedTuple):
 
 def is_bad(kind, flags, value_rest, interval_rest):
     """Whether a settime has flags or times that its kind doesn't take."""
-    most = 1 if kind == "posix" else 3
+    most = 1 if kind in POSIX else 3
     return flags > most or value_rest > NSEC_MOST or interval_rest > NSEC_MOST
 
 
@@ -120,7 +138,7 @@ def wants(state: Object, call) -> Optional[Tuple[str, int]]:
     if isinstance(call, (Settime, Sleep)):
         is_wanted = call.value > 0 if isinstance(call, Settime) else not has_come(state, call)
         return ("abs" if call.flags & 1 else "rel", call.value) if is_wanted else None
-    if state.phase[0] != "expired" or isinstance(call, Trigger):
+    if state.phase[0] != "expired" or isinstance(call, (Trigger, Overflow)):
         return None
     if isinstance(call, Accept) and not state.pending or isinstance(call, Read) and state.was_canceled(call.reading):
         return None
@@ -135,8 +153,8 @@ def step(state: Object, call, arm=NOT_ASKED):
 
 
 def words_of(verb, arguments, call, arm, answer):
-    """The words of an object's entry. A trigger and an interrupt start nothing, so nothing of a start stands there."""
-    armed = () if isinstance(call, (Trigger, Interrupt)) else (arm[1] if arm[0] == "armed" else arm[0],)
+    """The words of an object's entry. An expiry and an interrupt start nothing, so nothing of a start stands there."""
+    armed = () if isinstance(call, (Trigger, Overflow, Interrupt)) else (arm[1] if arm[0] == "armed" else arm[0],)
     return (verb, *arguments, call.reading.stamp, *armed, answer)
 
 
@@ -187,6 +205,24 @@ def posix_accept(state, call, arm):
     overrun = min(max(periods - 1, 0), OVERRUN_MOST)
     interval = 0 if phase == IDLE else state.interval
     return state._replace(phase=phase, interval=interval, pending=False, overrun=overrun), f"accepted {overrun}"
+
+
+# ---- queued POSIX timers
+
+
+def sends(state, call):
+    """Whether an expiry has a signal to send."""
+    return state.kind == "queued" and counts(state, call)
+
+
+def queued_trigger(state, call, arm):
+    after, answer = posix_trigger(state, call, arm)
+    return after._replace(signal=call.number) if answer == "counted" else after, answer
+
+
+def queued_overflow(state, call, arm):
+    need(counts(state, call), "only an expiry that counts finds the queue full")
+    return state._replace(phase=IDLE, interval=0, pending=False), "full"
 
 
 # ---- descriptors
@@ -259,6 +295,10 @@ STEPS = {
     ("posix", Settime): posix_settime,
     ("posix", Trigger): posix_trigger,
     ("posix", Accept): posix_accept,
+    ("queued", Settime): posix_settime,
+    ("queued", Trigger): queued_trigger,
+    ("queued", Overflow): queued_overflow,
+    ("queued", Accept): posix_accept,
     ("fd", Settime): fd_settime,
     ("fd", Trigger): fd_trigger,
     ("fd", Read): fd_read,

@@ -29,7 +29,7 @@ class Moment:
 
 class Search:
     def __init__(self, histories, chains, most=MOST_MOMENTS):
-        self.chains, self.ends, self.makes, self.most = chains.chains, chains.ends, chains.makes, most
+        self.chains, self.ends, self.makes, self.begins, self.most = chains.chains, chains.ends, chains.makes, chains.begins, most
         Spoils(histories, self.chains, chains.one_order())
         self.seen, self.furthest = set(), None
 
@@ -78,6 +78,10 @@ class Search:
         node = self.makes.get(entry)
         return node is not None and moment.places[node.chain] > node.place
 
+    def is_begun(self, moment, entry):
+        node = self.begins.get(entry)
+        return node is not None and moment.places[node.chain] > node.place
+
     def may_come(self, moment, node):
         places = moment.places
         for it in node.before:
@@ -90,7 +94,7 @@ class Search:
         if node.kind in OF_BASES:
             return moment.bases.give(needs)
         if node.kind == "among":
-            return any((not n or self.is_made(moment, (needs[1], n))) and not self.is_made(moment, (needs[1], n + 1)) for n in needs[2])
+            return any((not n or self.is_made(moment, (needs[1], n))) and not self.is_begun(moment, (needs[1], n + 1)) for n in needs[2])
         if node.kind == "apart":
             return not any(self.is_on_its_way(moment, node, chain) for chain in range(len(self.chains)))
         return node.kind == "way begins" or all(is_way(moment.ways[node.label], *way) for way in needs[2])
@@ -106,6 +110,8 @@ class Search:
         moment.taken.append(node)
         if node.step.move:
             moment.bases.take(node)
+        if node.kind in ("push", "pop"):
+            moment.bases.signal(node)
         if node.kind == "way begins":
             moment.ways[node.label] = frozenset(moment.bases.heirs.items())
         elif node.kind == "way":

@@ -12,7 +12,7 @@ class Maker:
         self.random, self.version = random, version
         self.bases = random.choice([1, 1, 1, 2, 3, MOST_BASES[version]])
         self.lanes = random.choice([1, 1, 2, 3, MOST_LANES[version]])
-        self.kinds, self.lane = [], 0
+        self.kinds, self.homes, self.lane, self.limit = [], {}, 0, 0
 
     def small(self):
         return self.random.randrange(self.random.choice([2, 3, 10, 60]))
@@ -24,12 +24,13 @@ class Maker:
         return self.random.randrange(self.bases if self.random.random() < 0.2 else min(self.bases, 2))
 
     def declaration(self):
-        kinds = ["raw", "raw", "posix", "fd"] + ["soft", "sleeper"] * (self.version == 2)
+        kinds = ["raw", "raw", "posix", "fd"] + ["soft", "sleeper", "queued", "queued"] * (self.version == 2)
         kind = self.random.choice(kinds)
         begin = f"{kind} {len(self.kinds)} {self.random.choice(CLOCKS)}"
         self.kinds.append(kind)
-        if kind in ("posix", "fd", "sleeper"):
-            return f"{begin} {self.base()}"
+        if kind in ("posix", "queued", "fd", "sleeper"):
+            home = self.homes[len(self.kinds) - 1] = self.base()
+            return f"{begin} {home}"
         callbacks = ["once", f"every {self.time()}", "cancels", f"starts {self.small()} {self.base()}"]
         return f"{begin} {self.random.choice(callbacks[:2] if kind == 'soft' else callbacks)}"
 
@@ -46,9 +47,10 @@ class Maker:
 
     def call_of(self, timer):
         kind = self.kinds[timer]
-        if kind == "posix":
+        if kind in ("posix", "queued"):
             flags = self.random.choice([0, 0, 1, 1, 2])
-            return self.random.choice([f"settime {timer} {flags} {self.setting()}", f"gettime {timer}", f"accept {timer}", f"overrun {timer}"])
+            calls = [f"settime {timer} {flags} {self.setting()}", f"gettime {timer}", f"accept {timer}", f"overrun {timer}"]
+            return self.random.choice(calls if kind == "posix" else [calls[0], *calls, "sigwait", "sigwait"])
         if kind == "fd":
             flags = self.random.choice([0, 0, 1, 2, 3, 3, 4])
             calls = [f"settime {timer} {flags} {self.setting()}", f"gettime {timer}", f"read {timer} {self.random.choice([7, 8, 8, 16])}", f"readable {timer}"]
@@ -73,20 +75,39 @@ class Maker:
         budget = self.random.choice([0, 1, 2, 8, 8, 4096])
         return self.random.choice([f"offline {base} {self.random.randrange(base)} {budget}"] * 2 + [f"online {base}"])
 
+    def flood(self):
+        """A queued timer is set and expires so often that its signals may fill the queue; then a few of them are waited for."""
+        timer = self.random.choice([number for number, kind in enumerate(self.kinds) if kind == "queued"])
+        calls = ["advance 1"]
+        for _ in range(self.random.randrange(62, 70)):
+            calls += [f"settime {timer} 1 0 1 0 {self.random.randrange(3)}", f"expire {self.homes[timer]} 8"]
+        return calls + ["sigwait"] * self.random.choice([0, 1, 3, 70])
+
+    def signal(self, timer):
+        """A queued timer is set so that it may expire, and now and then something is done to it before its signal is waited for."""
+        calls = [f"settime {timer} 1 0 {self.small() + 1} 0 {self.small()}", f"advance {self.small() + 1}", f"expire {self.homes[timer]} 8"]
+        calls += [self.random.choice([self.call_of(timer), self.write()])] * self.random.choice([0, 0, 1])
+        return calls + ["sigwait"] * self.random.choice([0, 1, 1, 2])
+
     def calls(self):
-        """A few calls: one by chance, or a timer that is set, and may expire."""
+        """A few calls: one by chance, or a timer that is set, and may expire, or in a few scripts with room for them very many signals."""
+        if "queued" in self.kinds and self.limit >= 1000 and self.random.random() < 0.012:
+            return self.flood()
         if self.version == 2 and self.bases > 1 and self.lane == 0 and self.random.random() < 0.2:
             return [self.shift()]
         if not self.kinds or self.random.random() < 0.3:
-            return [self.random.choice([self.write, self.expire])()]
+            drawn = self.random.choice([self.write, self.expire])()
+            return ["sigwait" if self.version == 2 and self.random.random() < 0.1 else drawn]
         timer = self.random.randrange(len(self.kinds))
+        if self.kinds[timer] == "queued" and self.random.random() < 0.4:
+            return self.signal(timer)
         calls = [self.call_of(self.random.choice([timer, self.random.randrange(len(self.kinds))])) for _ in range(self.random.randrange(3))]
         calls += [self.write()] * self.random.randrange(2) + [self.expire()] * self.random.randrange(2)
         return [*calls, f"peek {timer}" if self.random.random() < 0.1 else self.call_of(timer)]
 
     def lines(self):
-        limit = self.random.choice([1, 2, 5, 12, 1000, MOST_ENTRIES[self.version]])
-        made = [f"hrt {self.version}", f"bases {self.bases}", f"lanes {self.lanes}", f"limit {limit}"]
+        self.limit = self.random.choice([1, 2, 5, 12, 1000, MOST_ENTRIES[self.version]])
+        made = [f"hrt {self.version}", f"bases {self.bases}", f"lanes {self.lanes}", f"limit {self.limit}"]
         made += [self.declaration() for _ in range(self.random.randrange(7))]
         for _ in range(self.random.randrange(1, 7)):
             made.append("round")
@@ -105,7 +126,7 @@ NUMBERS = [
 ]
 WORDS = [
     b"start", b"startrange", b"monotonic", b"round", b"soft", b"once", b"every", b"read", b"abs", b"hrt", b"offline", b"online", b"sleeper", b"sleep",
-    b"interrupt", b"slept",
+    b"interrupt", b"slept", b"queued", b"sigwait",
 ]
 BYTES = [b"\r", b"\t", b"\0", b"\x7f", b"\xef\xbb\xbf", b"\xc3\xa9", b" ", b"  ", b"\n", b"#"]
 

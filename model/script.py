@@ -22,10 +22,10 @@ KINDS_OF_CALL = {
     "start": ("raw", "soft"),
     "startrange": ("raw", "soft"),
     "cancel": ("raw", "soft"),
-    "settime": ("posix", "fd"),
-    "gettime": ("posix", "fd"),
-    "accept": ("posix",),
-    "overrun": ("posix",),
+    "settime": ("posix", "queued", "fd"),
+    "gettime": ("posix", "queued", "fd"),
+    "accept": ("posix", "queued"),
+    "overrun": ("posix", "queued"),
     "read": ("fd",),
     "readable": ("fd",),
     "sleep": ("sleeper",),
@@ -53,7 +53,7 @@ class Declaration(NamedTuple):
     base: int
 
     def is_object(self):
-        return self.kind in ("posix", "fd", "sleeper")
+        return self.kind in ("posix", "queued", "fd", "sleeper")
 
 
 class Call(NamedTuple):
@@ -85,13 +85,13 @@ FORMS = [
     *(form(1, "declaration", f"raw I CLOCK {text}") for text in ("once", "every N", "cancels", "starts N B")),
     *(form(2, "declaration", f"soft I CLOCK {text}") for text in ("once", "every N")),
     *(form(1, "declaration", f"{kind} I CLOCK B") for kind in ("posix", "fd")),
-    form(2, "declaration", "sleeper I CLOCK B"),
+    *(form(2, "declaration", f"{kind} I CLOCK B") for kind in ("sleeper", "queued")),
     form(1, "round", "round"),
     *(form(1, "call", f"K {text}") for text in ("start I MODE NS B", "cancel I", "peek I", "expire B N")),
     *(form(1, "call", f"K {verb} D") for verb in ("advance", "set", "suspend")),
     *(form(1, "call", f"K {text}") for text in ("settime I F VS VN IS IN", "gettime I", "accept I", "overrun I", "read I LEN", "readable I")),
     *(form(2, "call", f"K {text}") for text in ("startrange I MODE NS SLACK B", "softexpire B N", "offline B H N", "online B")),
-    *(form(2, "call", f"K {text}") for text in ("sleep I F S N", "interrupt I", "slept I")),
+    *(form(2, "call", f"K {text}") for text in ("sleep I F S N", "interrupt I", "slept I", "sigwait")),
 ]
 
 

@@ -8,8 +8,8 @@ class Step(NamedTuple):
     """One step of a call.
 
     `move` is the entry that it makes, as list and number. `turn` is the entry of an object whose turn begins with it. `bounds` are lists with the least and
-    the greatest number of entries at which it may stand. `needs` is what it needs of bases, by kind, and `branch` is 0 but in a call that moves several
-    timers off a base: each timer's moves stand in a branch of their own, in no order with the others."""
+    the greatest number of entries at which it may stand. `needs` is what it needs of bases or of the queue of signals, by kind, and `branch` is 0 but in a
+    call that moves several timers off a base: each timer's moves stand in a branch of their own, in no order with the others."""
 
     label: tuple
     says: str
@@ -78,7 +78,8 @@ class Steps:
         """A look that holds while the list has one of these numbers of entries."""
         self.need(numbers, f"{says} holds at no moment")
         low, high = min(numbers), max(numbers)
-        whole = high - low + 1 == len(numbers)
+        # An object may be in a turn at a number between two of them.
+        whole = high - low + 1 == len(numbers) and (name[0] != "object" or low == high)
         self.add(says, bounds=((name, low, high),), needs=None if whole else ("among", name, frozenset(numbers)))
 
     def next_of(self, *name, kind=None):

@@ -1,6 +1,7 @@
 """Walks along an order step by step, by plain rules: how many entries each list has so far, whose turn an object has, and each timer's own state say what may
 come next. Nothing of the search is in it, so an order that the search found is tried here once more, and few steps are tried here in all orders."""
 from timers import CLOCKS
+from world import ROOM
 
 
 class Walk:
@@ -8,18 +9,19 @@ class Walk:
 
     def __init__(self, histories):
         self.h = histories
-        self.counts, self.turns, self.armed_at, self.ways, self.moves, self.on_the_way = {}, {}, {}, {}, 0, {}
+        self.counts, self.turns, self.armed_at, self.ways, self.moves, self.on_the_way, self.signals = {}, {}, {}, {}, 0, {}, []
 
     def copy(self):
         other = Walk(self.h)
         for name in ("counts", "turns", "armed_at", "ways", "on_the_way"):
             setattr(other, name, dict(getattr(self, name)))
-        other.moves = self.moves
+        other.moves, other.signals = self.moves, list(self.signals)
         return other
 
     def key(self):
         """All that matters of what has come, beside which steps it was."""
-        return tuple(sorted(self.armed_at, key=self.armed_at.get)), tuple(sorted((label, frozenset(seen)) for label, seen in self.ways.items()))
+        ways = tuple(sorted((label, frozenset(seen)) for label, seen in self.ways.items()))
+        return tuple(sorted(self.armed_at, key=self.armed_at.get)), ways, tuple(self.signals)
 
     def count(self, name):
         return self.counts.get(name, 0)
@@ -47,6 +49,10 @@ class Walk:
         return step.needs is None or self.gives(*step.needs)
 
     def gives(self, kind, on, *rest):
+        if kind in ("push", "no room"):
+            return (len(self.signals) < ROOM) == (kind == "push")
+        if kind in ("pop", "empty"):
+            return (self.signals[0] == on if self.signals else False) if kind == "pop" else not self.signals
         if kind == "among":
             return self.count(on) in rest[0]
         if kind == "apart":
@@ -105,6 +111,10 @@ class Walk:
             self.ways[step.label] = {(base, self.heir(base)) for base in range(self.h.script.bases) if self.heir(base) is not None}
         if step.needs and step.needs[0] == "way":
             del self.ways[step.label]
+        if step.needs and step.needs[0] == "push":
+            self.signals.append(step.needs[1])
+        if step.needs and step.needs[0] == "pop":
+            self.signals.pop(0)
         if step.branch and step.move:
             self.on_the_way[step.label] = not self.on_the_way.get(step.label)
         if step.move:

@@ -1,7 +1,7 @@
 """Runs a script on one thread: round by round, and in each round lane after lane."""
 import objects
 import timers
-from objects import NOT_ASKED, Accept, Gettime, Interrupt, Object, Read, Settime, Sleep, Trigger
+from objects import NOT_ASKED, POSIX, Accept, Gettime, Interrupt, Object, Overflow, Read, Settime, Sleep, Trigger
 from record import Entry, Record, Seen
 from timers import CLOCKS, MOST_WRITES, Cancel, Claim, Finish, Forward, Out, Reading, Start, Terms, Timer
 
@@ -9,6 +9,8 @@ from timers import CLOCKS, MOST_WRITES, Cancel, Claim, Finish, Forward, Out, Rea
 REACH = {1: 0, 2: 1024}
 # A base with so many entries isn't taken off line any more.
 LAST_STANDING = 65534
+# How many signals of queued timers may wait.
+ROOM = 64
 
 
 class World:
@@ -20,6 +22,8 @@ class World:
         self.timers = [Timer(it.clock, it.clock) for it in declared]
         self.objects = [Object(it.kind, it.clock, it.base) if it.is_object() else None for it in declared]
         contexts = [(base, soft) for base in range(script.bases) for soft in (False, True)]
+        # The signals that wait, the oldest first: each its object and the number of its entry there.
+        self.signals = []
         self.queues = {(*context, clock): [] for context in contexts for clock in CLOCKS}
         self.running = dict.fromkeys(contexts)
         self.heirs = [None] * script.bases
@@ -238,7 +242,17 @@ class World:
         if self.object_stamp(number) >= self.limit:
             self.record.skips[number].append(Seen(self.object_stamp(number), *self.label, (call.generation,)))
             return
-        self.enter_object(number, "trigger", call, call.generation)
+        self.enter_object(number, "trigger", self.sent(number, call), call.generation)
+
+    def sent(self, number, call):
+        """An expiry of an object, as its entry has it: where it has a signal to send, the queue takes that, or has no room."""
+        if not objects.sends(self.objects[number], call):
+            return call
+        if len(self.signals) >= ROOM:
+            return Overflow(call.generation, call.reading)
+        signal = self.object_stamp(number) + 1
+        self.signals.append((number, signal))
+        return call._replace(number=signal)
 
     def enter_object(self, number, verb, call, *arguments, arm=NOT_ASKED):
         """One entry of an object: its step, and its line."""
@@ -272,7 +286,7 @@ class World:
 
     def call_gettime(self, I):
         state = self.objects[I]
-        if state.kind == "posix":
+        if state.kind in POSIX:
             return f"left {state.left(self.reading)} {state.interval} {self.reading.stamp} {self.object_stamp(I)}"
         answer = self.make(I, "gettime", Gettime(self.reading))
         return answer if answer.startswith("spent") else f"left {answer}"
@@ -300,3 +314,18 @@ class World:
 
     def call_slept(self, I):
         return f"{self.objects[I].slept()} {self.object_stamp(I)}"
+
+    # ---- signals
+
+    def unaccepted(self, number, signal):
+        """The answer to a signal that isn't accepted; None where it is."""
+        if self.object_stamp(number) >= self.limit:
+            return f"spent {number} {signal}"
+        return None if self.objects[number].is_fresh(signal) else f"stale {number} {signal}"
+
+    def call_sigwait(self):
+        if not self.signals:
+            return "empty"
+        number, signal = self.signals.pop(0)
+        answer = self.unaccepted(number, signal)
+        return answer or f"signal {number} {signal} {self.call_accept(number).split()[1]}"

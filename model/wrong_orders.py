@@ -1,4 +1,4 @@
-"""Fourteen records that no order of all moves explains, each beside one of the same script that fits. In both each list by itself is a right history, and each
+"""Eighteen records that no order of all moves explains, each beside one of the same script that fits. In both each list by itself is a right history, and each
 call did what its words say: what is wrong shows only where the lists are put beside each other."""
 from typing import NamedTuple, Tuple
 
@@ -202,5 +202,66 @@ PAIRS = [
         ),
         (("call 0 2 peek 2 1 1 0 0", "call 0 2 peek 3 1 0 1 0"),),
         ("0 3",),
+    ),
+    Pair(
+        "of two signals the one that was sent later is taken first",
+        script(
+            ["queued 0 monotonic 0", "queued 1 monotonic 0"],
+            [
+                "0 settime 0 1 0 100 0 0", "0 settime 1 1 0 200 0 0", "0 advance 100", "0 expire 0 4", "0 advance 100", "0 expire 0 4",
+                "0 sigwait", "0 sigwait",
+            ], version=2,
+        ),
+        record(
+            "clock 1 0 2 advance 100 100 100 100 0", "clock 2 0 4 advance 100 200 200 200 0",
+            "timer 0 1 0 0 start abs 100 0 0 0 0 monotonic 100 100 0", "timer 0 2 0 3 claim 0 1 1", "timer 0 3 0 3 finish stop 1 none",
+            "timer 1 1 0 1 start abs 200 0 0 0 0 monotonic 200 200 0", "timer 1 2 0 5 claim 0 2 1", "timer 1 3 0 5 finish stop 1 none",
+            "object 0 1 0 0 settime 1 100 0 0 1 old 0 0", "object 0 2 0 3 trigger 1 1 counted", "object 0 3 0 6 accept 2 none accepted 0",
+            "object 1 1 0 1 settime 1 200 0 0 1 old 0 0", "object 1 2 0 5 trigger 1 2 counted", "object 1 3 0 7 accept 2 none accepted 0",
+            "call 0 0 old 0 0", "call 0 1 old 0 0", "call 0 2 clock 1", "call 0 3 done 1 1 0", "call 0 4 clock 2", "call 0 5 done 1 2 1",
+            "call 0 6 signal 0 2 0", "call 0 7 signal 1 2 0", version=2,
+        ),
+        (
+            ("object 0 3 0 6 accept 2 none accepted 0", "object 0 3 0 7 accept 2 none accepted 0"),
+            ("object 1 3 0 7 accept 2 none accepted 0", "object 1 3 0 6 accept 2 none accepted 0"),
+            ("call 0 6 signal 0 2 0", "call 0 6 signal 1 2 0"), ("call 0 7 signal 1 2 0", "call 0 7 signal 0 2 0"),
+        ),
+        ("0 3", "0 5"),
+    ),
+    Pair(
+        "a signal is accepted, and then told as stale",
+        script(["queued 0 monotonic 0"], ["0 settime 0 1 0 100 0 0", "0 advance 100", "0 expire 0 4", "0 sigwait", "0 sigwait"], version=2),
+        record(
+            "clock 1 0 1 advance 100 100 100 100 0",
+            "timer 0 1 0 0 start abs 100 0 0 0 0 monotonic 100 100 0", "timer 0 2 0 2 claim 0 1 1", "timer 0 3 0 2 finish stop 1 none",
+            "object 0 1 0 0 settime 1 100 0 0 1 old 0 0", "object 0 2 0 2 trigger 1 1 counted", "object 0 3 0 3 accept 1 none accepted 0",
+            "call 0 0 old 0 0", "call 0 1 clock 1", "call 0 2 done 1 1 0", "call 0 3 signal 0 2 0", "call 0 4 empty", version=2,
+        ),
+        (("call 0 4 empty", "call 0 4 stale 0 2"),),
+        ("0 4",),
+    ),
+    Pair(
+        "a lane finds no signal, and saw before that the function ended which sent one",
+        script(["queued 0 monotonic 0"], ["0 settime 0 1 0 100 0 0", "0 advance 100"], ["0 expire 0 4", "1 peek 0", "1 sigwait"], version=2),
+        record(
+            "clock 1 0 1 advance 100 100 100 100 0",
+            "timer 0 1 0 0 start abs 100 0 0 0 0 monotonic 100 100 0", "timer 0 2 0 2 claim 0 1 1", "timer 0 3 0 2 finish stop 1 none",
+            "object 0 1 0 0 settime 1 100 0 0 1 old 0 0", "object 0 2 0 2 trigger 1 1 counted",
+            "call 0 0 old 0 0", "call 0 1 clock 1", "call 0 2 done 1 1 0", "call 1 0 peek 1 0 1 0 0", "call 1 1 empty", version=2,
+        ),
+        (("call 1 0 peek 1 0 1 0 0", "call 1 0 peek 3 0 0 0 0"),),
+        ("1 1",),
+    ),
+    Pair(
+        "a signal finds no room, and none waits",
+        script(["queued 0 monotonic 0"], ["0 settime 0 1 0 100 0 0", "0 advance 100", "0 expire 0 4"], version=2),
+        record(
+            "clock 1 0 1 advance 100 100 100 100 0",
+            "timer 0 1 0 0 start abs 100 0 0 0 0 monotonic 100 100 0", "timer 0 2 0 2 claim 0 1 1", "timer 0 3 0 2 finish stop 1 none",
+            "object 0 1 0 0 settime 1 100 0 0 1 old 0 0", "object 0 2 0 2 trigger 1 1 counted",
+            "call 0 0 old 0 0", "call 0 1 clock 1", "call 0 2 done 1 1 0", version=2,
+        ),
+        (("object 0 2 0 2 trigger 1 1 counted", "object 0 2 0 2 trigger 1 1 full"),),
+        ("0 2",),
     ),
 ]

@@ -37,6 +37,11 @@ def amount(number, name):
     return f"{number} {name}{'s' * (number != 1)}"
 
 
+def together(names):
+    """All these names, as a sentence has them."""
+    return " and ".join(filter(None, (", ".join(names[:-1]), names[-1])))
+
+
 # ---- words
 
 
@@ -217,8 +222,9 @@ def refusal(refused, line, script):
     if cause == "CallLimit":
         return f"a script has at most {scripts.MOST_CALLS} calls"
     if cause == "WrongKind":
-        kind = script.declarations[int(words[2])].kind
-        return f"{column}{words[1]} is a call on {' and '.join(KINDS_OF_CALL[words[1]])} timers, and timer {words[2]} is {kind}"
+        kind, known = script.declarations[int(words[2])].kind, {it.key for it in FORMS if it.version <= script.version}
+        kinds = [it for it in KINDS_OF_CALL[words[1]] if it in known]
+        return f"{column}{words[1]} is a call on {together(kinds)} timers, and timer {words[2]} is {kind}"
     return column + limit_fault(cause, words, at, script)
 
 

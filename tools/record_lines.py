@@ -6,7 +6,7 @@ CHOICES = {
     "mode": ("rel", "abs", "keep"),
     "clock": ("monotonic", "realtime", "boottime"),
     "restart": ("again", "stop"),
-    "outcome": ("counted", "stale"),
+    "outcome": ("counted", "stale", "full"),
 }
 # Fields that are a number or one of these words.
 MIXED = {"arm": ("none", "unarmed"), "rearmed": ("none", "spent")}
@@ -68,12 +68,15 @@ ANSWERS = {
     "einval": [""],
     "unarmed": ["entries"],
     "left": ["left interval stamp entries", "left interval", "left"],
-    "spent": ["entries", "moved full_timer entries"],
+    "spent": ["entries", "moved full_timer entries", "signal_timer signal_entry"],
     "accepted": ["overrun"],
     "nosignal": [""],
     "overrun": ["overrun entries"],
     "count": ["expirations"],
     "again": [""],
+    "signal": ["signal_timer signal_entry overrun"],
+    "stale": ["signal_timer signal_entry"],
+    "empty": [""],
     "readable": ["ready stamp entries"],
     "asleep": [""],
     "occupied": ["entries"],

@@ -61,10 +61,8 @@ use Rattle.lane_world.specs.Called.{LaneOf}
 use Rattle.lane_world.specs.Worlds.{WorldOf}
 use Rattle.call_laws.proofs.CallKept.{opened_timers}
 use Rattle.pass_names.specs.Passes.{Begins}
-use Rattle.std.proofs.Common.{nat_eq, if◌then◌else◌}
+use Rattle.std.proofs.Common.{if◌then◌else◌}
 use Rattle.std.proofs.Common.{true}
-use Rattle.timer_setting.specs.Arguments as settings
-use Rattle.timer_setting.specs.Arguments.{mode_by}
 use Rattle.timer_objects.specs.Arming.{ArmsFor}
 
 -- ---- entries of a timer

@@ -57,7 +57,8 @@ use Rattle.lane_world.specs.Worlds.{callback_of, opening_for}
 use Rattle.call_laws.proofs.Entering.{enters_none, stamp_counts}
 use Rattle.run_history.proofs.Stamped.{HasReading, entry_stamped}
 use Rattle.call_laws.proofs.Parts.{BodyKept, ClockHas, IsClaimed, fired_of, part_at, part_claimed, part_looked}
-use Rattle.timer_objects.specs.Firings.{Firing}
+use Rattle.timer_objects.specs.QueuedFirings.{QueuedFiring}
+use Rattle.call_laws.proofs.Signals.{turns_none}
 use Rattle.call_laws.proofs.Entering.{looks_made}
 use Rattle.call_laws.proofs.SeenOff.{sent_seen, was_seen}
 use Rattle.call_laws.proofs.Starts.{arming_of, is_arming, limit_within}
@@ -66,8 +67,9 @@ use Rattle.call_laws.proofs.Starts.{arming_of, is_arming, limit_within}
 
 module _ (s : Script) (o : Opening) (is : o ≡ opening_for s) (some : 1 ≤ s.limit)
     (label : Label) (c : ClaimNumbers) (reading : ClockReading) {base : ℕ} {k v : KnownOfTimers}
-    (claim : IsClaimed s base c reading k v) (restart : Restart) (w : KnownOfTimers) (h h' : Firing)
-    (same : h'.objects_pass.now ≡ h.objects_pass.now) (same_log : h'.object_log.receipts ≡ h.object_log.receipts) where
+    (claim : IsClaimed s base c reading k v) (restart : Restart) (w : KnownOfTimers) (h h' : QueuedFiring)
+    (same : h'.objects_pass.now ≡ h.objects_pass.now) (same_log : h'.object_log.receipts ≡ h.object_log.receipts)
+    (same_signals : h'.signal_pass.now ≡ h.signal_pass.now) where
   on : o.timers ≡ openings (declareds_of s) (terms_of s)
   on = ap (λ (x : Opening). x.timers) is
 
@@ -96,7 +98,9 @@ module _ (s : Script) (o : Opening) (is : o ≡ opening_for s) (some : 1 ≤ s.l
         whole = refl;
         part = part_alone same (part_looked claim number event observation reply looks.0 looks.1 noted
             (omega (arith, counted, (count_begins (TimersList c.timer) made.from))) (omega (arith, counted, (count_begins (TimersList c.timer) made.seen))));
-        ran = λ e joined goes finish restarted.
+        turned = [];
+        turns = turns_none (ap (λ u. u.knows) same_signals);
+        ran = λ e joined goes heard finish restarted.
             (does e joined goes finish restarted, (rw observes (saw_quiet is joined goes made number observation stamp holds), below));
       }
 
@@ -116,7 +120,9 @@ module _ (s : Script) (o : Opening) (is : o ≡ opening_for s) (some : 1 ≤ s.l
         enters = its.1.enters;
         whole = refl;
         part = part_alone same (part_claimed claim (receipts_of c.timer (timer_then o at c.timer).stamp (e ∷ [])) [] its.1);
-        ran = λ e joined goes finish restarted. (does e joined goes finish restarted, tt);
+        turned = [];
+        turns = turns_none (ap (λ u. u.knows) same_signals);
+        ran = λ e joined goes heard finish restarted. (does e joined goes finish restarted, tt);
       }
 
   -- law: the actions of the callback of a timer by itself, as its timer declares it
@@ -133,7 +139,9 @@ module _ (s : Script) (o : Opening) (is : o ≡ opening_for s) (some : 1 ≤ s.l
         enters = enters_none looks.0 looks.1;
         whole = refl;
         part = part_alone same (part_claimed claim [] [] (part_none looks.0 looks.1));
-        ran = λ e joined goes finish restarted. (rw kind (refl, ap asks run.2), tt);
+        turned = [];
+        turns = turns_none (ap (λ u. u.knows) same_signals);
+        ran = λ e joined goes heard finish restarted. (rw kind (refl, ap asks run.2), tt);
       }
     where
       looks : Begins v.seen w.seen × (w.mine ≡ v.mine)

@@ -26,11 +26,13 @@ use Rattle.run_history.specs.Witnesses.{Trace}
 use Rattle.run_history.specs.Fits.{FitsCall}
 use Rattle.run_history.specs.Promises.{GoesOnClock, HasLog, IsRightLog, IsPromised}
 use Rattle.run_history.specs.Receipts.{PlacedEntry, receipt}
-use Rattle.run_history.specs.Runs.{CallLog, witness_of, Ending, IsJoined, moves_spans}
+use Rattle.run_history.specs.Runs.{CallLog, witness_of, Ending, IsJoined, moves_spans, signal_spans}
 use Rattle.run_history.specs.Traces.{all_entered}
 use Rattle.run_history.proofs.Kept.{IsKept}
 use Rattle.run_history.proofs.Known.{AreMade}
 use Rattle.run_history.proofs.Promise.{kept_from, reading_seen}
+use Rattle.run_history.specs.Signals.{popped_by, pushed_in}
+use Rattle.call_laws.proofs.Signals.{falls_between, TurnsPart}
 use Rattle.lane_world.specs.Called.{LaneOf, LeavesClock, ReadsClock}
 use Rattle.lane_world.proofs.Kept.{base_note_place, entries_told, note_place, places_noted, told_in, of_base, of_entry, of_write, ToldNote, Follows, IsNextCall, log_of, seen_by, SeesOn, StandAt, turn_notes}
 use Rattle.lane_world.proofs.SeenMore.{begins_same}
@@ -172,11 +174,13 @@ stand_from IsSo p q notes enters t so = record {
 -- ---- the log
 
 -- law: what a lane keeps of a call that wrote nothing is right in itself
-pub logged_from : (p q : WorldPass) (notes : List PlacedEntry) (t : Trace) (call : Call) (a : Answer) → SeesOn p q → t.last ≡ length q.timers.known.seen
+pub logged_from : (s : Script) (p q : WorldPass) (notes : List PlacedEntry) (t : Trace) (call : Call) (a : Answer) → SeesOn p q
+    → t.last ≡ length q.timers.known.seen
     → AreMade q.timers.known.seen (length p.timers.known.seen) (length q.timers.known.seen) notes → map receipt notes ≡ all_entered t.actions
     → t.at ≡ length (writes q.clock.knows) → wrote t.actions ≡ []
-    → IsRightLog (log_of p q notes t) call a (seen_by p) (seen_by q)
-logged_from p q notes t call a sees last made are at none =
+    → TurnsPart s p.signals.knows q.signals.knows (popped_by a ++ pushed_in s t.actions) t.turns
+    → IsRightLog s (log_of p q notes t) call a (seen_by p) (seen_by q)
+logged_from s p q notes t call a sees last made are at none turned =
     let forward = begins_length sees.timers in
     let clock = begins_length sees.clock in
     record {
@@ -190,18 +194,20 @@ logged_from p q notes t call a sees last made are at none =
       clock_steps = subst (λ ws. NeverFall (length (writes p.clock.knows)) (t.at ∷ map (λ x. x.0) ws) (length (writes q.clock.knows))) (sym none)
           (omega (arith, at, clock), omega (arith, at));
       move_steps = (omega arith, omega arith);
+      turns = turned.are;
+      signal_steps = falls_between turned.span;
     }
 
 -- a call fits, by what its lane kept of it, in every run that goes on from there
 abbrev pub FitsOn : Script → LaneOf → LaneOf → Call → Answer → List PlacedEntry → Trace → Type 0
 FitsOn s l m call a notes t =
     (e : Ending) → Follows m.pass e → IsJoined s e → HasLog e l.label (log_of l.pass m.pass notes t)
-    → IsKept (witness_of s e) (moves_spans e) l.label t notes call a (seen_by l.pass) (seen_by m.pass)
+    → IsKept (witness_of s e) (moves_spans e) (signal_spans e) l.label t notes call a (seen_by l.pass) (seen_by m.pass)
     → length l.pass.timers.known.seen ≡ (moves_spans e).first l.label → FitsCall (witness_of s e) l.label call a (seen_by l.pass) (seen_by m.pass)
 
 -- law: it keeps its promise then
 pub promised_from : {s : Script} {x : WorldOf} {l : LaneOf} {call : Call} (next : IsNextCall s x l call) (m : LaneOf) (notes : List PlacedEntry) (t : Trace)
-    (a : Answer) → IsRightLog (log_of l.pass m.pass notes t) call a (seen_by l.pass) (seen_by m.pass) → FitsOn s l m call a notes t
+    (a : Answer) → IsRightLog s (log_of l.pass m.pass notes t) call a (seen_by l.pass) (seen_by m.pass) → FitsOn s l m call a notes t
     → IsPromised s l.label.lane l.label.call (log_of l.pass m.pass notes t) (Follows m.pass) call a (seen_by l.pass) (seen_by m.pass)
 promised_from {s = s} {l = l} next m notes t a logged fits e follows has joined =
     let is : IsLabel s l.label = slice_get_within (calls_of s l.label.lane) l.label.call next.at next.there in

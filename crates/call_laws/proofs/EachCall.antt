@@ -35,7 +35,8 @@ use Rattle.timer_objects.specs.declared.answers.Gettime.TheVariants as gettimes
 use Rattle.timer_objects.specs.declared.answers.Gettime.{Gettime}
 use Rattle.timer_objects.specs.declared.object.Kind as object_kind
 use Rattle.timer_objects.specs.declared.object.Kind.TheVariants as over
-use Rattle.call_laws.proofs.ObjectLooks.{fd_looked, keeps_look, posix_found, posix_looked}
+use Rattle.call_laws.proofs.ObjectLooks.{fd_looked, keeps_look, posix_found, posix_looked, queued_set}
+use Rattle.call_laws.proofs.Sigwait.{keeps_sigwait}
 
 -- ---- looks at objects
 
@@ -46,7 +47,7 @@ keeps_overrun {s = s} {l = l} {m = m} {timer = timer} next called =
     let c = called.1 in
     let found = called.0 in
     subst (λ a. KeepsCall s l (calls.Overrun timer) a m) (sym c.tells)
-    (keeps_look m next (answers.Overrun found.overrun found.stamp) c.looks.2 (clock_left c.clock)
+    (keeps_look m next (answers.Overrun found.overrun found.stamp) refl c.looks.2 (clock_left c.clock) c.signals
     (c.notes ∙ no_notes-joins l.notes ∙ sym (with_done-joins l.notes l.label [] [])) (λ e. refl) (λ e follows point is. (
       point,
       ap (λ (u : PosixTimer). u.overrun) (sym (posix_found s e.run timer found.stamp (kind_of s timer) is c.looks.3)) ∙ sym c.looks.4,
@@ -60,7 +61,7 @@ keeps_readable {s = s} {l = l} {m = m} {timer = timer} next called =
     let found = called.0 in
     let ws = writes m.pass.clock.knows in
     subst (λ a. KeepsCall s l (calls.Readable timer) a m) (sym c.does.1)
-    (keeps_look m next (answers.Readable found.ready c.reading.stamp found.stamp) c.does.0.1 (clock_left c.reads.same)
+    (keeps_look m next (answers.Readable found.ready c.reading.stamp found.stamp) refl c.does.0.1 (clock_left c.reads.same) c.signals
     c.notes (λ e. (refl, c.reads.count)) (λ e follows point is. (
       point,
       ap (λ u. is_readable u (reading_at e.run.clock (length ws))) (sym (fd_looked s e.run timer found.stamp (kind_of s timer) is))
@@ -77,12 +78,30 @@ keeps_gettime-posix next kind (gettimes.Spent stamp) c = absurd c.does.0
 keeps_gettime-posix {s = s} {l = l} {m = m} {timer = timer} next kind (gettimes.Left left interval stamp) c =
     let ws = writes m.pass.clock.knows in
     subst (λ b. KeepsCall s l (calls.Gettime timer) b m) (sym c.does.1)
-    (keeps_look m next (answers.LeftAt left interval c.reading.stamp stamp) c.does.0.1 (clock_left c.reads.same) c.notes
+    (keeps_look m next (answers.LeftAt left interval c.reading.stamp stamp) refl c.does.0.1 (clock_left c.reads.same) c.signals c.notes
     (λ e. (refl, (subst IsPosix (sym kind) tt, c.reads.count)))
     (λ e follows point is. (
       point,
       ap (λ u. setting_of u (reading_at e.run.clock (length ws))) (sym (posix_looked s e.run timer stamp (kind_of s timer) is))
           ∙ ap (setting_of c.does.0.0) (reading_of_seen e ws follows.clock ∙ sym c.reads.shows) ∙ sym c.does.0.2,
+    )))
+
+-- law: and of one whose signals are queued
+pub keeps_gettime-queued : {s : Script} {x : WorldOf} {l m : LaneOf} {a : Answer} {timer base : ℕ} → IsNextCall s x l (calls.Gettime timer)
+    → kind_of s timer ≡ kinds.Queued base → (g : Gettime)
+    → CallsObject x l m a (λ old new reading.
+    Gettimes x.objects x.timers.about old new timer reading over.Queued g × (a ≡ gettime_told over.Queued reading.stamp g))
+    → KeepsCall s l (calls.Gettime timer) a m
+keeps_gettime-queued next kind (gettimes.Spent stamp) c = absurd c.does.0
+keeps_gettime-queued {s = s} {l = l} {m = m} {timer = timer} next kind (gettimes.Left left interval stamp) c =
+    let ws = writes m.pass.clock.knows in
+    subst (λ b. KeepsCall s l (calls.Gettime timer) b m) (sym c.does.1)
+    (keeps_look m next (answers.LeftAt left interval c.reading.stamp stamp) refl c.does.0.1 (clock_left c.reads.same) c.signals c.notes
+    (λ e. (refl, (subst IsPosix (sym kind) tt, c.reads.count)))
+    (λ e follows point is. (
+      point,
+      ap (λ u. setting_of u (reading_at e.run.clock (length ws))) (sym (queued_set s e.run timer stamp (kind_of s timer) is))
+          ∙ ap (setting_of c.does.0.0.timer) (reading_of_seen e ws follows.clock ∙ sym c.reads.shows) ∙ sym c.does.0.2,
     )))
 
 -- ---- each call
@@ -101,6 +120,7 @@ keeps_gettime {s = s} {x = x} {l = l} {m = m} {a = a} {timer = timer} next calle
     by_kind (kinds.Raw context callback) is c = absurd c.does.0
     by_kind (kinds.Posix base) is c = keeps_gettime-posix next is called.0 c
     by_kind (kinds.Fd base) is c = keeps_gettime-fd next is called.0 c
+    by_kind (kinds.Queued base) is c = keeps_gettime-queued next is called.0 c
     by_kind (kinds.Sleeper base) is c = absurd c.does.0
 
 -- law: a call by a reading that was taken is kept by itself
@@ -115,6 +135,7 @@ keeps_then {call = calls.Read timer len} takes next c = (keeps_read next c, c.2.
 keeps_then {call = calls.Readable timer} takes next c = (keeps_readable next c, c.1.reads.same)
 keeps_then {call = calls.Sleep timer flags time} takes next c = (keeps_sleep next c, c.2.reads.same)
 keeps_then {call = calls.Interrupt timer} takes next c = (keeps_interrupt next c, c.2.reads.same)
+keeps_then {call = calls.Sigwait} takes next c = (keeps_sigwait next c, c.reads.same)
 keeps_then {call = calls.Offline base heir budget} takes next c = (keeps_offline next c, c.reads.same)
 keeps_then {call = calls.Clock write} takes next c = absurd takes
 keeps_then {call = calls.Cancel timer} takes next c = absurd (true≢false (sym takes))
@@ -132,7 +153,7 @@ keeps_reading takes reads next c =
 pub keeps_call : (s : Script) (x : WorldOf) (l m : LaneOf) (call : Call) (a : Answer) → IsNextCall s x l call → Called x l call a m → KeepsTurn s l call a m
 keeps_call s x l m (calls.Cancel timer) a next c = turn_plain refl (keeps_cancel next c)
 keeps_call s x l m (calls.Peek timer) a next c =
-    turn_plain refl (subst (λ a. KeepsCall s l (calls.Peek timer) a m) (sym c.2) (keeps_seen next _ c.1 (λ e. refl) (λ e saw. saw)))
+    turn_plain refl (subst (λ a. KeepsCall s l (calls.Peek timer) a m) (sym c.2) (keeps_seen next _ refl c.1 (λ e. refl) (λ e saw. saw)))
 keeps_call s x l m (calls.Overrun timer) a next c = turn_plain refl (keeps_overrun next c)
 keeps_call s x l m (calls.Slept timer) a next c = turn_plain refl (keeps_slept next c)
 keeps_call s x l m (calls.Online base) a next c = turn_plain refl (keeps_online next c)

@@ -29,9 +29,16 @@ use Rattle.expire_pass.specs.Handlers.{asks}
 use Rattle.expire_pass.specs.declared.handler.Restart.{Restart}
 use Rattle.base_row.specs.declared.log.Receipt.{Receipt}
 use Rattle.timer_objects.specs.Callbacks.{RunsCallback}
-use Rattle.timer_objects.specs.Firings.{callback_at, Fires, FiresBy, Firing, firing}
+use Rattle.timer_objects.specs.QueuedFirings.{FiresAll, FiresKind, QueuedFiring, queued_firing}
+use Rattle.timer_objects.specs.Signals.{IsSignalPass}
+use Rattle.signal_queue.specs.Rules.{turns}
+use Rattle.signal_queue.specs.Views.{QueueOf}
+use Rattle.signal_queue.specs.declared.signal.Turn as signal_turn
+use Rattle.signal_queue.specs.declared.view.QueueView.{QueueView}
+use Rattle.run_history.specs.Signals.{most_signals, pushed_in}
+use Rattle.std.proofs.lemmas.Option.{same_Some}
+use Rattle.call_laws.proofs.Signals.{pushed-append, TurnsPart, turns_none, turns_then}
 use Rattle.timer_objects.specs.Known.{decl_at, ObjectsPass}
-use Rattle.timer_objects.specs.Triggers.{trigger_of}
 use Rattle.timer_objects.specs.declared.log.ObjectReceipt.{ObjectReceipt}
 use Rattle.record_text.specs.declared.record.Label.{Label}
 use Rattle.script_text.specs.Declarations.{declared_of, declareds_of, terms_of, kind_of}
@@ -45,20 +52,20 @@ use Rattle.run_history.specs.Truths.{WasOffLine}
 use Rattle.run_history.specs.Witnesses.{Fired, OfTimer, TimersList}
 use Rattle.run_history.specs.Receipts.{PlacedEntry}
 use Rattle.run_history.specs.Runs.{witness_of, Ending, IsJoined}
-use Rattle.run_history.proofs.Expires.{claim_of, finish_of, HaveRun, run_push}
+use Rattle.run_history.proofs.Expires.{claim_of, finish_of, HaveRun, holds_wider, run_hears, run_push}
 use Rattle.run_history.proofs.Known.{made_goes_on}
 use Rattle.run_history.proofs.Reached.{body_wider, was_wider}
 use Rattle.lane_world.specs.Called.{claimed_in}
 use Rattle.lane_world.proofs.SeenMore.{count_begins, goes_before, begins_same}
-use Rattle.lane_world.specs.Worlds.{callback_of, IsWorldOf, WorldOf}
+use Rattle.lane_world.specs.Worlds.{callback_of, HasQueue, IsWorldOf, WorldOf}
 use Rattle.lane_world.proofs.Declared.{declared_callback, declared_over, over_of}
 use Rattle.pass_names.proofs.Passes.{begins_length}
-use Rattle.call_laws.proofs.Triggered.{trigger_kept}
+use Rattle.call_laws.proofs.Triggered.{queued_kept, trigger_kept}
 use Rattle.std.specs.Prelude.{flat_map}
 use Rattle.std.proofs.lemmas.List.Concat.{flat_map-append}
 use Rattle.call_laws.proofs.Claimed.{claimed_in-append}
 use Rattle.call_laws.proofs.Bodies.{callback_kept}
-use Rattle.call_laws.proofs.Parts.{BodyKept, fired_of, ClockHas, IsClaimed, IsPart, part_none}
+use Rattle.call_laws.proofs.Parts.{BodyKept, fired_of, ClockHas, IsClaimed, IsPart, part_none, turns_of}
 use Rattle.lane_world.proofs.PartLists.{notes-append}
 use Rattle.call_laws.proofs.Entering.{enters_once}
 use Rattle.seq_timer.specs.declared.event.Restarted.{Restarted}
@@ -84,17 +91,23 @@ four note a b c d = rw (notes-append note (a ++ b) (c ++ d), notes-append note a
 
 -- ---- the callbacks so far
 
+-- the pushes and pops that a pass of the queue has seen
+abbrev pub turns_in : QueueView → List signal_turn.Turn
+turns_in u = turns u
+
 -- callbacks of an expiry run from its beginning on: their actions, as a part of the call, and that they ran in every run that goes on from there
-pub record RunKept (s : Script) (label : Label) (context : Context) (base : ℕ) (reading : ClockReading) (n : ℕ) (k : KnownOfTimers) (p : ObjectsPass) (k' : KnownOfTimers)
-    (p' : ObjectsPass) (log callback_log : List Receipt) (object_log : List ObjectReceipt) : Type 0 where
+pub record RunKept (s : Script) (label : Label) (context : Context) (base : ℕ) (reading : ClockReading) (n : ℕ) (k : KnownOfTimers) (p : ObjectsPass)
+    (u : QueueView) (k' : KnownOfTimers) (p' : ObjectsPass) (u' : QueueView) (log callback_log : List Receipt) (object_log : List ObjectReceipt) : Type 0 where
   pub fired : List Fired
   pub many : length fired ≡ n
   pub notes : List PlacedEntry
   pub claimed : claimed_in log ≡ map (λ f. f.timer) fired
   pub part : IsPart s (ClockHas reading) label k p k' p' (flat_map (fires base reading.stamp) fired) notes (notes_of label (log ++ callback_log) object_log)
   pub whole : HasWholeTurns (flat_map (fires base reading.stamp) fired)
-  pub have : (e : Ending) → IsJoined s e → promises.GoesOn k'.seen e
-      → HaveRun (witness_of s e) e.order context base reading.stamp (length k.seen) fired notes (length k'.seen)
+  pub turned : List (ℕ × signal_turn.Turn)
+  pub turns : TurnsPart s u u' (pushed_in s (flat_map (fires base reading.stamp) fired)) turned
+  pub have : (e : Ending) → IsJoined s e → promises.GoesOn k'.seen e → promises.GoesOnSignals (turns_in u') e
+      → HaveRun (witness_of s e) e.order context base reading.stamp (length (turns_in u), length (turns_in u')) (length k.seen) fired notes (length k'.seen)
 
 -- as what a timer was opened
 declared-opened : (list : List Declared) (terms : Terms) (t : ℕ) → (timer_at (openings list terms) t).declared ≡ get_or list t no_declared
@@ -104,7 +117,8 @@ declared-opened (d ∷ list) terms (suc t) = declared-opened list terms t
 
 -- ---- one callback behind them
 
-module _ (s : Script) (x : WorldOf) (is : IsWorldOf s x) (some : 1 ≤ s.limit) (label : Label) (context : Context) (base : ℕ) (reading : ClockReading) where
+module _ (s : Script) (x : WorldOf) (is : IsWorldOf s x) (queue : HasQueue x.objects) (some : 1 ≤ s.limit) (label : Label) (context : Context) (base : ℕ)
+    (reading : ClockReading) where
   abbrev o : Opening
   o = x.timers.about
 
@@ -135,46 +149,59 @@ module _ (s : Script) (x : WorldOf) (is : IsWorldOf s x) (some : 1 ≤ s.limit) 
       }
 
   -- the function of a claim, by the handler's meaning
-  fires_kept : (h h' : Firing) {k v : KnownOfTimers} (w : KnownOfTimers) {c : ClaimNumbers} (claim : IsClaimed s base c reading k v) (restart : Restart)
-      → h.objects.now ≡ x.objects → h.callbacks.now ≡ x.callbacks → Fires o h h' v w c reading restart → BodyKept s label claim restart w h h'
+  fires_kept : (h h' : QueuedFiring) {k v : KnownOfTimers} (w : KnownOfTimers) {c : ClaimNumbers} (claim : IsClaimed s base c reading k v) (restart : Restart)
+      → h.objects.now ≡ x.objects → h.callbacks.now ≡ x.callbacks → FiresAll o h h' v w c reading restart → BodyKept s label claim restart w h h'
   fires_kept h h' {v = v} w {c = c} claim restart objects handlers fires = by_kind (kind_of s c.timer) refl
     where
-      by_over : (kind : Kind) → kind_of s c.timer ≡ kind → FiresBy o h h' v w c reading restart (trigger_of (over_of kind) c reading)
-      by_over kind same = subst (λ d. FiresBy o h h' v w c reading restart (trigger_of d c reading))
-          (ap (λ y. (decl_at y c.timer).kind) objects ∙ declared_over s x c.timer is ∙ ap over_of same) fires.fires
+      over : (kind : Kind) → kind_of s c.timer ≡ kind → (decl_at h.objects.now c.timer).kind ≡ over_of kind
+      over kind same = ap (λ y. (decl_at y c.timer).kind) objects ∙ declared_over s x c.timer is ∙ ap over_of same
+
+      by_over : (kind : Kind) → kind_of s c.timer ≡ kind → FiresKind o h h' v w c reading restart (over_of kind)
+      by_over kind same = subst (λ d. FiresKind o h h' v w c reading restart d) (over kind same) fires.fires
 
       limit : h.objects.now.limit ≡ s.limit
       limit = ap (λ y. y.limit) objects ∙ is.limit
 
+      room : h.signal_pass.now.knows.room ≡ most_signals
+      room = ap (λ (y : QueueOf). y.room) (same_Some _ queue.queue (sym (subst (λ y. IsSignalPass y h.signal_pass.now) objects h.signals) ∙ queue.has))
+          ∙ queue.room
+
       by_kind : (kind : Kind) → kind_of s c.timer ≡ kind → BodyKept s label claim restart w h h'
       by_kind (kinds.Raw y callback) same =
           let run = by_over (kinds.Raw y callback) same in
-          let its : callback_at h c.timer ≡ callback_of (kinds.Raw y callback) =
+          let its : get_or h.callbacks.now c.timer runs.Once ≡ callback_of (kinds.Raw y callback) =
           ap (λ cs. get_or cs c.timer runs.Once) (handlers ∙ is.callbacks) ∙ declared_callback s.timers c.timer ∙ ap callback_of same in
-          callback_kept s o is.timers some label c reading claim restart w h h' run.1 run.2 y callback same
+          callback_kept s o is.timers some label c reading claim restart w h h' run.1 run.2 run.3 y callback same
           (subst (λ cb. RunsCallback o v w c reading h.log.receipts h'.log.receipts cb restart) its run.0)
       by_kind (kinds.Posix asked) same =
           let run = by_over (kinds.Posix asked) same in
-          trigger_kept s h.objects.now limit some label c reading claim restart w h h' run.2 run.3 (λ Reached f its. rw same its) run.0
+          trigger_kept s h.objects.now limit some label c reading claim restart w h h' run.2 run.3 (λ Reached f its. rw same its) run.4
+          (λ number entry. rw same refl) run.0
       by_kind (kinds.Fd asked) same =
           let run = by_over (kinds.Fd asked) same in
-          trigger_kept s h.objects.now limit some label c reading claim restart w h h' run.2 run.3 (λ Reached f its. rw same its) run.0
+          trigger_kept s h.objects.now limit some label c reading claim restart w h h' run.2 run.3 (λ Reached f its. rw same its) run.4
+          (λ number entry. rw same refl) run.0
+      by_kind (kinds.Queued asked) same =
+          let run = by_over (kinds.Queued asked) same in
+          queued_kept s h.objects.now limit some label c reading claim restart w h h' run.2 run.3 asked same (over (kinds.Queued asked) same) room run.0
       by_kind (kinds.Sleeper asked) same =
           let run = by_over (kinds.Sleeper asked) same in
-          trigger_kept s h.objects.now limit some label c reading claim restart w h h' run.2 run.3 (λ Reached f its. rw same its) run.0
+          trigger_kept s h.objects.now limit some label c reading claim restart w h h' run.2 run.3 (λ Reached f its. rw same its) run.4
+          (λ number entry. rw same refl) run.0
 
   -- a callback ran, with its claim and its finish, in every run that goes on from there
-  turn_ran : {k v w k' : KnownOfTimers} {c : ClaimNumbers} {restart : Restart} {h h' : Firing} (claim : IsClaimed s base c reading k v)
+  turn_ran : {k v w k' : KnownOfTimers} {c : ClaimNumbers} {restart : Restart} {h h' : QueuedFiring} (claim : IsClaimed s base c reading k v)
       (b : BodyKept s label claim restart w h h') (number : ℕ) (restarted : Restarted)
       (own : (declared_of s c.timer).context ≡ context)
       (finish : EntersOne s (ClockHas reading) w k'
-      (number, OfTimer c.timer (record { event = events.Finish (asks restart); reply = replies.Finish c.generation restarted }))) (e : Ending)
-      → IsJoined s e → promises.GoesOn k'.seen e
-      → (ran : expires.Ran (witness_of s e) e.order context base reading.stamp (fired_of c b.body number (asks restart) restarted) (length k.seen)
+      (number, OfTimer c.timer (record { event = events.Finish (asks restart); reply = replies.Finish c.generation restarted }))) (low : ℕ)
+      → low ≤ length (turns_of h) → (e : Ending) → IsJoined s e → promises.GoesOn k'.seen e → promises.GoesOnSignals (turns_of h') e
+      → (ran : expires.Ran (witness_of s e) e.order context base reading.stamp (low, length (turns_of h')) (fired_of c b.body number
+      (asks restart) restarted) (length k.seen)
       (length k'.seen)) × (claim.entered.0 ∷ b.notes ++ finish.0 ∷ [] ≡ expires.notes_of ran)
-  turn_ran {k = k} {v = v} {w = w} {k' = k'} {c = c} {restart = restart} claim b number restarted own finish e joined goes =
+  turn_ran {k = k} {v = v} {w = w} {k' = k'} {c = c} {restart = restart} {h = h} {h' = h'} claim b number restarted own finish low under e joined goes heard =
       let acted = goes_before finish.1.seen goes in
-      let ran = b.ran e joined acted number restarted in
+      let ran = b.ran e joined acted heard number restarted in
       let claimed = goes_before b.enters.seen acted in (
         record {
           claimed = length v.seen;
@@ -195,33 +222,42 @@ module _ (s : Script) (x : WorldOf) (is : IsWorldOf s x) (some : 1 ≤ s.limit) 
           kind = body_wider (WasOffLine (witness_of s e) (length v.seen) (length w.seen)) (WasOffLine (witness_of s e) (length k.seen) (length k'.seen))
               (was_wider (witness_of s e) (begins_length claim.entered.1.seen) (begins_length finish.1.seen)) s.limit (kind_of s c.timer) reading.stamp
               (fired_of c b.body number (asks restart) restarted) ran.0;
-          holds = ran.1;
+          holds = holds_wider (witness_of s e) (length (turns_of h), length (turns_of h')) (low, length (turns_of h')) (length w.seen) b.body under
+              (omega arith) ran.1;
         },
         refl,
       )
 
   -- one more callback behind those that ran
-  run_more : {n : ℕ} {k : KnownOfTimers} {p : ObjectsPass} {k1 : KnownOfTimers} (h : Firing) {k' : KnownOfTimers} (h' : Firing) {log log' : List Receipt}
+  run_more : {n : ℕ} {k : KnownOfTimers} {p : ObjectsPass} {u : QueueView} {k1 : KnownOfTimers} (h : QueuedFiring) {k' : KnownOfTimers}
+      (h' : QueuedFiring) {log log' : List Receipt}
       → h.objects.now ≡ x.objects → h.callbacks.now ≡ x.callbacks
-      → RunKept s label context base reading n k p k1 h.objects_pass.now log h.log.receipts h.object_log.receipts
-      → Turn firing o context base reading k1 h log k' h' log'
-      → RunKept s label context base reading (suc n) k p k' h'.objects_pass.now log' h'.log.receipts h'.object_log.receipts
-  run_more {k = k} {p = p} {k1 = k1} h {k' = k'} h' {log = log} {log' = log'} objects handlers run turn =
+      → RunKept s label context base reading n k p u k1 h.objects_pass.now h.signal_pass.now.knows log h.log.receipts h.object_log.receipts
+      → Turn queued_firing o context base reading k1 h log k' h' log'
+      → RunKept s label context base reading (suc n) k p u k' h'.objects_pass.now h'.signal_pass.now.knows log' h'.log.receipts h'.object_log.receipts
+  run_more {k = k} {p = p} {u = u} {k1 = k1} h {k' = k'} h' {log = log} {log' = log'} objects handlers run turn =
       let c = turn.claim in
       let ran = turn.ran in
       let restart = asks ran.restart in
       let claim : IsClaimed s base c reading k1 turn.claimed = claim_made turn.claims in
       let b = fires_kept h h' ran.done claim ran.restart objects handlers ran.did in
-      let u = timer_then o ran.finishes.at c.timer in
-      let restarted = restarted_by u restart in
-      let f = fired_of c b.body (u.stamp + 1) restart restarted in
+      let t = timer_then o ran.finishes.at c.timer in
+      let restarted = restarted_by t restart in
+      let f = fired_of c b.body (t.stamp + 1) restart restarted in
       let own : (declared_of s c.timer).context ≡ context =
       sym (ap (λ (d : Declared). d.context) (declared_seen turn.claims.at c.timer)) ∙ turn.claims.context in
-      let one = enters_once s (ClockHas reading) o {number = u.stamp + 1} on ran.finishes.made (λ clock has. refl) refl in
-      let finish : EntersOne s (ClockHas reading) ran.done k' (u.stamp + 1, OfTimer c.timer (finish_of f)) = (
+      let one = enters_once s (ClockHas reading) o {number = t.stamp + 1} on ran.finishes.made (λ clock has. refl) refl in
+      let finish : EntersOne s (ClockHas reading) ran.done k' (t.stamp + 1, OfTimer c.timer (finish_of f)) = (
         one.0,
         one.1,
-        one.2 ∙ ap (λ g. (u.stamp + 1, OfTimer c.timer (record { event = events.Finish restart; reply = replies.Finish (unwrap_or g 0) restarted }))) ran.finishes.runs,
+        one.2 ∙ ap (λ g. (
+          t.stamp + 1,
+          OfTimer c.timer (record {
+            event = events.Finish restart;
+            reply = replies.Finish
+                (unwrap_or g 0) restarted;
+          }),
+        )) ran.finishes.runs,
       ) in
       let first = claim_receipt reading c in
       let p1 = h.objects_pass.now in
@@ -237,7 +273,7 @@ module _ (s : Script) (x : WorldOf) (is : IsWorldOf s x) (some : 1 ≤ s.limit) 
       part_then b.part (part_entry _ _ _ finish) in
       let all : flat_map (fires base at) (run.fired ++ f ∷ []) ≡ done ++ one = rw (flat_map-append (fires base at) run.fired (f ∷ []), append-nil one) refl in
       let cb = h.log.receipts in
-      let more = first ∷ (finish_receipt c ran.restart u) ∷ [] in
+      let more = first ∷ (finish_receipt c ran.restart t) ∷ [] in
       let looks = look_notes label in
       let order : SameNotes (notes_of label ((log ++ more) ++ (cb ++ b.more)) (h.object_log.receipts ++ b.object_more))
       (both_noted (notes_of label (log ++ cb) h.object_log.receipts) _) = record {
@@ -260,10 +296,17 @@ module _ (s : Script) (x : WorldOf) (is : IsWorldOf s x) (some : 1 ≤ s.limit) 
         claimed = rw (turn.receipts, claimed_in-append log more, run.claimed) (sym (map-append (λ (g : Fired). g.timer) run.fired (f ∷ [])));
         part = rw all (part_noted (same-trans (same_notes logs) order) (part_then run.part part));
         whole = rw all (whole_turns-append done one run.whole (whole_turns-append b.body finishing b.whole refl));
-        have = λ e joined goes.
-            let one_run = turn_ran claim b (u.stamp + 1) restarted own finish e joined goes in
-            rw one_run.1 (run_push (witness_of s e) e.order context base at (length k.seen) run.fired run.notes (length k1.seen) f (length k'.seen)
-            (run.have e joined (goes_before part.enters.seen goes)) one_run.0);
+        turned = run.turned ++ b.turned;
+        turns = rw all (subst (λ ts. TurnsPart s u h'.signal_pass.now.knows ts (run.turned ++ b.turned)) (sym (pushed-append s done one
+            ∙ ap (λ ts. pushed_in s done ++ ts) (pushed-append s b.body finishing ∙ append-nil (pushed_in s b.body)))) (turns_then run.turns b.turns));
+        have = λ e joined goes heard.
+            let low = length (turns_in u) in
+            let one_run = turn_ran claim b (t.stamp + 1) restarted own finish low (begins_length run.turns.seen) e joined goes heard in
+            rw one_run.1 (run_push (witness_of s e) e.order context base at (low, length (turns_of h')) (length k.seen) run.fired run.notes (length k1.seen) f
+            (length k'.seen)
+            (run_hears (witness_of s e) e.order context base at (low, length (turns_of h)) (length (turns_of h')) (length k.seen) run.fired run.notes
+            (length k1.seen) (begins_length b.turns.seen)
+            (run.have e joined (goes_before part.enters.seen goes) (goes_before b.turns.seen heard))) one_run.0);
       }
     where
       both : {R N : Type 0} (note : R → Option N) (xs ys : List R)
@@ -271,23 +314,27 @@ module _ (s : Script) (x : WorldOf) (is : IsWorldOf s x) (some : 1 ≤ s.limit) 
       both note xs ys = notes-append note xs ys ∙ ap (λ zs. present (map note xs) ++ zs) (sym (append-nil (present (map note ys))))
 
   -- law: so many turns, from empty logs on
-  pub turns_kept : (n : ℕ) (h h' : Firing) (k k' : KnownOfTimers) (log' : List Receipt) → h.objects.now ≡ x.objects → h.callbacks.now ≡ x.callbacks
-      → h.log.receipts ≡ [] → h.object_log.receipts ≡ [] → Turns firing o context base reading n k h [] k' h' log'
-      → RunKept s label context base reading n k h.objects_pass.now k' h'.objects_pass.now log' h'.log.receipts h'.object_log.receipts
+  pub turns_kept : (n : ℕ) (h h' : QueuedFiring) (k k' : KnownOfTimers) (log' : List Receipt) → h.objects.now ≡ x.objects → h.callbacks.now ≡ x.callbacks
+      → h.log.receipts ≡ [] → h.object_log.receipts ≡ [] → Turns queued_firing o context base reading n k h [] k' h' log'
+      → RunKept s label context base reading n k h.objects_pass.now h.signal_pass.now.knows k' h'.objects_pass.now h'.signal_pass.now.knows log' h'.log.receipts
+      h'.object_log.receipts
       × (h'.objects.now ≡ x.objects) × (h'.callbacks.now ≡ x.callbacks)
   turns_kept zero h h' k k' log' objects handlers fresh fresh_objects turns =
-      let none : RunKept s label context base reading 0 k h.objects_pass.now k h.objects_pass.now [] [] [] = record {
+      let seen = h.signal_pass.now.knows in
+      let none : RunKept s label context base reading 0 k h.objects_pass.now seen k h.objects_pass.now seen [] [] [] = record {
         fired = [];
         many = refl;
         notes = [];
         claimed = refl;
         part = part_none (begins_same refl) refl;
         whole = refl;
-        have = λ e joined goes. (refl, omega arith);
+        turned = [];
+        turns = turns_none refl;
+        have = λ e joined goes heard. (refl, omega arith);
       } in (
         rw (turns.0, turns.1, turns.2, fresh, fresh_objects) none,
-        ap (λ (g : Firing). g.objects.now) turns.1 ∙ objects,
-        ap (λ (g : Firing). g.callbacks.now) turns.1 ∙ handlers,
+        ap (λ (g : QueuedFiring). g.objects.now) turns.1 ∙ objects,
+        ap (λ (g : QueuedFiring). g.callbacks.now) turns.1 ∙ handlers,
       )
   turns_kept (suc n) h h' k k' log' objects handlers fresh fresh_objects turns =
       let h1 = turns.1 in

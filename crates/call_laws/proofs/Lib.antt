@@ -5,6 +5,7 @@ pub mod TimerCalls
 pub mod Turns
 pub mod Writing
 pub mod Noted
+pub mod Signals
 pub mod Stays
 pub mod Parts
 pub mod Bodies
@@ -29,4 +30,5 @@ pub mod Starts
 pub mod SeenOff
 pub mod Evacuated
 pub mod OffLine
+pub mod Sigwait
 pub mod EachCall

@@ -19,7 +19,7 @@ use Rattle.record_text.specs.declared.record.ObjectEntry.{ObjectEntry}
 use Rattle.run_history.specs.Objects.{armed_in_phase}
 use Rattle.script_text.specs.declared.script.Script.{Script}
 use Rattle.lane_notes.specs.Objects.{arm_noted}
-use Rattle.run_history.specs.Runs.{witness_of, Ending, IsJoined, moves_spans}
+use Rattle.run_history.specs.Runs.{witness_of, Ending, IsJoined, moves_spans, signal_spans}
 use Rattle.run_history.specs.Truths.{IsTrueStart}
 use Rattle.run_history.specs.Actions.{Began}
 use Rattle.run_history.specs.Witnesses.{OfRise}
@@ -31,7 +31,10 @@ use Rattle.timer_objects.specs.Turns.{HasTurn}
 use Rattle.pass_names.specs.Passes.{Begins}
 use Rattle.call_laws.proofs.ObjectTurns.{enters_entry, enters_turn}
 use Rattle.run_history.proofs.ObjectsMade.{anew_actions}
-use Rattle.run_history.proofs.OthersMade.{plain}
+use Rattle.run_history.proofs.OthersMade.{turning}
+use Rattle.run_history.specs.Signals.{popped_by, pushed_in}
+use Rattle.signal_queue.specs.declared.signal.Turn.{Turn}
+use Rattle.call_laws.proofs.Signals.{IsNoTrigger, pushed_turn, TurnsPart}
 use Rattle.lane_world.specs.Called.{lane_caller, LaneOf, ReadsClock, with_done}
 use Rattle.lane_world.proofs.Kept.{Follows, IsNextCall, KeepsCall, seen_by}
 use Rattle.lane_world.proofs.SeenMore.{goes_before}
@@ -183,15 +186,25 @@ module _ {s : Script} {x : WorldOf} {l : LaneOf} (m : LaneOf) {call : Call} (nex
 
   -- ---- the call
 
+  no_turns : (cancel : Option (ℕ × ℕ)) → HasNoTurns (cancels timer cancel ++ k.start)
+  no_turns None = k.no_turns
+  no_turns (Some one) = k.no_turns
+
+  -- law: with an entry that is no expiry it pushed nothing
+  pub made_unpushed : (entry : ObjectEntry) → IsNoTrigger entry → pushed_in s (anew_actions timer cancel k.start stamp entry) ≡ []
+  made_unpushed entry never = pushed_turn s timer stamp entry (cancels timer cancel ++ k.start) (no_turns cancel) never
+
   module _ (reads : ReadsClock l.pass m.pass reading) (notes : m.notes ≡ with_done l.notes l.label log object_log) {entry : ObjectEntry}
       (noted : IsNotedAs (ClockHas reading) made reply entry) where
     -- law: a lane keeps the call, where it fits
-    pub keeps_made : (a : Answer) → ((e : Ending) → Follows m.pass e → IsJoined s e → IsKept (witness_of s e) (moves_spans e) l.label
-        (plain reading.stamp turn_place (length m.pass.timers.known.seen) (anew_actions timer cancel k.start stamp entry)) receipts call a
+    pub keeps_made : (a : Answer) (turns : List (ℕ × Turn))
+        → TurnsPart s l.pass.signals.knows m.pass.signals.knows (popped_by a ++ pushed_in s (anew_actions timer cancel k.start stamp entry)) turns
+        → ((e : Ending) → Follows m.pass e → IsJoined s e → IsKept (witness_of s e) (moves_spans e) (signal_spans e) l.label
+        (turning reading.stamp turn_place (length m.pass.timers.known.seen) (anew_actions timer cancel k.start stamp entry) turns) receipts call a
         (seen_by l.pass) (seen_by m.pass) → (moves_spans e).first l.label ≤ turn_place
         → FitsCall (witness_of s e) l.label call a (seen_by l.pass) (seen_by m.pass))
         → KeepsCall s l call a m
-    keeps_made a fits =
+    keeps_made a turns turned fits =
         let p = l.pass in
         let q = m.pass in
         let receipt_of : ObjectReply → ObjectReceipt = λ r. record { object = timer; number = number; call = made; reply = r } in
@@ -201,13 +214,9 @@ module _ {s : Script} {x : WorldOf} {l : LaneOf} (m : LaneOf) {call : Call} (nex
         (subst (λ r. IsNotedAs (ClockHas reading) made r entry) enters.reply noted) closes in
         let found = part_none {v = begun} {p = p.objects} {w = begin} behind (k.mine ∙ sym turn.begins.looks.mine) in
         let whole = part_then (part_began timer stamp opens) (part_then found (part_then k.part.1 entered)) in
-        keeps_part next m a (plain reading.stamp turn_place (length q.timers.known.seen) (anew_actions timer cancel k.start stamp entry))
+        keeps_part next m a (turning reading.stamp turn_place (length q.timers.known.seen) (anew_actions timer cancel k.start stamp entry) turns)
         whole (reading_goes_on p q reading reads) (clock_left reads.same)
         (notes ∙ with_done-joins l.notes l.label log object_log ∙ ap (both_noted l.notes) (ap (notes_of l.label log) log_is
         ∙ ap (λ rs. notes_of l.label rs this) (sym (append-nil log)) ∙ notes_of-append l.label log [] [] this)) refl reads.count
-        (whole_turn timer stamp entry (cancels timer cancel ++ k.start) (no_turns cancel))
+        (whole_turn timer stamp entry (cancels timer cancel ++ k.start) (no_turns cancel)) turned
         (λ e follows joined has kept low. fits e follows joined kept (omega (arith, turn_from, low)))
-      where
-        no_turns : (cancel : Option (ℕ × ℕ)) → HasNoTurns (cancels timer cancel ++ k.start)
-        no_turns None = k.no_turns
-        no_turns (Some one) = k.no_turns

@@ -32,6 +32,8 @@ use Rattle.run_history.specs.Receipts.{receipt}
 use Rattle.lane_world.proofs.Kept.{each_both, each_none, entries_told, looks_on, made_on, NoteKind, skips_on}
 use Rattle.std.proofs.Common.{[], ◌∷◌, ◌++◌}
 use Rattle.call_laws.proofs.Parts.{IsActionSeen, IsPart, object_place}
+use Rattle.call_laws.proofs.Signals.{TurnsPart}
+use Rattle.run_history.specs.Signals.{popped_by, pushed_in}
 use Rattle.run_history.proofs.Known.{rises_lower}
 
 -- ---- the notes
@@ -79,8 +81,9 @@ pub keeps_part : {s : Script} {x : WorldOf} {l : LaneOf} {call : Call} {IsSo : L
     → IsPart s IsSo l.label l.pass.timers.known l.pass.objects m.pass.timers.known m.pass.objects t.actions notes added
     → ((e : Ending) → promises.GoesOnClock (writes m.pass.clock.knows) e → IsSo e.run.clock) → LooksAtClock l.pass m.pass
     → m.notes ≡ both_noted l.notes added → t.last ≡ length m.pass.timers.known.seen → t.at ≡ length (writes m.pass.clock.knows)
-    → HasWholeTurns t.actions → FitsOn s l m call a notes t → KeepsCall s l call a m
-keeps_part {s = s} {l = l} {call = call} {IsSo = IsSo} {notes = notes} {added = added} next m a t part so clock joins last at whole fits =
+    → HasWholeTurns t.actions → TurnsPart s l.pass.signals.knows m.pass.signals.knows (popped_by a ++ pushed_in s t.actions) t.turns
+    → FitsOn s l m call a notes t → KeepsCall s l call a m
+keeps_part {s = s} {l = l} {call = call} {IsSo = IsSo} {notes = notes} {added = added} next m a t part so clock joins last at whole turned fits =
     let p = l.pass in
     let q = m.pass in
     let label = l.label in
@@ -89,7 +92,13 @@ keeps_part {s = s} {l = l} {call = call} {IsSo = IsSo} {notes = notes} {added = 
     let no_writes : added.writes ≡ [] = ap (λ (n : NotesOf). n.writes) others ∙ noted_writes label t.actions in
     let told : IsPermutation (map receipt notes) (entries_told added) = IsPermutation-trans _ _ _
     (subst (λ rs. IsPermutation rs (entries_told (noted_by label t.actions))) (sym part.are) (noted_entries label t.actions none whole)) (told_same part.told) in
-    let sees : SeesOn p q = record { timers = part.enters.seen; clock = clock.seen; objects = part.goes_on; opening = part.opening } in
+    let sees : SeesOn p q = record {
+      timers = part.enters.seen;
+      clock = clock.seen;
+      objects = part.goes_on;
+      opening = part.opening;
+      signals = turned.seen;
+    } in
     record {
       notes = notes;
       trace = t;
@@ -120,6 +129,8 @@ keeps_part {s = s} {l = l} {call = call} {IsSo = IsSo} {notes = notes} {added = 
       };
       seen = λ k. each_same part.told k _ (noted_seen IsSo p q notes t label so k t.actions part.each);
       stand = stand_from IsSo p q notes part.enters t (λ e follows. so e follows.clock);
+      turned = record { rise = turned.span.rise; below = turned.span.below; each = turned.each };
+      turn_places = turned.mine;
       promised = promised_from next m notes t a
-          (logged_from p q notes t call a sees last part.enters.made part.are at none) fits;
+          (logged_from s p q notes t call a sees last part.enters.made part.are at none turned) fits;
     }

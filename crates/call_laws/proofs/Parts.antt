@@ -48,7 +48,11 @@ use Rattle.expire_pass.specs.Expiring.{claim_receipt}
 use Rattle.expire_pass.specs.Handlers.{asks}
 use Rattle.expire_pass.specs.declared.handler.Restart.{Restart}
 use Rattle.timer_objects.specs.Callbacks.{look_receipt}
-use Rattle.timer_objects.specs.Firings.{Firing}
+use Rattle.timer_objects.specs.QueuedFirings.{QueuedFiring}
+use Rattle.signal_queue.specs.Rules.{turns}
+use Rattle.signal_queue.specs.declared.signal.Turn.{Turn}
+use Rattle.run_history.specs.Signals.{pushed_in}
+use Rattle.call_laws.proofs.Signals.{TurnsPart}
 use Rattle.record_text.specs.declared.record.CallbackReply.{CallbackReply}
 use Rattle.record_text.specs.declared.record.Entry.{Entry}
 use Rattle.seq_timer.specs.declared.event.Restarted.{Restarted}
@@ -322,10 +326,14 @@ pub record IsClaimed (s : Script) (base : ℕ) (c : ClaimNumbers) (reading : Clo
   pub some : 0 < c.number
   pub more : count (TimersList c.timer) k.seen < count (TimersList c.timer) v.seen
 
+-- the pushes and pops that the handler's pass of the queue has seen
+abbrev pub turns_of : QueuedFiring → List Turn
+turns_of h = turns h.signal_pass.now.knows
+
 -- What a claim's function did: with the claim it is a part of the call, so that its look stands behind an entry of the part. And what it promises of
 -- every run that goes on from there.
 pub record BodyKept (s : Script) (label : Label) {base : ℕ} {c : ClaimNumbers} {reading : ClockReading} {k v : KnownOfTimers}
-    (claim : IsClaimed s base c reading k v) (restart : Restart) (w : KnownOfTimers) (h h' : Firing) : Type 0 where
+    (claim : IsClaimed s base c reading k v) (restart : Restart) (w : KnownOfTimers) (h h' : QueuedFiring) : Type 0 where
   pub body : List Action
   pub notes : List PlacedEntry
   pub more : List Receipt
@@ -335,9 +343,12 @@ pub record BodyKept (s : Script) (label : Label) {base : ℕ} {c : ClaimNumbers}
   pub whole : HasWholeTurns body
   pub part : IsPart s (ClockHas reading) label k h.objects_pass.now w h'.objects_pass.now
       (Entered c.timer c.number (claim_in base reading.stamp c) ∷ body) (claim.entered.0 ∷ notes) (notes_of label (claim_receipt reading c ∷ more) object_more)
-  pub ran : (e : Ending) → IsJoined s e → promises.GoesOn w.seen e → (finish : ℕ) (restarted : Restarted)
+  pub turned : List (ℕ × Turn)
+  pub turns : TurnsPart s h.signal_pass.now.knows h'.signal_pass.now.knows (pushed_in s body) turned
+  pub ran : (e : Ending) → IsJoined s e → promises.GoesOn w.seen e → promises.GoesOnSignals (turns_of h') e → (finish : ℕ) (restarted : Restarted)
       → IsBody (WasOffLine (witness_of s e) (length v.seen) (length w.seen)) s.limit (kind_of s c.timer) reading.stamp
-      (fired_of c body finish (asks restart) restarted) × ReplyHolds (witness_of s e) (length w.seen) body
+      (fired_of c body finish (asks restart) restarted)
+      × ReplyHolds (witness_of s e) (length (turns_of h), length (turns_of h')) (length w.seen) body
 
 module _ {s : Script} {label : Label} {base : ℕ} {c : ClaimNumbers} {reading : ClockReading} {k v w : KnownOfTimers} {p : ObjectsPass}
     (claim : IsClaimed s base c reading k v) where

@@ -1,5 +1,5 @@
 -- A settime's arguments, and how an object bears the start of a call that arms its timer anew.
-use Rattle.std.proofs.Common.{◌≡◌, ℕ, ◌||◌, Bool, true, false, nat_eq, not, if◌then◌else◌, None, Some, List, arith, refl, sym, ap, subst}
+use Rattle.std.proofs.Common.{◌≡◌, ℕ, ◌||◌, Bool, true, false, nat_eq, not, if◌then◌else◌, None, Some, arith, refl, sym, ap, subst}
 use Rattle.std.specs.Prelude.{MatchOption}
 use Rattle.std.proofs.lemmas.Bool.{eqb-true}
 use Rattle.ktime.specs.declared.timespec.TimeSpec.{TimeSpec}
@@ -18,7 +18,7 @@ use Rattle.call_laws.proofs.Armed.{IsLike}
 use Rattle.lane_world.proofs.Declared.{declared_over, over_of}
 use Rattle.script_text.specs.declared.script.Script.{Script}
 use Rattle.lane_world.specs.Worlds.{IsWorldOf, WorldOf}
-use Rattle.std.proofs.Common.{◌∙◌, length}
+use Rattle.std.proofs.Common.{◌∙◌}
 use Rattle.run_history.specs.Told.{IsArmedLike}
 use Rattle.timer_objects.specs.Calls.{BearsStart}
 use Rattle.timer_setting.specs.declared.arming.Arm.TheVariants as arms
@@ -56,6 +56,7 @@ same_flags s x t world = ap flags_of (declared_over s x t world) ∙ by_kind (ki
     by_kind (kinds.Raw context callback) = refl
     by_kind (kinds.Posix base) = refl
     by_kind (kinds.Fd base) = refl
+    by_kind (kinds.Queued base) = refl
     by_kind (kinds.Sleeper base) = refl
 
 -- law: the object's phase after a call that armed its timer anew has its timer's start

@@ -1,5 +1,5 @@
 -- The objects' entries of a sleep and of an interrupt, as they are noted and answered.
-use Rattle.std.proofs.Common.{◌≡◌, ℕ, true, false, None, Some, refl, sym, ap, ◌∙◌}
+use Rattle.std.proofs.Common.{◌≡◌, ℕ, false, refl, ap, ◌∙◌}
 use Rattle.std.proofs.lemmas.Bool.{true≢false}
 use Rattle.ktime.specs.Readings.{ClockReading}
 use Rattle.timer_setting.specs.declared.answers.InterruptAnswer.TheVariants as ends
@@ -11,7 +11,7 @@ use Rattle.timer_setting.specs.declared.arming.Arm.{Arm}
 use Rattle.timer_setting.specs.declared.object_call.ObjectCall.TheVariants as calls
 use Rattle.timer_setting.specs.declared.object_call.ObjectReply.TheVariants as replies
 use Rattle.timer_setting.specs.declared.object_call.ObjectReply.{ObjectReply}
-use Rattle.sleeper.specs.States.{Sleeper, is_free, sleep_left}
+use Rattle.sleeper.specs.States.{is_free, sleep_left}
 use Rattle.sleeper.specs.Steps.{end_of, sleep_answer}
 use Rattle.sleeper.specs.declared.sleep.Sleep.TheVariants as sleeps
 use Rattle.sleeper.specs.declared.sleep.Sleep.{Sleep}

@@ -20,7 +20,8 @@ use Rattle.run_history.proofs.Promise.{seen_first}
 use Rattle.script_text.specs.declared.script.Call.{Call}
 use Rattle.script_text.specs.declared.script.Script.{Script}
 use Rattle.lane_world.proofs.Kept.{Follows, IsNextCall, KeepsCall, KeepsTurn, log_of, seen_by}
-use Rattle.lane_world.proofs.SeenMore.{goes_before}
+use Rattle.lane_world.proofs.SeenMore.{begins_same, goes_before}
+use Rattle.signal_queue.specs.Rules.{turns}
 use Rattle.lane_world.specs.Called.{LaneOf, ReadsFirst}
 use Rattle.lane_world.specs.Worlds.{WorldOf}
 use Rattle.call_laws.proofs.CallKept.{same_objects}
@@ -66,10 +67,12 @@ turn_by_itself {l = l} kept read = record {
     clock = begins_refl (writes l.pass.clock.knows);
     objects = same_objects l.pass l.pass refl;
     opening = refl;
+    signals = begins_refl (turns l.pass.signals.knows);
   };
   timers = refl;
   objects = refl;
   clock = refl;
+  signals = refl;
   kept = kept;
   read = read;
 }
@@ -93,10 +96,12 @@ turn_read {s = s} {l = l} {b = b} {m = m} {call = call} {a = a} reads takes same
         clock = reads.clock.seen.each 0;
         objects = same_objects l.pass b.pass reads.objects;
         opening = ap (λ o. o.knows.opening) reads.objects;
+        signals = begins_same (ap (λ u. turns u.knows) reads.signals);
       };
       timers = reads.timers.mine;
       objects = ap (λ o. o.knows.pass.mine) reads.objects;
       clock = reads.clock.mine;
+      signals = reads.signals;
       kept = kept;
       read = λ e follows has joined fits.
           let w = witness_of s e in

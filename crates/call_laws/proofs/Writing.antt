@@ -38,7 +38,9 @@ use Rattle.run_history.specs.Promises.{GoesOnClock, IsRightLog}
 use Rattle.run_history.specs.Runs.{CallLog, Ending}
 use Rattle.run_history.proofs.Lists.{at_left, at_seam}
 use Rattle.run_history.proofs.OthersMade.{plain, wrote_made}
-use Rattle.lane_world.specs.Called.{CallsWrite, LaneOf, ReadsFirst, line_of_write, with_write_told, write_told}
+use Rattle.lane_world.specs.Called.{CallsWrite, LaneOf, LeavesSignals, ReadsFirst, line_of_write, with_write_told, write_told}
+use Rattle.call_laws.proofs.Signals.{falls_between, turns_none, TurnsPart}
+use Rattle.signal_queue.specs.Rules.{turns}
 use Rattle.std.specs.List.{AllByRecursion}
 use Rattle.lane_world.proofs.Kept.{IsNoteSeen, label_of, list_of, WriteNotes, IsNextCall, KeepsCall, KeepsTurn, StandAt, log_of, seen_by, SeesOn}
 use Rattle.lane_world.proofs.SeenMore.{begins_same, goes_before}
@@ -71,7 +73,7 @@ writes_within e ws on = omega (arith, length-map e.run.clock (λ (line : ClockLi
 
 looks_same : {s : Script} (b m : LaneOf) → m.pass ≡ b.pass → m.notes ≡ b.notes → LooksOnly s b m
 looks_same b m same notes = looks_alone (begins_same (ap (λ (p : WorldPass). p.timers.known.seen) same)) (ap (λ (p : WorldPass). p.timers.known.mine) same)
-    (ap (λ (p : WorldPass). p.objects) same) (clock_left (ap (λ (p : WorldPass). p.clock) same)) notes
+    (ap (λ (p : WorldPass). p.objects) same) (clock_left (ap (λ (p : WorldPass). p.clock) same)) (ap (λ (p : WorldPass). p.signals) same) notes
 
 -- law: it is kept, by a lane that has taken its reading
 refused_kept : {s : Script} {x : WorldOf} {b m : LaneOf} {write : Write} (next : IsNextCall s x b (calls.Clock write)) (fault : ClockFault)
@@ -80,7 +82,7 @@ refused_kept : {s : Script} {x : WorldOf} {b m : LaneOf} {write : Write} (next :
 refused_kept {b = b} {m = m} {write = write} next (faults.ClockRange would_be) refused same notes =
     let ws = writes m.pass.clock.knows in
     let cause = (refused.range would_be).0 refl in
-    keeps_sight next (answers.Range would_be) (looks_same b m same notes) (λ e. refl) (λ e follows joined has. record {
+    keeps_sight next (answers.Range would_be) refl (looks_same b m same notes) (λ e. refl) (λ e follows joined has. record {
       counted = omega (arith, writes_within e ws follows.clock, follows.few);
       late = cause.1;
       greatest = cause.2 ∙ ap (λ r. greatest (after_write r write)) (sym (reading_of_seen e ws follows.clock));
@@ -88,7 +90,7 @@ refused_kept {b = b} {m = m} {write = write} next (faults.ClockRange would_be) r
 refused_kept {b = b} {m = m} next faults.ClockSpent refused same notes =
     let ws = writes m.pass.clock.knows in
     let full : last_stamp ≤ (seen_reading m.pass.clock.knows).stamp = refused.spent.0 refl in
-    keeps_looking next answers.ClockSpent (looks_same b m same notes)
+    keeps_looking next answers.ClockSpent refl (looks_same b m same notes)
     (λ e follows joined has kept low. absurd (omega (arith, full, stamp_after ws, writes_within e ws follows.clock, follows.few)))
 
 -- ---- one that it took
@@ -96,7 +98,7 @@ refused_kept {b = b} {m = m} next faults.ClockSpent refused same notes =
 module _ (s : Script) (x : WorldOf) (l m : LaneOf) (write : Write) (next : IsNextCall s x l (calls.Clock write)) (r : ClockReading)
     (w : AcceptsWrite write l.pass.clock.knows m.pass.clock.knows r) (at : WritesAt l.pass.timers.known.seen m.pass.timers.known.seen r.stamp)
     (timers : LooksOn l.pass.timers.known m.pass.timers.known) (objects : m.pass.objects ≡ l.pass.objects)
-    (notes : m.notes ≡ with_write_told l.notes l.label write (Ok r)) where
+    (signals : LeavesSignals l.pass m.pass) (notes : m.notes ≡ with_write_told l.notes l.label write (Ok r)) where
   abbrev p : WorldPass
   p = l.pass
 
@@ -146,6 +148,7 @@ module _ (s : Script) (x : WorldOf) (l m : LaneOf) (write : Write) (next : IsNex
     clock = w.adds.seen.each 0;
     objects = same_objects p q objects;
     opening = ap (λ o. o.knows.opening) objects;
+    signals = begins_same (ap (λ u. turns u.knows) signals);
   }
 
   stands : StandAt q (log_of p q (receipt_of ∷ []) did)
@@ -172,7 +175,10 @@ module _ (s : Script) (x : WorldOf) (l m : LaneOf) (write : Write) (next : IsNex
     );
   }
 
-  logged : IsRightLog (log_of p q (receipt_of ∷ []) did) (calls.Clock write) (answers.Clock r.stamp) (seen_by p) (seen_by q)
+  none_turned : TurnsPart s p.signals.knows q.signals.knows [] []
+  none_turned = turns_none (ap (λ u. u.knows) signals)
+
+  logged : IsRightLog s (log_of p q (receipt_of ∷ []) did) (calls.Clock write) (answers.Clock r.stamp) (seen_by p) (seen_by q)
   logged = record {
     forward = omega (arith, low, high);
     last = omega arith;
@@ -182,6 +188,8 @@ module _ (s : Script) (x : WorldOf) (l m : LaneOf) (write : Write) (next : IsNex
     writes = (omega (arith, number), tt);
     clock_steps = (behind, (omega (arith, number), omega (arith, w.count)));
     move_steps = (omega arith, omega arith);
+    turns = none_turned.are;
+    signal_steps = falls_between none_turned.span;
   }
 
   shown : reading_after (take r.stamp ws) ≡ r
@@ -221,6 +229,8 @@ module _ (s : Script) (x : WorldOf) (l m : LaneOf) (write : Write) (next : IsNex
       shows = subst (ShowsReading line) (sym shown) (record { mono = refl; real = refl; boot = refl; changes = refl });
     });
     stand = stands;
+    turned = record { rise = tt; below = tt; each = tt };
+    turn_places = none_turned.mine;
     promised = promised_from next m (receipt_of ∷ []) did (answers.Clock r.stamp) logged
         (λ e follows joined has kept first. wrote_made r.stamp write kept (omega (arith, first, low)) (omega (arith, high)) (omega arith, tt));
   }
@@ -245,9 +255,17 @@ keeps_write {s = s} {x = x} {l = l} {m = m} {write = write} next c =
     by_answer : (answer : Result ClockReading ClockFault) → AnswersWrite write l.pass.clock.knows m.pass.clock.knows answer
         → HasPlace l.pass.timers.known m.pass.timers.known m.pass.clock.knows answer → m.notes ≡ with_write_told l.notes l.label write answer
         → KeepsTurn s l (calls.Clock write) (write_told answer) m
-    by_answer (Ok r) w places notes = took_turn s x l m write next r w.ok places.place c.timers c.objects notes
+    by_answer (Ok r) w places notes = took_turn s x l m write next r w.ok places.place c.timers c.objects c.signals notes
     by_answer (Err fault) w places notes =
         let b : LaneOf = record { label = l.label; pass = m.pass; notes = m.notes } in
         let reads : ReadsFirst l b =
-        record { label = refl; notes = notes; objects = c.objects; timers = c.timers; clock = w.err.looks; moment = places.refused } in
+        record {
+          label = refl;
+          notes = notes;
+          objects = c.objects;
+          signals = c.signals;
+          timers = c.timers;
+          clock = w.err.looks;
+          moment = places.refused;
+        } in
         turn_read reads refl refl (refused_kept (next_begun reads next) fault w.err.cause refl refl)

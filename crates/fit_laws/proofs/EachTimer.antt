@@ -127,13 +127,13 @@ stands c (m ∷ ms) before rest e own =
           ∙ ap (λ xs. (m.before + 1, m.shown) ∷ xs) s.own ∙ ap (λ x. x ∷ before) (heads _ _ _ _ own);
     }
 
-not_before_itself : (s : Script) (c : Label) → is_before s c c ≡ false
+pub not_before_itself : (s : Script) (c : Label) → is_before s c c ≡ false
 not_before_itself s c = neither (round_of s c) c.lane c.call
   where
     neither : (r l k : ℕ) → (nat_lt r r || (nat_eq l l && nat_lt k k)) ≡ false
     neither r l k = grind (arith, nat_tests)
 
-ordered : (s : Script) (ls : List Label) (p q : ℕ) (x y : Label) → IsInOrder s ls → slice_get ls p ≡ Some x → slice_get ls q ≡ Some y → p < q
+pub ordered : (s : Script) (ls : List Label) (p q : ℕ) (x y : Label) → IsInOrder s ls → slice_get ls p ≡ Some x → slice_get ls q ≡ Some y → p < q
     → is_before s y x ≡ false
 ordered s [] p q x y order at_p at_q less = absurd (cc)
 ordered s (l ∷ ls) p zero x y order at_p at_q less = absurd (omega (arith, less))
@@ -363,4 +363,4 @@ module _ (w : Witness) (f : FitsIn w) where
 
 -- law: a record that fits is right of each timer by itself
 pub fits_for_each_timer : (s : Script) (r : RunRecord) → Fits s r → HasTimers s r
-fits_for_each_timer s r (moves, traces, fits) = has_timers (witness_with s r moves traces) fits
+fits_for_each_timer s r (moves, signals, traces, fits) = has_timers (witness_with s r moves signals traces) fits

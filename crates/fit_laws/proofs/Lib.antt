@@ -8,3 +8,5 @@ pub mod OwnPoints
 pub mod Moments
 pub mod Readings
 pub mod Replies
+pub mod SignalLists
+pub mod Signals

@@ -9,7 +9,6 @@ use Rattle.ktime.specs.Times.{effective_clock, passed, sat, step_of}
 use Rattle.ktime.specs.declared.clock_id.ClockId.{ClockId}
 use Rattle.ktime.specs.declared.mode.Mode.{Mode}
 use Rattle.ktime.specs.declared.mode.Mode.TheVariants as modes
-use Rattle.ktime.specs.declared.timespec.TimeSpec.{TimeSpec}
 use Rattle.seq_timer.specs.declared.context.Context.{Context}
 use Rattle.seq_timer.specs.Events.{Event, map_reading}
 use Rattle.seq_timer.specs.declared.event.EventBy.{EventBy}
@@ -50,7 +49,7 @@ use Rattle.script_text.specs.declared.script.Round.{Round}
 use Rattle.script_text.specs.declared.script.Script.{Script}
 use Rattle.script_text.specs.declared.script.StartRequest.{StartRequest}
 use Rattle.run_history.specs.Calls.{call_row}
-use Rattle.run_history.specs.Deeds.{Anew, Cancels, Deed, Did, Evacuates, IsBody, IsExpiryRun, Never, Nothing, Rearms, Runs, Shifts, Starts, Where, Writes, fires}
+use Rattle.run_history.specs.Deeds.{Anew, Cancels, Deed, Did, Evacuates, IsBody, IsExpiryRun, IsTrigger, Never, Nothing, Rearms, Runs, Shifts, Starts, Where, Writes, fires}
 use Rattle.run_history.specs.Witnesses.{Evacuation, Fired}
 use Rattle.fit_laws.specs.EachTimer.{FitsTimers, HasTimers}
 use Rattle.run_history.specs.Fits.{Fits}
@@ -194,6 +193,11 @@ module _ (Reached : ℕ → ℕ → Type 0) (s : Script) where
   rearming_made_none makes =
       subst AllNone (sym makes.done) (tt, none-append makes.start _ (arms_none _ _ _ _ _ makes.arm makes.start makes.arms) (tt, tt))
 
+  -- an expiry of an object's timer starts nothing
+  trigger_none : (reading : ℕ) (f : Fired) → IsTrigger reading f → AllNone f.body
+  trigger_none reading f is =
+      ⊎_elim (λ trigger. subst AllNone (sym trigger.2) (tt, (tt, tt))) (λ skipped. subst AllNone (sym skipped.1) (tt, tt)) is.0
+
   -- a callback that starts its timer asks for no slack
   body_none : (kind : Kind) (reading : ℕ) (f : Fired) → IsBody Reached s.limit kind reading f → AllNone f.body
   body_none (kinds.Raw context callbacks.Once) reading f is = nothing_none f.body is.0
@@ -204,12 +208,11 @@ module _ (Reached : ℕ → ℕ → Type 0) (s : Script) where
   body_none (kinds.Raw context (callbacks.Starts ns base)) reading f is =
       ⊎_elim (λ a. subst AllNone (sym a.1) (start_none f.timer reading (without_slack modes.Rel ns base) a.0 refl))
       (λ spent. subst AllNone (sym spent.1) (tt, tt)) is.0
-  body_none (kinds.Posix base) reading f is =
-      ⊎_elim (λ trigger. subst AllNone (sym trigger.2) (tt, (tt, tt))) (λ skipped. subst AllNone (sym skipped.1) (tt, tt)) is.0
-  body_none (kinds.Fd base) reading f is =
-      ⊎_elim (λ trigger. subst AllNone (sym trigger.2) (tt, (tt, tt))) (λ skipped. subst AllNone (sym skipped.1) (tt, tt)) is.0
-  body_none (kinds.Sleeper base) reading f is =
-      ⊎_elim (λ trigger. subst AllNone (sym trigger.2) (tt, (tt, tt))) (λ skipped. subst AllNone (sym skipped.1) (tt, tt)) is.0
+  body_none (kinds.Posix base) reading f is = trigger_none reading f is
+  body_none (kinds.Fd base) reading f is = trigger_none reading f is
+  body_none (kinds.Queued base) reading f is =
+      ⊎_elim (trigger_none reading f) (λ full. subst AllNone (sym full.0.1) (tt, (tt, tt))) is
+  body_none (kinds.Sleeper base) reading f is = trigger_none reading f is
 
   fired_none : (base reading : ℕ) (fired : List Fired) → AllByRecursion (λ f. IsBody Reached s.limit (kind_of s f.timer) reading f) fired
       → AllNone (flat_map (fires base reading) fired)

@@ -30,12 +30,12 @@ order_once s (x ∷ xs) order = (all_once (λ y. is_before s y x ≡ false) xs o
 
 -- law: each entry of an object bears the label of a call
 pub objects_called : (s : Script) (r : RunRecord) → Fits s r → (i : ℕ) → AllByRecursion (IsLabel s) (object_labels r i)
-objects_called s r (moves, traces, fits) i =
-    all_once (IsLabel s) (object_labels r i) (subst (AllByRecursion (IsLabel s)) (labels_on (witness_with s r moves traces) i fits.history)
+objects_called s r (moves, signals, traces, fits) i =
+    all_once (IsLabel s) (object_labels r i) (subst (AllByRecursion (IsLabel s)) (labels_on (witness_with s r moves signals traces) i fits.history)
     (all_on (IsLabel s) (CountersList (suc i)) moves fits.move_calls))
 
 -- law: and they keep the order of calls
 pub objects_in_order : (s : Script) (r : RunRecord) → Fits s r → (i : ℕ) → IsInOrder s (object_labels r i)
-objects_in_order s r (moves, traces, fits) i =
+objects_in_order s r (moves, signals, traces, fits) i =
     order_once s (object_labels r i)
-    (subst (IsInOrder s) (labels_on (witness_with s r moves traces) i fits.history) (order_on s (CountersList (suc i)) moves fits.order))
+    (subst (IsInOrder s) (labels_on (witness_with s r moves signals traces) i fits.history) (order_on s (CountersList (suc i)) moves fits.order))

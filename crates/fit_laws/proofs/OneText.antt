@@ -22,7 +22,7 @@ record IsOfSize (s : Script) (r : RunRecord) : Type 0 where
   lanes : length r.answers ≡ s.lanes
 
 sized : (s : Script) (r : RunRecord) → Fits s r → IsOfSize s r
-sized s r (moves, traces, fits) =
+sized s r (moves, signals, traces, fits) =
     record { version = fits.version; bases = fits.bases; timers = fits.timers; objects = fits.objects; lanes = fits.lanes }
 
 pub one_text : (s : Script) (a b : RunRecord) → IsInRange s → Fits s a → Fits s b → HasMachineNumbers a → HasMachineNumbers b → text_of a ≡ text_of b → a ≡ b

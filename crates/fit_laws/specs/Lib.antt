@@ -1,3 +1,4 @@
 pub mod EachTimer
 pub mod ObjectTurns
 pub mod Readings
+pub mod Signals

@@ -100,6 +100,7 @@ trigger_noted generation reading (triggers.Spent stamp) = None
 abbrev pub object_entry_noted : ObjectCall → ObjectReply → Option ObjectEntry
 object_entry_noted (calls.Settime c) (replies.Settime answer) = option_map (settime_entry c) (set_noted answer)
 object_entry_noted (calls.Trigger generation reading) (replies.Trigger answer) = trigger_noted generation reading answer
+object_entry_noted (calls.Overflow generation reading) replies.Full = Some (entries.Overflow generation reading.stamp)
 object_entry_noted (calls.Accept reading arm) (replies.Accept answer) =
     option_map (λ reply. entries.Accept reading.stamp (arm_noted arm) reply) (accept_noted answer)
 object_entry_noted (calls.Read reading arm) (replies.Read answer) =

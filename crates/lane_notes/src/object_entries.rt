@@ -33,7 +33,10 @@ pub(crate) fn told(call: ObjectCall, reply: ObjectReply) -> NoteOrSkip
         ObjectCall::Gettime { reading, arm } => (gettime(reading, arm, reply), None),
         ObjectCall::Sleep(call) => (sleep(call, reply), None),
         ObjectCall::Interrupt { reading } => (interrupt(reading, reply), None),
-        ObjectCall::Overflow { .. } => (None, None),
+        ObjectCall::Overflow {
+            generation,
+            reading,
+        } => (overflow(generation, reading, reply), None),
     }
 }
 
@@ -70,6 +73,19 @@ fn trigger_noted(generation: u64, reading: Reading, answer: TriggerAnswer) -> No
         counted,
     };
     (Some(entry), None)
+}
+
+/// The entry of an expiry whose signal found no room.
+fn overflow(generation: u64, reading: Reading, reply: ObjectReply) -> Option<ObjectEntry>
+    ensures { result ≡ object_entry_noted (calls.Overflow generation reading) reply }
+{
+    let ObjectReply::Full = reply else {
+        return None;
+    };
+    Some(ObjectEntry::Overflow {
+        generation,
+        reading: reading.stamp,
+    })
 }
 
 /// The entry of an acceptance that made one.

@@ -9,6 +9,8 @@ use Rattle.pass_names.proofs.Passes.{begins_length, begins_refl, begins_trans}
 use Rattle.run_history.specs.Witnesses.{CountersList}
 use Rattle.timer_objects.specs.Known.{IsObjectsPass, seen_of}
 use Rattle.timer_objects.specs.Rearming.{FindsObject}
+use Rattle.timer_objects.specs.Signals.{IsSignalPass}
+use Rattle.signal_queue.specs.Views.{KnowsQueue}
 use Rattle.timer_objects.specs.Turns.{turns_counter, turns_told}
 use Rattle.timer_objects.specs.declared.object.Object.{Object}
 use Rattle.lane_world.proofs.SeenMore.{begins_same, count_begins}
@@ -29,6 +31,7 @@ pub record LookedAt (x : WorldOf) (p q : WorldPass) (many : ℕ) : Type 0 where
   pub objects : Looks p.objects.knows.pass q.objects.knows.pass
   pub opening : q.objects.knows.opening ≡ p.objects.knows.opening
   pub clock : q.clock ≡ p.clock
+  pub signals : q.signals ≡ p.signals
   pub no_more : (i : ℕ) → i < many → turns_told i p.timers.known ≤ length (seen_of q.objects i) + length (seen_of q.objects i)
 
 -- law: none
@@ -39,22 +42,31 @@ looked_none {p = p} main = record {
   objects = record { seen = record { each = λ i. begins_same refl }; mine = refl; id = refl };
   opening = refl;
   clock = refl;
+  signals = refl;
   no_more = λ i less. absurd (omega (arith, less));
 }
 
 -- law: one more
 pub looked_more : {x : WorldOf} {p q r : WorldPass} {id : ℕ} {object : Object} {n : ℕ} → LookedAt x p q id → IsPassOf x.timers r.timers
-    → IsObjectsPass x.objects r.objects → r.clock ≡ q.clock → LooksOn q.timers.known r.timers.known → FindsObject q.objects r.objects id object n
+    → IsObjectsPass x.objects r.objects → r.clock ≡ q.clock → r.signals ≡ q.signals → LooksOn q.timers.known r.timers.known
+    → FindsObject q.objects r.objects id object n
     → turns_told id r.timers.known ≡ n + n → r.objects.knows.pass.id ≡ q.objects.knows.pass.id → LookedAt x p r (id + 1)
-looked_more {x = x} {p = p} {q = q} {r = r} {id = id} {n = n} before timers objects clock looks finds told name = record {
+looked_more {x = x} {p = p} {q = q} {r = r} {id = id} {n = n} before timers objects clock signals looks finds told name = record {
   main = main_ran [] [] (record {
     timers = timers;
     objects = objects;
     clock = subst (IsPassOfClock x.clock) (sym clock) before.main.pass.clock;
     known = subst (λ c. KnowsClock c.knows) (sym clock) before.main.pass.known;
     heard = ap (λ c. c.knows.heard) clock ∙ before.main.pass.heard;
-  }) (record { timers = looks.id; claims = looks.claims; objects = name; clock = ap (λ c. c.knows.pass.id) clock }) refl (λ k d less. absurd (omega (arith, less)))
-      before.main;
+    signals = subst (IsSignalPass x.objects) (sym signals) before.main.pass.signals;
+    queue = subst (λ s. KnowsQueue s.knows) (sym signals) before.main.pass.queue;
+  }) (record {
+    timers = looks.id;
+    claims = looks.claims;
+    objects = name;
+    clock = ap (λ c. c.knows.pass.id) clock;
+    signals = ap (λ s. s.knows.pass.id) signals;
+  }) refl (λ k d less. absurd (omega (arith, less))) before.main;
   timers = record {
     seen = begins_trans before.timers.seen looks.seen;
     mine = looks.mine ∙ before.timers.mine;
@@ -68,6 +80,7 @@ looked_more {x = x} {p = p} {q = q} {r = r} {id = id} {n = n} before timers obje
   };
   opening = finds.reads.opening ∙ before.opening;
   clock = clock ∙ before.clock;
+  signals = signals ∙ before.signals;
   no_more = λ i less. ⊎_elim
       (λ (lower : i < id). omega (arith, before.no_more i lower, begins_length (finds.reads.pass.seen.each i)))
       (λ (same : id ≤ i).

@@ -53,7 +53,7 @@ module _ (id_of : Lane → PassId) where
   leads_same {l} {m} old new same len each leads =
       subst (LeadsFor m) (names_same old new len each) (subst (λ i. LeadsFor i (names old)) (sym same) leads)
 
--- ---- of all three
+-- ---- of each kind
 
 -- passes were split off for a lane
 pub record SplitsLane (x : WorldOf) (p q : WorldPass) (lane : Lane) : Type 0 where
@@ -78,6 +78,7 @@ main_split {lanes = lanes} lane is split = let s = split.splits in record {
   timers = leads_push (λ l. l.pass.timers.known.id) lanes lane (ap (λ k. k.id) s.timers) (ap (λ k. k.id) s.timers_new) is.timers;
   objects = leads_push (λ l. l.pass.objects.knows.pass.id) lanes lane (ap (λ k. k.pass.id) s.objects) (ap (λ k. k.pass.id) s.objects_new) is.objects;
   clock = leads_push (λ l. l.pass.clock.knows.pass.id) lanes lane (ap (λ k. k.pass.id) s.clock) (ap (λ k. k.pass.id) s.clock_new) is.clock;
+  signals = leads_push (λ l. l.pass.signals.knows.pass.id) lanes lane (ap (λ k. k.pass.id) s.signals) (ap (λ k. k.pass.id) s.signals_new) is.signals;
 }
 
 -- a lane with passes that were just split off
@@ -89,6 +90,7 @@ lane_new behind split = record {
   timers = ap (λ k. k.id.split) split.splits.timers_new;
   objects = ap (λ k. k.pass.id.split) split.splits.objects_new;
   clock = ap (λ k. k.pass.id.split) split.splits.clock_new;
+  signals = ap (λ k. k.pass.id.split) split.splits.signals_new;
 }
 
 pub answers_last : {x : WorldOf} {p : WorldPass} (lanes : List Lane) (lane : Lane) → IsMain x p (lanes ++ lane ∷ []) → AnswerFor p lane.pass
@@ -96,6 +98,7 @@ answers_last lanes lane is = record {
   timers = answers_pop (λ l. l.pass.timers.known.id) lanes lane is.timers;
   objects = answers_pop (λ l. l.pass.objects.knows.pass.id) lanes lane is.objects;
   clock = answers_pop (λ l. l.pass.clock.knows.pass.id) lanes lane is.clock;
+  signals = answers_pop (λ l. l.pass.signals.knows.pass.id) lanes lane is.signals;
 }
 
 pub main_takes : {x : WorldOf} {p q : WorldPass} (lanes : List Lane) {lane : Lane} → IsMain x p (lanes ++ lane ∷ []) → IsLaneOf x lane
@@ -106,6 +109,7 @@ main_takes lanes {lane} is of pass takes = record {
   timers = leads_pop (λ l. l.pass.timers.known.id) lanes lane of.timers takes.timers.id is.timers;
   objects = leads_pop (λ l. l.pass.objects.knows.pass.id) lanes lane of.objects takes.objects.id is.objects;
   clock = leads_pop (λ l. l.pass.clock.knows.pass.id) lanes lane of.clock takes.clock.id is.clock;
+  signals = leads_pop (λ l. l.pass.signals.knows.pass.id) lanes lane of.signals takes.signals.id is.signals;
 }
 
 pub main_last : {x : WorldOf} {p : WorldPass} → IsMain x p [] → AreLast p
@@ -113,6 +117,7 @@ main_last is = record {
   timers = covers_last _ is.timers.0 is.timers.1;
   objects = covers_last _ is.objects.0 is.objects.1;
   clock = covers_last _ is.clock.0 is.clock.1;
+  signals = covers_last _ is.signals.0 is.signals.1;
   unclaimed = is.unclaimed;
 }
 
@@ -124,6 +129,7 @@ main_first {p = p} pass first = record {
   timers = none (ap (λ (k : KnownOfTimers). k.id.name) first.timers) (ap (λ (k : KnownOfTimers). k.id.split) first.timers);
   objects = none (ap (λ v. v.pass.id.name) first.objects) (ap (λ v. v.pass.id.split) first.objects);
   clock = none (ap (λ v. v.pass.id.name) first.clock) (ap (λ v. v.pass.id.split) first.clock);
+  signals = none (ap (λ v. v.id.name) first.signals) (ap (λ v. v.id.split) first.signals);
 }
   where
     none : {l : PassId} → l.name ≡ [] → l.split ≡ [] → LeadsFor l []
@@ -138,6 +144,7 @@ main_ran {p = p} {q = q} old new pass keeps len each is = record {
   timers = leads_same (λ l. l.pass.timers.known.id) old new keeps.timers len (λ k d h. (each k d h).timers) is.timers;
   objects = leads_same (λ l. l.pass.objects.knows.pass.id) old new keeps.objects len (λ k d h. (each k d h).objects) is.objects;
   clock = leads_same (λ l. l.pass.clock.knows.pass.id) old new keeps.clock len (λ k d h. (each k d h).clock) is.clock;
+  signals = leads_same (λ l. l.pass.signals.knows.pass.id) old new keeps.signals len (λ k d h. (each k d h).signals) is.signals;
 }
 
 -- a lane behind the first that has run
@@ -149,6 +156,7 @@ lane_ran ran is = record {
   timers = ap (λ (l : PassId). l.split) ran.keeps.timers ∙ is.timers;
   objects = ap (λ (l : PassId). l.split) ran.keeps.objects ∙ is.objects;
   clock = ap (λ (l : PassId). l.split) ran.keeps.clock ∙ is.clock;
+  signals = ap (λ (l : PassId). l.split) ran.keeps.signals ∙ is.signals;
 }
 
 -- who can make calls: the first lane with the first passes, and each lane behind it

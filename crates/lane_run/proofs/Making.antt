@@ -28,12 +28,14 @@ clock_kept : (kind : Kind) (clock : ClockId) → (decl_as kind clock).clock ≡ 
 clock_kept (kinds.Raw context callback) clock = refl
 clock_kept (kinds.Posix base) clock = refl
 clock_kept (kinds.Fd base) clock = refl
+clock_kept (kinds.Queued base) clock = refl
 clock_kept (kinds.Sleeper base) clock = refl
 
 base_there : {bases : ℕ} (kind : Kind) (clock : ClockId) → 0 < bases → IsKindInRange bases kind → (decl_as kind clock).base < bases
 base_there (kinds.Raw context callback) clock some range = some
 base_there (kinds.Posix base) clock some range = range
 base_there (kinds.Fd base) clock some range = range
+base_there (kinds.Queued base) clock some range = range
 base_there (kinds.Sleeper base) clock some range = range
 
 clocks_suit : (ds : List Declaration) (terms : Terms) (i : ℕ) (d : Decl) → i < length (map decl_of ds)
@@ -57,6 +59,7 @@ base_for bases (kinds.Raw contexts.Hard (callbacks.Starts ns base)) range = omeg
 base_for bases (kinds.Raw contexts.Soft (callbacks.Starts ns base)) range = absurd range
 base_for bases (kinds.Posix base) range = omega arith
 base_for bases (kinds.Fd base) range = omega arith
+base_for bases (kinds.Queued base) range = omega arith
 base_for bases (kinds.Sleeper base) range = omega arith
 
 callbacks_suit : (bases : ℕ) (ds : List Declaration) → AllByRecursion (λ x. IsKindInRange bases x.kind) ds
@@ -85,6 +88,7 @@ whole_of s x range is =
       few = omega (arith, bases, range.bases.1, bases_few s.version);
       counts = omega (arith, ap (λ (o : Opening). o.counters) is.timers);
       small = omega (arith, many, range.timers, timers_few s.version);
+      queue = is.queue;
     }
   where
     raw : Decl

@@ -1,5 +1,5 @@
 -- The calls of a script in range can be made in its world.
-use Rattle.std.proofs.Common.{◌≡◌, ◌<◌, ◌≢◌, ℕ, zero, suc, true, List, [], ◌∷◌, length, get_or, arith, refl, sym, ap, ◌∙◌, subst}
+use Rattle.std.proofs.Common.{◌≡◌, ◌<◌, ℕ, zero, suc, true, List, [], ◌∷◌, length, get_or, arith, refl, sym, ap, ◌∙◌, subst}
 use Rattle.std.specs.List.{AllByRecursion}
 use Rattle.std.proofs.lemmas.List.{length-map}
 use Rattle.record_text.proofs.Lists.{All-back, All-front}
@@ -28,7 +28,7 @@ use Rattle.hr_timers.specs.Known.{IsEvacuable}
 use Rattle.hr_timers.proofs.Shifts.{evacuable_on}
 use Rattle.record_text.specs.declared.version.Version.{Version}
 use Rattle.record_text.specs.declared.version.Version.TheVariants as versions
-use Rattle.timer_objects.specs.Calls.{HasSetting}
+use Rattle.timer_objects.specs.Calls.{HasSetting, IsPosixKind}
 use Rattle.script_text.specs.VersionOne.{IsHardCall}
 use Rattle.script_text.specs.Declarations.{declareds_of, kind_of, reach_of, terms_of}
 use Rattle.script_text.specs.declared.script.Callback.{Callback}
@@ -47,14 +47,16 @@ module _ {s : Script} {x : WorldOf} (range : IsInRange s) (is : IsWorldOf s x) w
   -- what holds of each kind that a form's call may be on holds of the object's
   on_object : (t : ℕ) (form : Form) (Q : object_kind.Kind → Type 0) → HasTimerFor s.timers t form
       → ((y : Context) (c : Callback) → suits form (kinds.Raw y c) ≡ true → Q over.Raw) → ((b : ℕ) → suits form (kinds.Posix b) ≡ true → Q over.Posix)
-      → ((b : ℕ) → suits form (kinds.Fd b) ≡ true → Q over.Fd) → ((b : ℕ) → suits form (kinds.Sleeper b) ≡ true → Q over.Sleeper)
+      → ((b : ℕ) → suits form (kinds.Fd b) ≡ true → Q over.Fd) → ((b : ℕ) → suits form (kinds.Queued b) ≡ true → Q over.Queued)
+      → ((b : ℕ) → suits form (kinds.Sleeper b) ≡ true → Q over.Sleeper)
       → (t < length x.objects.decls) × Q (decl_at x.objects t).kind
-  on_object t form Q has raw posix fd sleeper = (object_there has.0, subst Q (sym (declared_over s x t is)) (by_kind (kind_of s t) has.1))
+  on_object t form Q has raw posix fd queued sleeper = (object_there has.0, subst Q (sym (declared_over s x t is)) (by_kind (kind_of s t) has.1))
     where
       by_kind : (k : Kind) → suits form k ≡ true → Q (over_of k)
       by_kind (kinds.Raw y c) e = raw y c e
       by_kind (kinds.Posix b) e = posix b e
       by_kind (kinds.Fd b) e = fd b e
+      by_kind (kinds.Queued b) e = queued b e
       by_kind (kinds.Sleeper b) e = sleeper b e
 
   -- bases may go off line where the script is of a later version than the first
@@ -70,19 +72,29 @@ module _ {s : Script} {x : WorldOf} (range : IsInRange s) (is : IsWorldOf s x) w
   can_call lane (calls.Expire context base budget) ok hard = (base_there ok.0, ok.1)
   can_call lane (calls.Clock write) ok hard = tt
   can_call lane (calls.Settime timer flags value interval) ok hard =
-      on_object timer forms.Settime HasSetting ok (λ y c e. absurd cc) (λ b e. (λ is. cc, λ is. cc)) (λ b e. (λ is. cc, λ is. cc)) (λ b e. absurd cc)
+      on_object timer forms.Settime HasSetting ok (λ y c e. absurd cc) (λ b e. (λ is. cc, λ is. cc)) (λ b e. (λ is. cc, λ is. cc)) (λ b e. (λ is. cc, λ is. cc))
+      (λ b e. absurd cc)
   can_call lane (calls.Gettime timer) ok hard =
-      on_object timer forms.Gettime HasSetting ok (λ y c e. absurd cc) (λ b e. (λ is. cc, λ is. cc)) (λ b e. (λ is. cc, λ is. cc)) (λ b e. absurd cc)
-  can_call lane (calls.Accept timer) ok hard = on_object timer forms.Accept (λ k. k ≡ over.Posix) ok (λ y c e. absurd cc) (λ b e. refl) (λ b e. absurd cc) (λ b e. absurd cc)
-  can_call lane (calls.Overrun timer) ok hard = on_object timer forms.Overrun (λ k. k ≡ over.Posix) ok (λ y c e. absurd cc) (λ b e. refl) (λ b e. absurd cc) (λ b e. absurd cc)
-  can_call lane (calls.Read timer len) ok hard = on_object timer forms.Read (λ k. k ≡ over.Fd) ok (λ y c e. absurd cc) (λ b e. absurd cc) (λ b e. refl) (λ b e. absurd cc)
-  can_call lane (calls.Readable timer) ok hard = on_object timer forms.Readable (λ k. k ≡ over.Fd) ok (λ y c e. absurd cc) (λ b e. absurd cc) (λ b e. refl) (λ b e. absurd cc)
+      on_object timer forms.Gettime HasSetting ok (λ y c e. absurd cc) (λ b e. (λ is. cc, λ is. cc)) (λ b e. (λ is. cc, λ is. cc)) (λ b e. (λ is. cc, λ is. cc))
+      (λ b e. absurd cc)
+  can_call lane (calls.Accept timer) ok hard =
+      on_object timer forms.Accept IsPosixKind ok (λ y c e. absurd cc) (λ b e. tt) (λ b e. absurd cc) (λ b e. tt) (λ b e. absurd cc)
+  can_call lane (calls.Overrun timer) ok hard =
+      on_object timer forms.Overrun IsPosixKind ok (λ y c e. absurd cc) (λ b e. tt) (λ b e. absurd cc) (λ b e. tt) (λ b e. absurd cc)
+  can_call lane (calls.Read timer len) ok hard =
+      on_object timer forms.Read (λ k. k ≡ over.Fd) ok (λ y c e. absurd cc) (λ b e. absurd cc) (λ b e. refl) (λ b e. absurd cc) (λ b e. absurd cc)
+  can_call lane (calls.Readable timer) ok hard =
+      on_object timer forms.Readable (λ k. k ≡ over.Fd) ok (λ y c e. absurd cc) (λ b e. absurd cc) (λ b e. refl) (λ b e. absurd cc) (λ b e. absurd cc)
   can_call lane (calls.Sleep timer flags time) ok hard =
-      on_object timer forms.Sleep (λ k. k ≡ over.Sleeper) ok (λ y c e. absurd cc) (λ b e. absurd cc) (λ b e. absurd cc) (λ b e. refl)
+      on_object timer forms.Sleep (λ k. k ≡ over.Sleeper) ok (λ y c e. absurd cc) (λ b e. absurd cc) (λ b e. absurd cc) (λ b e. absurd cc)
+      (λ b e. refl)
   can_call lane (calls.Interrupt timer) ok hard =
-      on_object timer forms.Interrupt (λ k. k ≡ over.Sleeper) ok (λ y c e. absurd cc) (λ b e. absurd cc) (λ b e. absurd cc) (λ b e. refl)
+      on_object timer forms.Interrupt (λ k. k ≡ over.Sleeper) ok (λ y c e. absurd cc) (λ b e. absurd cc) (λ b e. absurd cc) (λ b e. absurd cc)
+      (λ b e. refl)
   can_call lane (calls.Slept timer) ok hard =
-      on_object timer forms.Slept (λ k. k ≡ over.Sleeper) ok (λ y c e. absurd cc) (λ b e. absurd cc) (λ b e. absurd cc) (λ b e. refl)
+      on_object timer forms.Slept (λ k. k ≡ over.Sleeper) ok (λ y c e. absurd cc) (λ b e. absurd cc) (λ b e. absurd cc) (λ b e. absurd cc)
+      (λ b e. refl)
+  can_call lane calls.Sigwait ok hard = tt
   can_call lane (calls.Offline base heir budget) ok hard = (ok.0, base_there ok.1, ok.2, ok.3, evacuable hard)
   can_call lane (calls.Online base) ok hard = (ok.0, base_there ok.1, evacuable hard)
   can_call lane call ok hard = timer_there ok.0

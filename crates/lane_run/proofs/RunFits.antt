@@ -21,6 +21,7 @@ use Rattle.record_laws.proofs.Ended.{is_ending, is_run}
 use Rattle.round_laws.proofs.LeftByRounds.{left_by_rounds}
 use Rattle.lane_run.proofs.Making.{whole_of}
 use Rattle.record_laws.proofs.ObjectLines.{object_lines_show}
+use Rattle.record_laws.proofs.Signalled.{signals}
 use Rattle.round_laws.proofs.Settled.{before_looks, left_later, only_looks, only_settles, rounds_later}
 use Rattle.record_laws.proofs.BaseLines.{shows_shifts}
 use Rattle.record_laws.proofs.SeenThere.{same_entries, same_shifts}
@@ -55,11 +56,14 @@ of_run s x p r q range world first main run =
         clock = main.pass.clock;
         known = main.pass.known;
         heard = main.pass.heard;
+        signals = main.pass.signals;
+        queue = main.pass.queue;
       };
       last = record {
         timers = (main_last run.of).timers;
         objects = (main_last main).objects;
         clock = (main_last main).clock;
+        signals = (main_last main).signals;
         unclaimed = (main_last run.of).unclaimed;
       };
     } in
@@ -69,7 +73,7 @@ of_run s x p r q range world first main run =
       no_more = λ i less. run.looks.no_more i (subst (λ n. i < n) (sym (ap length world.decls ∙ length-map s.timers decl_of)) less);
     } in
     let record_is = record_from s.version run.shows.sorted s.bases (length s.timers) run.left.answers in
-    let e = ending_of record_is w made.0 made.1 in
+    let e = ending_of record_is w (signals of left) made.0 made.1 in
     let ends = is_ending of left run.shows.in_order run.left.answers made.1 rounds in
     subst (λ y. IsWholeRecord s y q) (sym run.shows.shows) (record {
       fits = run_fits s record_is (is_run of left run.shows.in_order run.left.answers made.1 rounds);

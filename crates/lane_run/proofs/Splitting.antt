@@ -30,7 +30,7 @@ pub record SplitsSoFar (x : WorldOf) (r : Round) (p : WorldPass) (left : LeftOf)
 pub splits_none : {x : WorldOf} {r : Round} {p : WorldPass} {left : LeftOf} → IsMain x p [] → SplitsSoFar x r p left 1 p []
 splits_none {r = r} is = record {
   main = is;
-  split = record { timers = (refl, refl); objects = (refl, refl); clock = (refl, refl) };
+  split = record { timers = (refl, refl); objects = (refl, refl); clock = (refl, refl); signals = (refl, refl) };
   lanes = λ k d h. absurd (omega (arith, h));
   begins = λ k d h. absurd (omega (arith, h));
   behind = omega arith;
@@ -67,6 +67,7 @@ splits_more {x} {r} {p} {left} {i} {lanes = lanes} lane here calls split fresh s
         timers = (ap (λ k. k.seen) s.timers ∙ so_far.split.timers.0, ap (λ k. k.mine) s.timers ∙ so_far.split.timers.1);
         objects = (ap (λ k. k.pass.seen) s.objects ∙ so_far.split.objects.0, ap (λ k. k.pass.mine) s.objects ∙ so_far.split.objects.1);
         clock = (ap (λ k. k.pass.seen) s.clock ∙ so_far.split.clock.0, ap (λ k. k.pass.mine) s.clock ∙ so_far.split.clock.1);
+        signals = (ap (λ k. k.pass.seen) s.signals ∙ so_far.split.signals.0, ap (λ k. k.pass.mine) s.signals ∙ so_far.split.signals.1);
       };
       lanes = All-push (λ (l : Lane). IsLaneOf x l) lanes lane so_far.lanes
           (lane_new (subst (λ n. 0 < n) (sym (ap (λ (l : Label). l.lane) fresh.label)) so_far.behind) split);
@@ -78,6 +79,7 @@ splits_more {x} {r} {p} {left} {i} {lanes = lanes} lane here calls split fresh s
         timers = (ap (λ k. k.seen) s.timers_new ∙ so_far.split.timers.0, ap (λ k. k.mine) s.timers_new);
         objects = (ap (λ k. k.pass.seen) s.objects_new ∙ so_far.split.objects.0, ap (λ k. k.pass.mine) s.objects_new);
         clock = (ap (λ k. k.pass.seen) s.clock_new ∙ so_far.split.clock.0, ap (λ k. k.pass.mine) s.clock_new);
+        signals = (ap (λ k. k.pass.seen) s.signals_new ∙ so_far.split.signals.0, ap (λ k. k.pass.mine) s.signals_new);
         notes = fresh.notes;
         answers = fresh.answers;
       });

@@ -3,31 +3,29 @@ ghost use Rattle.std.specs.Prelude.{◌≡◌, ◌≤◌, ◌<◌, ◌*◌, [], 
 ghost use Rattle.hr_timers.specs.Known.{IsPassOf};
 ghost use Rattle.expire_pass.specs.Handlers.{KeepsPass};
 ghost use Rattle.expire_pass.specs.Handlers.{CanServe};
-ghost use Rattle.timer_objects.specs.Firings.{firing as firing_meaning, ready_of};
-ghost use Rattle.timer_objects.specs.Known.{IsObjectsPass};
+ghost use Rattle.timer_objects.specs.QueuedFirings.{queued_firing, queued_ready_of};
 ghost use Rattle.script_text.specs.CallLines.{most_budget};
 ghost use Rattle.lane_world.specs.Called.{CallsExpire, LeavesLane, ReadsClock, claimed_in, expire_told, is_claim_event, lane_of};
-ghost use Rattle.lane_world.specs.Expiries.{KeepsName, RunsGated, RunsWith};
-ghost use Rattle.lane_world.specs.Worlds.{ArePassesOf};
+ghost use Rattle.lane_world.specs.Expiries.{RunsGated, RunsWith};
+ghost use Rattle.lane_world.specs.Worlds.{ArePassesOf, KeepPasses};
 
 use crate::gate::{Gate, Point};
 use crate::world::World;
-use counted_row::RowPass;
 use expire_pass::{ExpireAnswer, Handler, Log, Restart};
 use hr_timers::{Claim, Pass, Timers};
 use ktime::Reading;
 use lane_notes::{Notes, note_object_receipts, note_receipts};
-use lane_world::Lane;
+use lane_world::{Lane, WorldPass};
 use record_text::{Answer, ItemList, Label};
 use seq_timer::{Context, Event};
 use std::alloc::{AllocError, Global};
 use std::sync::Wait;
-use timer_objects::{Firing, FiringWith, Object, ObjectLog};
+use timer_objects::{ObjectLog, QueuedFiring, QueuedFiringWith};
 
 /// The handler of objects and callbacks, with the gate's point before each function.
 #[derive(Drop)]
 struct Gated<'a, 'b, 'g, G> {
-    firing: &'a mut FiringWith<'b, Log, ObjectLog>,
+    firing: &'a mut QueuedFiringWith<'b, Log, ObjectLog>,
     gate: &'g G,
     label: Label,
 }
@@ -35,10 +33,10 @@ struct Gated<'a, 'b, 'g, G> {
 impl<G: Gate> Handler for Gated<'_, '_, '_, G> {
     ghost use Rattle.std.specs.Prelude.{◌+◌, length};
     ghost use Rattle.timer_objects.specs.Callbacks.{bases_of};
-    ghost use Rattle.timer_objects.specs.Firings.{ready_of};
+    ghost use Rattle.timer_objects.specs.QueuedFirings.{queued_ready_of};
     ghost use Rattle.lane_world.specs.Expiries.{FiresLent};
 
-    ghost meaning = { record { did = λ o h h' v w c reading restart. FiresLent o h.firing.ghost_name h'.firing.ghost_name h.firing.now h'.firing.now v w c reading restart; ready = λ h. ready_of h.firing.now; timers = λ h. length h.firing.now.objects.now.decls; bases = λ h. bases_of h.firing.now.callbacks.now; counters = λ h. length h.firing.now.objects.now.decls + 1 } };
+    ghost meaning = { record { did = λ o h h' v w c reading restart. FiresLent o h.firing.ghost_name h'.firing.ghost_name h.firing.now h'.firing.now v w c reading restart; ready = λ h. queued_ready_of h.firing.now; timers = λ h. length h.firing.now.objects.now.decls; bases = λ h. bases_of h.firing.now.callbacks.now; counters = λ h. length h.firing.now.objects.now.decls + 1 } };
 
     fn fire<R: Wait>(
         &mut self,
@@ -93,8 +91,7 @@ pub(crate) fn expire<R: Wait, G: Gate>(
         world,
         gate,
         lane.label,
-        &mut lane.pass.timers,
-        &mut lane.pass.objects,
+        &mut lane.pass,
         context,
         base,
         budget,
@@ -107,33 +104,36 @@ pub(crate) fn expire<R: Wait, G: Gate>(
     Ok(answer_of(answer, reading.stamp, fired))
 }
 
-/// The run itself, by these passes.
+/// The run itself.
 fn run_gated<R: Wait, G: Gate>(
     rt: &R,
     alloc: Global,
     world: &World,
     gate: &G,
     label: Label,
-    pass: &mut Pass,
-    objects_pass: &mut RowPass<Object>,
+    pass: &mut WorldPass,
     context: Context,
     base: u32,
     budget: u64,
     reading: Reading,
 ) -> Result<Expired, AllocError>
-    requires timers { IsPassOf world.now.timers pass.old }
-    requires objects { IsObjectsPass world.now.objects objects_pass.old }
+    requires pass { ArePassesOf world.now pass.old }
     requires base { base < world.now.timers.about.bases }
     requires budget { budget ≤ most_budget }
-    ensures timers { IsPassOf world.now.timers pass.new }
-    ensures objects { IsObjectsPass world.now.objects objects_pass.new }
-    ensures keeps { KeepsPass pass.old.known pass.new.known }
-    ensures name { KeepsName objects_pass.old objects_pass.new }
-    ensures runs { IfOk result (λ e. RunsGated world.now pass.old.known objects_pass.old pass.new.known objects_pass.new context base budget reading e.log.receipts e.callback_log.receipts e.object_log.receipts e.answer) }
+    ensures pass { ArePassesOf world.now pass.new }
+    ensures keeps { KeepPasses pass.old pass.new }
+    ensures clock { pass.new.clock ≡ pass.old.clock }
+    ensures runs { IfOk result (λ e. RunsGated world.now pass.old pass.new context base budget reading e.log.receipts e.callback_log.receipts e.object_log.receipts e.answer) }
 {
     let mut log = Log::make(alloc);
     log.reserve(2 * budget as usize)?;
-    let mut firing = Firing::make(alloc, &world.objects, objects_pass, &world.callbacks);
+    let mut firing = QueuedFiring::make(
+        alloc,
+        &world.objects,
+        &mut pass.objects,
+        &mut pass.signals,
+        &world.callbacks,
+    );
     if firing.reserve(budget as usize).is_err() {
         let _ = firing.into_logs();
         return Err(AllocError);
@@ -144,7 +144,7 @@ fn run_gated<R: Wait, G: Gate>(
         timers,
         gate,
         label,
-        pass,
+        &mut pass.timers,
         context,
         base,
         budget,
@@ -172,14 +172,14 @@ fn run_with<R: Wait, G: Gate>(
     base: u32,
     budget: u64,
     reading: Reading,
-    firing: &mut FiringWith<'_, Log, ObjectLog>,
+    firing: &mut QueuedFiringWith<'_, Log, ObjectLog>,
     log: &mut Log,
 ) -> ExpireAnswer
     requires timers { IsPassOf timers.now pass.old }
     requires base { base < timers.now.about.bases }
     requires room { 2 * budget ≤ log.old.spare }
-    requires ready { budget ≤ ready_of firing.old }
-    requires suits { CanServe firing_meaning timers.now.about firing.old }
+    requires ready { budget ≤ queued_ready_of firing.old }
+    requires suits { CanServe queued_firing timers.now.about firing.old }
     ensures timers { IsPassOf timers.now pass.new }
     ensures keeps { KeepsPass pass.old.known pass.new.known }
     ensures runs { RunsWith timers.now.about context base reading budget pass.old.known firing.old log.old.receipts pass.new.known firing.new log.new.receipts result }

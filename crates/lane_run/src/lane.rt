@@ -12,6 +12,7 @@ use crate::object_calls::{
     accept, gettime, interrupt, overrun, read, readable, settime, sleep, slept,
 };
 use crate::reading::read_clock;
+use crate::signals::sigwait;
 use crate::timer_calls::{cancel, look, start, write};
 use crate::world::World;
 use ktime::Reading;
@@ -137,6 +138,7 @@ fn make<R: Wait, G: Gate>(
         | Call::Readable { .. }
         | Call::Sleep { .. }
         | Call::Interrupt { .. }
+        | Call::Sigwait
         | Call::Offline { .. } => make_reading(rt, alloc, world, gate, lane, call),
     }
 }
@@ -203,6 +205,7 @@ fn make_then<R: Wait, G: Gate>(
             sleep(rt, alloc, world, lane, timer, flags, time, reading)
         }
         Call::Interrupt { timer } => interrupt(rt, alloc, world, lane, timer, reading),
+        Call::Sigwait => sigwait(rt, alloc, world, lane, reading),
         Call::Offline { base, heir, budget } => {
             offline(rt, alloc, world, lane, base, heir, budget, reading)
         }

@@ -15,5 +15,6 @@ mod object_calls;
 mod reading;
 mod rounds;
 mod running;
+mod signals;
 mod timer_calls;
 mod world;

@@ -13,7 +13,7 @@ ghost use Rattle.timer_objects.specs.declared.answers.Overrun.{Overrun};
 ghost use Rattle.timer_objects.specs.declared.answers.Slept.{Slept};
 ghost use Rattle.timer_objects.specs.declared.answers.Readable.{Readable};
 ghost use Rattle.record_text.specs.declared.record.Answer.TheVariants as answers;
-ghost use Rattle.lane_world.specs.Called.{CallsLook, CallsObject, LeavesLane, LeavesRest, ReadsClock, accept_told, gettime_told, interrupt_told, lane_of, read_told, settime_told, sleep_told, slept_told, with_done, IsSettable, IsOfKind};
+ghost use Rattle.lane_world.specs.Called.{CallsLook, CallsObject, IsPosixTimer, LeavesLane, LeavesRest, ReadsClock, accept_told, gettime_told, interrupt_told, lane_of, read_told, settime_told, sleep_told, slept_told, with_done, IsSettable, IsOfKind};
 ghost use Rattle.lane_world.specs.Worlds.{ArePassesOf};
 
 use crate::world::World;
@@ -30,13 +30,13 @@ use timer_setting::{AcceptAnswer, InterruptAnswer, ReadAnswer, SettimeAnswer, Sl
 
 /// The logs of one call, with room for what it can note.
 #[derive(Drop)]
-struct Logs {
-    timers: Log,
-    objects: ObjectLog,
+pub(crate) struct Logs {
+    pub(crate) timers: Log,
+    pub(crate) objects: ObjectLog,
 }
 
 /// Logs with room for a cancel and a start of the timer, with an Out to each base that it is sent to, and the entry of the object.
-fn make_logs(alloc: Global) -> Result<Logs, AllocError>
+pub(crate) fn make_logs(alloc: Global) -> Result<Logs, AllocError>
     ensures empty { IfOk result (λ l. (l.timers.receipts ≡ []) × (l.objects.receipts ≡ [])) }
     ensures room { IfOk result (λ l. (68 ≤ l.timers.spare) × (1 ≤ l.objects.spare)) }
 {
@@ -50,7 +50,7 @@ fn make_logs(alloc: Global) -> Result<Logs, AllocError>
 }
 
 /// Notes what a call has logged.
-fn note_logs(lane: &mut Lane, logs: &Logs) -> Result<(), AllocError>
+pub(crate) fn note_logs(lane: &mut Lane, logs: &Logs) -> Result<(), AllocError>
     ensures rest { LeavesRest lane.old lane.new }
     ensures notes { OnOk result (lane.new.notes ≡ with_done lane.old.notes lane.old.label logs.now.timers.receipts logs.now.objects.receipts) }
 {
@@ -172,7 +172,7 @@ pub(crate) fn accept<R: Wait>(
 ) -> Result<Answer, AllocError>
     requires pass { ArePassesOf world.now lane.old.pass }
     requires reading { ReadsClock lane.old.pass lane.old.pass reading }
-    requires kind { IsOfKind world.now over.Posix timer }
+    requires kind { IsPosixTimer world.now timer }
     ensures leaves { LeavesLane world.now lane.old lane.new }
     ensures call { IfOk result (λ a. (s : AcceptAnswer) × (a ≡ accept_told s) × CallsObject world.now (lane_of lane.old) (lane_of lane.new) a (λ old new reading. Accepts world.now.objects world.now.timers.about old new timer reading s)) }
 {
@@ -233,7 +233,7 @@ pub(crate) fn overrun<R: Wait>(
     timer: u32,
 ) -> Answer
     requires pass { ArePassesOf world.now lane.old.pass }
-    requires kind { IsOfKind world.now over.Posix timer }
+    requires kind { IsPosixTimer world.now timer }
     ensures leaves { LeavesLane world.now lane.old lane.new }
     ensures call { (found : Overrun) × CallsLook world.now (lane_of lane.old) (lane_of lane.new) result (λ old new. LooksOverrun old new timer found) (answers.Overrun found.overrun found.stamp) }
 {

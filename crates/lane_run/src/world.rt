@@ -54,7 +54,8 @@ impl World {
         let decls = decls_of(alloc, declared)?;
         let callbacks = callbacks_of(alloc, declared)?;
         let (clock, clock_pass) = SharedClock::make(alloc)?;
-        let (objects, objects_pass) = match Objects::make(alloc, &decls, script.limit) {
+        let made = Objects::make_queued(alloc, &decls, script.limit, SIGNALS);
+        let (objects, objects_pass, signal_pass) = match made {
             Ok(made) => made,
             Err(fault) => {
                 clock.close(clock_pass);
@@ -73,12 +74,13 @@ impl World {
                     timers: pass,
                     objects: objects_pass,
                     clock: clock_pass,
+                    signals: signal_pass,
                 };
                 Ok((world, passes))
             }
             Err(fault) => {
                 clock.close(clock_pass);
-                objects.close(objects_pass);
+                objects.close_queued(objects_pass, signal_pass);
                 Err(fault)
             }
         }
@@ -88,11 +90,12 @@ impl World {
     pub fn close(self, pass: WorldPass)
         requires pass { ArePassesOf self pass }
         requires last { AreLast pass }
-        // The passes have each entry of each timer, base and object once, and the last one's writes are all that the clock took.
+        // The passes have each entry of each timer, base and object and each push and pop once, and the last one's writes are all that the clock took.
         ensures timers { HasEachPlace self.timers.about pass.timers.known }
         ensures bases { HasEachShift self.timers.about pass.timers.known }
         ensures objects { HasEach pass.objects.knows.pass.seen pass.objects.knows.pass.mine }
         ensures clock { pass.clock.knows.heard ≡ [] → KnowsClock pass.clock.knows }
+        ensures signals { HasEach pass.signals.knows.pass.seen pass.signals.knows.pass.mine }
     {
         let World {
             timers,
@@ -104,9 +107,10 @@ impl World {
             timers: timers_pass,
             objects: objects_pass,
             clock: clock_pass,
+            signals: signal_pass,
         } = pass;
         timers.close(timers_pass);
-        objects.close(objects_pass);
+        objects.close_queued(objects_pass, signal_pass);
         clock.close(clock_pass);
     }
 
@@ -120,6 +124,7 @@ impl World {
             timers: self.timers.split(&mut main.timers),
             objects: self.objects.split(&mut main.objects),
             clock: self.clock.split(&mut main.clock),
+            signals: self.objects.signals().split(&mut main.signals),
         }
     }
 
@@ -134,12 +139,17 @@ impl World {
             timers,
             objects,
             clock,
+            signals,
         } = other;
         self.timers.retire(&mut main.timers, timers);
         self.objects.join(&mut main.objects, objects);
         self.clock.take_in(rt, &mut main.clock, clock);
+        self.objects.signals().join(&mut main.signals, signals);
     }
 }
+
+/// How many signals may wait.
+const SIGNALS: usize = 64;
 
 /// How many entries past its limit may move a timer off a base that goes off line, in version 2 of the script.
 const REACH: u64 = 1024;
@@ -183,7 +193,9 @@ fn declared_as(timer: Declaration) -> Declared
 {
     let context = match timer.kind {
         Kind::Raw { context, .. } => context,
-        Kind::Posix { .. } | Kind::Fd { .. } | Kind::Sleeper { .. } => Context::Hard,
+        Kind::Posix { .. } | Kind::Fd { .. } | Kind::Queued { .. } | Kind::Sleeper { .. } => {
+            Context::Hard
+        }
     };
     Declared {
         clock: timer.clock,
@@ -206,6 +218,7 @@ fn decl_of(timer: Declaration) -> Decl
         Kind::Raw { .. } => (timer_objects::Kind::Raw, 0),
         Kind::Posix { base } => (timer_objects::Kind::Posix, base),
         Kind::Fd { base } => (timer_objects::Kind::Fd, base),
+        Kind::Queued { base } => (timer_objects::Kind::Queued, base),
         Kind::Sleeper { base } => (timer_objects::Kind::Sleeper, base),
     };
     Decl {
@@ -239,7 +252,7 @@ fn callback_of(kind: Kind) -> timer_objects::Callback
             Callback::Cancels => timer_objects::Callback::Cancels,
             Callback::Starts { ns, base } => timer_objects::Callback::Starts(ns, base),
         },
-        Kind::Posix { .. } | Kind::Fd { .. } | Kind::Sleeper { .. } => {
+        Kind::Posix { .. } | Kind::Fd { .. } | Kind::Queued { .. } | Kind::Sleeper { .. } => {
             timer_objects::Callback::Once
         }
     }

@@ -22,6 +22,7 @@ abbrev pub over_of : Kind → object_kind.Kind
 over_of (kinds.Raw context callback) = over.Raw
 over_of (kinds.Posix base) = over.Posix
 over_of (kinds.Fd base) = over.Fd
+over_of (kinds.Queued base) = over.Queued
 over_of (kinds.Sleeper base) = over.Sleeper
 
 decl_as-parts : (k : Kind) (clock : ClockId) → ((decl_as k clock).kind ≡ over_of k) × ((decl_as k clock).base ≡ base_of k)

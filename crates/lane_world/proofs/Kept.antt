@@ -37,13 +37,21 @@ use Rattle.timer_objects.specs.Known.{row_of, seen_of}
 use Rattle.lane_world.specs.Called.{LaneOf}
 use Rattle.lane_world.specs.Worlds.{IsWhole, IsWorldOf, WorldOf}
 use Rattle.lane_world.specs.declared.WorldPass.{WorldPass}
+use Rattle.signal_queue.specs.Rules.{turns}
+use Rattle.signal_queue.specs.declared.signal.Turn.{Turn}
+use Rattle.run_history.specs.Runs.{IsOfQueued}
+use Rattle.run_history.specs.Promises.{GoesOnSignals}
 use Rattle.lane_world.specs.Runs.{AreObjectLines, ObjectMove, ShowsObjectCall}
 
 -- ---- what passes have seen
 
 -- how much a lane's passes have seen of each list
 abbrev pub seen_by : WorldPass → Seen
-seen_by p = record { clock = length (writes p.clock.knows); moves = length p.timers.known.seen }
+seen_by p = record {
+  clock = length (writes p.clock.knows);
+  moves = length p.timers.known.seen;
+  signals = length (turns p.signals.knows);
+}
 
 -- of each list what was seen goes on, and the objects are the same
 pub record SeesOn (p q : WorldPass) : Type 0 where
@@ -51,6 +59,7 @@ pub record SeesOn (p q : WorldPass) : Type 0 where
   pub clock : Begins (writes p.clock.knows) (writes q.clock.knows)
   pub objects : GoesOn p.objects.knows.pass.seen q.objects.knows.pass.seen
   pub opening : q.objects.knows.opening ≡ p.objects.knows.opening
+  pub signals : Begins (turns p.signals.knows) (turns q.signals.knows)
 
 -- what a lane kept of a call, by its passes before and after it, its receipts and its actions
 abbrev pub log_of : WorldPass → WorldPass → List PlacedEntry → Trace → CallLog
@@ -59,6 +68,7 @@ log_of p q notes trace = record {
   trace = trace;
   moves = (length p.timers.known.seen, length q.timers.known.seen);
   clock = (length (writes p.clock.knows), length (writes q.clock.knows));
+  signals = (length (turns p.signals.knows), length (turns q.signals.knows));
 }
 
 -- ---- the runs in which a lane may still end
@@ -75,6 +85,7 @@ pub record Follows (p : WorldPass) (e : Ending) : Type 0 where
   pub timers : promises.GoesOn p.timers.known.seen e
   pub clock : GoesOnClock (writes p.clock.knows) e
   pub objects : (i : ℕ) → FollowsObject e i (seen_of p.objects i)
+  pub signals : GoesOnSignals (turns p.signals.knows) e
 
 -- ---- notes
 
@@ -260,6 +271,23 @@ pub record StandAt (q : WorldPass) (log : CallLog) : Type 0 where
   pub made : AllByRecursion (IsMade q.timers.known.seen) log.notes
   pub shows : (e : Ending) → Follows q e → AllByRecursion (ShowsEntry e.run e.order) log.notes
 
+-- ---- pushes and pops of signals
+
+-- the place of a push or a pop behind so many
+abbrev pub turn_place : ℕ × Turn → ℕ × ℕ
+turn_place x = (0, x.0 + 1)
+
+-- a push or a pop stands in what a pass has seen, and a push is of a queued timer's signal
+pub record IsTurnSeen (s : Script) (seen : List Turn) (x : ℕ × Turn) : Type 0 where
+  pub there : slice_get seen x.0 ≡ Some x.1
+  pub of : IsOfQueued s x.1
+
+-- a call's pushes and pops stand in what was seen, at rising places in its span
+pub record AreTurnsOf (s : Script) (q : WorldPass) (log : CallLog) : Type 0 where
+  pub rise : Rises log.signals.0 (map (λ x. x.0) log.trace.turns)
+  pub below : AllByRecursion (λ x. x.0 < log.signals.1) log.trace.turns
+  pub each : AllByRecursion (IsTurnSeen s (turns q.signals.knows)) log.trace.turns
+
 -- ---- a call
 
 -- the script's world, of which the lane's passes are, and its call at the lane's label
@@ -287,6 +315,9 @@ pub record KeepsCall (s : Script) (l : LaneOf) (call : Call) (a : Answer) (m : L
   pub places : AddsPlaces (length s.timers) l.pass m.pass added
   pub seen : (k : NoteKind) → AllByRecursion (IsNoteSeen k m.pass (log_of l.pass m.pass notes trace)) (list_of k added)
   pub stand : StandAt m.pass (log_of l.pass m.pass notes trace)
+  -- its pushes and pops are all that its pass of the queue has added
+  pub turned : AreTurnsOf s m.pass (log_of l.pass m.pass notes trace)
+  pub turn_places : m.pass.signals.knows.pass.mine ≡ l.pass.signals.knows.pass.mine ++ map turn_place trace.turns
   -- the promise
   pub promised : IsPromised s l.label.lane l.label.call (log_of l.pass m.pass notes trace) (Follows m.pass) call a (seen_by l.pass) (seen_by m.pass)
 
@@ -299,6 +330,7 @@ pub record KeepsTurn (s : Script) (l : LaneOf) (call : Call) (a : Answer) (m : L
   pub timers : begun.pass.timers.known.mine ≡ l.pass.timers.known.mine
   pub objects : begun.pass.objects.knows.pass.mine ≡ l.pass.objects.knows.pass.mine
   pub clock : begun.pass.clock.knows.pass.mine ≡ l.pass.clock.knows.pass.mine
+  pub signals : begun.pass.signals ≡ l.pass.signals
   pub kept : KeepsCall s begun call a m
   pub read : (e : Ending) → Follows m.pass e → HasLog e l.label (log_of begun.pass m.pass kept.notes kept.trace) → IsJoined s e
       → FitsCall (witness_of s e) l.label call a (seen_by begun.pass) (seen_by m.pass)

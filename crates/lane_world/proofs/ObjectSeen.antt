@@ -3,13 +3,14 @@ use Rattle.std.proofs.Common.{◌≡◌, ℕ, List, [], ◌∷◌, ◌++◌, len
 use Rattle.counted_row.specs.Meaning.{Leads}
 use Rattle.counted_row.specs.Views.{StateAfter}
 use Rattle.posix_timer.specs.States.{posix_opening}
+use Rattle.posix_timer.specs.Queued.{queued_opening}
 use Rattle.timer_fd.specs.States.{fd_opening}
 use Rattle.sleeper.specs.States.{sleeper_opening}
 use Rattle.timer_setting.specs.StepTables.{after_calls, AnsweredCall, AreCalls, StepTable}
 use Rattle.timer_objects.specs.Meaning.{object_meaning, opened_objects}
 use Rattle.timer_objects.specs.Steps.{opened_object}
 use Rattle.timer_objects.proofs.Counting.{opened_at}
-use Rattle.timer_objects.proofs.KindOfObject.{KindOfObject, fd_objects, posix_objects, raw_leads, sleeper_objects}
+use Rattle.timer_objects.proofs.KindOfObject.{KindOfObject, fd_objects, posix_objects, queued_objects, raw_leads, sleeper_objects}
 use Rattle.timer_objects.specs.declared.object.Object.TheVariants as objects
 use Rattle.timer_setting.specs.declared.object_call.ObjectCall.{ObjectCall}
 use Rattle.timer_setting.specs.declared.object_call.ObjectReply.{ObjectReply}
@@ -17,7 +18,7 @@ use Rattle.record_text.specs.declared.record.ClockLine.{ClockLine}
 use Rattle.record_text.specs.declared.record.ObjectLine.{ObjectLine}
 use Rattle.run_history.specs.ObjectEntries.{object_entry_shown}
 use Rattle.script_text.specs.Declarations.{clock_of, kind_of}
-use Rattle.run_history.specs.Objects.{fd_after, lines_of_object, posix_after, sleeper_after}
+use Rattle.run_history.specs.Objects.{fd_after, lines_of_object, posix_after, queued_after, sleeper_after}
 use Rattle.script_text.specs.declared.script.Kind.TheVariants as kinds
 use Rattle.script_text.specs.declared.script.Script.{Script}
 use Rattle.run_history.specs.Runs.{Ending}
@@ -77,6 +78,7 @@ abbrev pub object_after : Script → RunRecord → ℕ → ℕ → Kind → Obje
 object_after s r i n (kinds.Raw context callback) = objects.Raw
 object_after s r i n (kinds.Posix base) = objects.Posix (posix_after s r i base n)
 object_after s r i n (kinds.Fd base) = objects.Fd (fd_after s r i base n)
+object_after s r i n (kinds.Queued base) = objects.Queued (queued_after s r i base n)
 object_after s r i n (kinds.Sleeper base) = objects.Sleeper (sleeper_after s r i base n)
 
 module _ (s : Script) (x : WorldOf) (world : IsWorldOf s x) (i : ℕ) (seen : List ObjectMove) (now : Object)
@@ -104,6 +106,9 @@ module _ (s : Script) (x : WorldOf) (world : IsWorldOf s x) (i : ℕ) (seen : Li
         by_kind (kinds.Fd base) is =
             leads_to fd_objects e.run.clock (fd_opening (clock_of s i) base s.limit) seen follows.goes_on.rest (lines_of_object e.run i)
             now (leads_from (kinds.Fd base) is) shown
+        by_kind (kinds.Queued base) is =
+            leads_to queued_objects e.run.clock (queued_opening (clock_of s i) base s.limit) seen follows.goes_on.rest
+            (lines_of_object e.run i) now (leads_from (kinds.Queued base) is) shown
         by_kind (kinds.Sleeper base) is =
             leads_to sleeper_objects e.run.clock (sleeper_opening (clock_of s i) base s.limit) seen follows.goes_on.rest
             (lines_of_object e.run i) now (leads_from (kinds.Sleeper base) is) shown

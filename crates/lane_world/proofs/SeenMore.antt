@@ -20,12 +20,16 @@ use Rattle.pass_names.proofs.Passes.{begins_length, begins_trans}
 use Rattle.seq_timer.specs.declared.system.SystemEntry.{SystemEntry}
 use Rattle.run_history.proofs.Owners.{count-append}
 use Rattle.lane_world.specs.Runs.{ObjectMove}
-use Rattle.lane_world.proofs.Kept.{seen_by, SeesOn, FollowsObject, Follows, NoteKind, NoteOf, IsNoteSeen, StandAt, EntryNotes, LookNotes, ObjectNotes, SkipNotes, BaseNotes, WriteNotes}
+use Rattle.signal_queue.specs.Rules.{turns}
+use Rattle.script_text.specs.declared.script.Script.{Script}
+use Rattle.lane_world.proofs.PartLists.{each_weaker}
+use Rattle.lane_world.proofs.Kept.{AreTurnsOf, seen_by, SeesOn, FollowsObject, Follows, NoteKind, NoteOf, IsNoteSeen, StandAt, EntryNotes, LookNotes, ObjectNotes, SkipNotes, BaseNotes, WriteNotes}
 
 -- a lane has seen no less
 pub record IsNoLess (before after : Seen) : Type 0 where
   pub clock : before.clock ≤ after.clock
   pub moves : before.moves ≤ after.moves
+  pub signals : before.signals ≤ after.signals
 
 -- ---- passes that have seen more than others
 
@@ -50,20 +54,22 @@ pub record SeesMore (p q : WorldPass) : Type 0 where
   pub timers : Begins p.timers.known.seen q.timers.known.seen
   pub clock : Begins (writes p.clock.knows) (writes q.clock.knows)
   pub objects : (i : ℕ) → Begins (seen_of p.objects i) (seen_of q.objects i)
+  pub signals : Begins (turns p.signals.knows) (turns q.signals.knows)
 
 -- ---- which have seen more
 
 -- where they have seen the same
 more_equal : {p q : WorldPass} → q.timers.known.seen ≡ p.timers.known.seen → q.objects.knows.pass.seen ≡ p.objects.knows.pass.seen
-    → q.clock.knows.pass.seen ≡ p.clock.knows.pass.seen → SeesMore p q
-more_equal timers objects clock = record {
+    → q.clock.knows.pass.seen ≡ p.clock.knows.pass.seen → q.signals.knows.pass.seen ≡ p.signals.knows.pass.seen → SeesMore p q
+more_equal timers objects clock signals = record {
   timers = begins_same timers;
   clock = begins_same (ap (λ seen. entries 0 seen) clock);
   objects = λ i. begins_same (ap (λ seen. entries i seen) objects);
+  signals = begins_same (ap (λ seen. entries 0 seen) signals);
 }
 
 pub more_same : {p : WorldPass} → SeesMore p p
-more_same = more_equal refl refl refl
+more_same = more_equal refl refl refl refl
 
 -- twice more
 pub more_trans : {p q r : WorldPass} → SeesMore p q → SeesMore q r → SeesMore p r
@@ -71,33 +77,44 @@ more_trans one two = record {
   timers = begins_trans one.timers two.timers;
   clock = begins_trans one.clock two.clock;
   objects = λ i. begins_trans (one.objects i) (two.objects i);
+  signals = begins_trans one.signals two.signals;
 }
 
 -- a lane's passes after a call
 pub more_called : {p q : WorldPass} → SeesOn p q → SeesMore p q
-more_called sees = record { timers = sees.timers; clock = sees.clock; objects = λ i. sees.objects.each i }
+more_called sees = record { timers = sees.timers; clock = sees.clock; objects = λ i. sees.objects.each i; signals = sees.signals }
 
 -- passes that others were split off, as the first lane begins a round by them
 pub more_split : {p q : WorldPass} → HasSplit p q → SeesMore p q
-more_split split = more_equal split.timers.0 split.objects.0 split.clock.0
+more_split split = more_equal split.timers.0 split.objects.0 split.clock.0 split.signals.0
 
 -- a lane's passes at the begin of a round
 pub more_begun : {p : WorldPass} {left : LeftOf} {lane : Lane} → BeginsRound p left lane → SeesMore p lane.pass
-more_begun begins = more_equal begins.timers.0 begins.objects.0 begins.clock.0
+more_begun begins = more_equal begins.timers.0 begins.objects.0 begins.clock.0 begins.signals.0
 
 -- law: passes that have taken in others have seen more than before
 pub more_taken : {p other q : WorldPass} → TakesInPass p other q → SeesMore p q
-more_taken takes = record { timers = takes.timers.seen; clock = takes.clock.seen.each 0; objects = λ i. takes.objects.seen.each i }
+more_taken takes = record {
+  timers = takes.timers.seen;
+  clock = takes.clock.seen.each 0;
+  objects = λ i. takes.objects.seen.each i;
+  signals = takes.signals.seen.each 0;
+}
 
 -- and than those have that they took in
 pub more_heard : {p other q : WorldPass} → TakesInPass p other q → SeesMore other q
-more_heard takes = record { timers = takes.timers.heard; clock = takes.clock.heard.each 0; objects = λ i. takes.objects.heard.each i }
+more_heard takes = record {
+  timers = takes.timers.heard;
+  clock = takes.clock.heard.each 0;
+  objects = λ i. takes.objects.heard.each i;
+  signals = takes.signals.heard.each 0;
+}
 
 -- ---- what follows of it
 
 -- law: so they have seen no less
 pub no_less : {p q : WorldPass} → SeesMore p q → IsNoLess (seen_by p) (seen_by q)
-no_less more = record { clock = begins_length more.clock; moves = begins_length more.timers }
+no_less more = record { clock = begins_length more.clock; moves = begins_length more.timers; signals = begins_length more.signals }
 
 -- law: a run that goes on from what the ones have seen goes on from what the others have, of an object and of all
 pub follows_object : {e : Ending} {i : ℕ} {xs ys : List ObjectMove} → Begins xs ys → FollowsObject e i ys → FollowsObject e i xs
@@ -109,6 +126,7 @@ follows_less more follows = record {
   timers = goes_before more.timers follows.timers;
   clock = goes_before more.clock follows.clock;
   objects = λ i. follows_object (more.objects i) (follows.objects i);
+  signals = goes_before more.signals follows.signals;
 }
 
 -- ---- what stands in what was seen
@@ -121,6 +139,14 @@ stand_later {log = log} more stand = record {
   made = (made_goes_on _ _ more.timers.rest log.moves.0 log.moves.1 log.notes more.timers.whole
       (record { rise = stand.rise; below = stand.below; made = stand.made })).made;
   shows = λ e follows. stand.shows e (follows_less more follows);
+}
+
+-- law: and its pushes and pops
+pub turned_later : {s : Script} {p q : WorldPass} {log : CallLog} → SeesMore p q → AreTurnsOf s p log → AreTurnsOf s q log
+turned_later {log = log} more turned = record {
+  rise = turned.rise;
+  below = turned.below;
+  each = each_weaker log.trace.turns (λ x is. record { there = stands_on x.0 more.signals is.there; of = is.of }) turned.each;
 }
 
 -- law: what a note is of

@@ -1,5 +1,5 @@
 -- What each call of a lane does and answers: what its passes know before and after it, and what it notes.
-use Rattle.std.specs.Prelude.{ℕ, ◌≡◌, ◌≢◌, ◌≤◌, ◌<◌, Bool, true, false, List, [], ◌∷◌, ◌++◌, length, MatchBool, Result, Ok, Err}
+use Rattle.std.specs.Prelude.{ℕ, ◌≡◌, ◌≤◌, ◌<◌, ◌+◌, ◌⊎◌, Bool, true, false, List, [], ◌∷◌, ◌++◌, length, MatchBool, Result, Ok, Err}
 use Rattle.ktime.specs.Readings.{ClockReading}
 use Rattle.clock_model.specs.declared.write.ClockFault.TheVariants as faults
 use Rattle.clock_model.specs.declared.write.Write.{Write}
@@ -29,7 +29,7 @@ use Rattle.expire_pass.specs.declared.expiry.ExpireAnswer.{ExpireAnswer}
 use Rattle.expire_pass.specs.declared.expiry.ExpireAnswer.TheVariants as expiries
 use Rattle.base_row.specs.declared.log.Receipt.{Receipt}
 use Rattle.timer_objects.specs.declared.log.ObjectReceipt.{ObjectReceipt}
-use Rattle.timer_objects.specs.Calls.{HasSetting, Accepts, Caller, Gettimes, Interrupts, LooksOverrun, LooksReadable, LooksSlept, ReadsFd, Settimes, Sleeps}
+use Rattle.timer_objects.specs.Calls.{HasSetting, Accepts, Caller, IsPosixKind, Gettimes, Interrupts, LooksOverrun, LooksReadable, LooksSlept, ReadsFd, Settimes, Sleeps}
 use Rattle.record_text.specs.declared.record.Answer.{Answer}
 use Rattle.record_text.specs.declared.record.Answer.TheVariants as answers
 use Rattle.record_text.specs.declared.record.Label.{Label}
@@ -54,7 +54,11 @@ use Rattle.timer_objects.specs.declared.answers.Overrun.{Overrun}
 use Rattle.timer_objects.specs.declared.answers.Readable.{Readable}
 use Rattle.timer_objects.specs.declared.object.Kind.{Kind}
 use Rattle.timer_objects.specs.declared.object.Kind.TheVariants as over
-use Rattle.timer_objects.specs.Known.{decl_at}
+use Rattle.timer_objects.specs.Known.{decl_at, seen_of}
+use Rattle.timer_objects.specs.Signals.{IsQueued, TakesNext}
+use Rattle.timer_objects.specs.Turns.{turns_told}
+use Rattle.timer_objects.specs.declared.signals.NextSignal.{NextSignal}
+use Rattle.timer_objects.specs.declared.signals.NextSignal.TheVariants as nexts
 use Rattle.record_text.specs.declared.record.ClockLine.{ClockLine}
 use Rattle.script_text.specs.Declarations.{asked_slack}
 use Rattle.script_text.specs.CallLines.{most_budget}
@@ -102,6 +106,10 @@ with_done notes label log object_log = with_object_receipts (with_receipts notes
 abbrev pub LeavesClock : WorldPass → WorldPass → Type 0
 LeavesClock p q = q.clock ≡ p.clock
 
+-- and so was the queue of signals
+abbrev pub LeavesSignals : WorldPass → WorldPass → Type 0
+LeavesSignals p q = q.signals ≡ p.signals
+
 -- the clock was left alone, of which this is the reading that the passes have seen
 pub record ReadsClock (p q : WorldPass) (r : ClockReading) : Type 0 where
   pub same : LeavesClock p q
@@ -113,6 +121,7 @@ pub record ReadsFirst (l m : LaneOf) : Type 0 where
   pub label : m.label ≡ l.label
   pub notes : m.notes ≡ l.notes
   pub objects : m.pass.objects ≡ l.pass.objects
+  pub signals : LeavesSignals l.pass m.pass
   pub timers : LooksOn l.pass.timers.known m.pass.timers.known
   pub clock : Looks l.pass.clock.knows.pass m.pass.clock.knows.pass
   pub moment : ReadsAt l.pass.timers.known.seen m.pass.timers.known.seen (length (writes m.pass.clock.knows))
@@ -211,6 +220,34 @@ read_told (reads.Spent stamp) = answers.Spent stamp
 read_told reads.Canceled = answers.Canceled
 read_told reads.Again = answers.Again
 
+-- ---- signals
+
+abbrev pub next_told : NextSignal → Answer
+next_told nexts.NoneQueued = answers.NoneQueued
+next_told (nexts.Spent timer number stamp) = answers.SpentSignal timer number
+next_told (nexts.Stale timer number) = answers.StaleSignal timer number
+next_told (nexts.Accepted timer number overrun) = answers.Signal timer number overrun
+
+-- a timer's object was looked at, which had an entry of this number, at a moment at which no call had its turn
+pub record SeesEntry (p q : WorldPass) (timer number : ℕ) : Type 0 where
+  pub timers : LooksOn p.timers.known q.timers.known
+  pub objects : Looks p.objects.knows.pass q.objects.knows.pass
+  pub opening : q.objects.knows.opening ≡ p.objects.knows.opening
+  pub told : turns_told timer q.timers.known ≡ length (seen_of q.objects timer) + length (seen_of q.objects timer)
+  pub sent : number ≤ length (seen_of q.objects timer)
+  pub clock : LeavesClock p q
+  pub signals : LeavesSignals p q
+
+-- the entry of a queued timer was seen; where the timer isn't queued, nothing was done
+abbrev pub SeesIfQueued : WorldOf → WorldPass → WorldPass → ℕ → ℕ → Type 0
+SeesIfQueued x p q timer number = (IsQueued x.objects timer × SeesEntry p q timer number) ⊎ ((IsQueued x.objects timer → ⊥) × (q ≡ p))
+
+-- the entry that sent the next signal was seen, where the signal was not accepted; and nothing was done besides
+abbrev pub SeesSent : WorldOf → WorldPass → WorldPass → NextSignal → Type 0
+SeesSent x p q (nexts.Spent timer number stamp) = SeesIfQueued x p q timer number
+SeesSent x p q (nexts.Stale timer number) = SeesIfQueued x p q timer number
+SeesSent x p q next = q ≡ p
+
 -- ---- bases
 
 -- what taking a base off line answers
@@ -253,6 +290,7 @@ pub record LooksAtTimer (x : WorldOf) (l m : LaneOf) (timer : ℕ) (seen : Peek)
   pub clock : LeavesClock l.pass m.pass
   pub peeks : Peeks x.timers.about l.pass.timers.known m.pass.timers.known timer seen
   pub objects : m.pass.objects ≡ l.pass.objects
+  pub signals : LeavesSignals l.pass m.pass
   pub notes : m.notes ≡ l.notes
 
 module _ (x : WorldOf) (l m : LaneOf) (a : Answer) where
@@ -262,6 +300,7 @@ module _ (x : WorldOf) (l m : LaneOf) (a : Answer) where
     pub answer : StartAnswer
     pub starts : StartsTimer x.timers.about l.pass.timers.known m.pass.timers.known timer (asked_in request reading) answer
     pub objects : m.pass.objects ≡ l.pass.objects
+    pub signals : LeavesSignals l.pass m.pass
     pub notes : let t = timer_then x.timers.about starts.at timer in
         m.notes ≡ with_done l.notes l.label (receipts_of timer t.stamp (start_entries t (asked_in request reading) starts.sent starts.last answer)) []
     pub told : a ≡ start_told answer
@@ -271,6 +310,7 @@ module _ (x : WorldOf) (l m : LaneOf) (a : Answer) where
     pub answer : CancelAnswer
     pub cancels : Cancels x.timers.about l.pass.timers.known m.pass.timers.known timer answer
     pub objects : m.pass.objects ≡ l.pass.objects
+    pub signals : LeavesSignals l.pass m.pass
     pub notes : m.notes ≡ with_done l.notes l.label (receipts_of timer (timer_then x.timers.about cancels.at timer).stamp (cancel_entries answer)) []
     pub told : a ≡ cancel_told answer
 
@@ -282,6 +322,7 @@ module _ (x : WorldOf) (l m : LaneOf) (a : Answer) where
     pub places : HasPlace l.pass.timers.known m.pass.timers.known m.pass.clock.knows answer
     pub timers : LooksOn l.pass.timers.known m.pass.timers.known
     pub objects : m.pass.objects ≡ l.pass.objects
+    pub signals : LeavesSignals l.pass m.pass
     pub notes : m.notes ≡ with_write_told l.notes l.label write answer
     pub told : a ≡ write_told answer
 
@@ -294,7 +335,7 @@ module _ (x : WorldOf) (l m : LaneOf) (a : Answer) where
     pub callback_log : List Receipt
     pub object_log : List ObjectReceipt
     pub answer : ExpireAnswer
-    pub runs : RunsGated x l.pass.timers.known l.pass.objects m.pass.timers.known m.pass.objects context base budget reading log callback_log object_log answer
+    pub runs : RunsGated x l.pass m.pass context base budget reading log callback_log object_log answer
     pub notes : m.notes ≡ with_done l.notes l.label (log ++ callback_log) object_log
     pub told : a ≡ expire_told reading.stamp (claimed_in log) answer
 
@@ -311,6 +352,7 @@ module _ (x : WorldOf) (l m : LaneOf) (a : Answer) where
     pub answer : OfflineAnswer
     pub takes : OfflineFits kept x.timers.about base heir reading l.pass.timers.known m.pass.timers.known budget answer fresh log
     pub objects : m.pass.objects ≡ l.pass.objects
+    pub signals : LeavesSignals l.pass m.pass
     pub notes : m.notes ≡ with_offline_told (with_done l.notes l.label log.receipts []) l.label base heir answer
     pub told : a ≡ offline_told answer
 
@@ -320,6 +362,7 @@ module _ (x : WorldOf) (l m : LaneOf) (a : Answer) where
     pub answer : OnlineAnswer
     pub takes : OnlineFits x.timers.about l.pass.timers.known m.pass.timers.known base answer
     pub objects : m.pass.objects ≡ l.pass.objects
+    pub signals : LeavesSignals l.pass m.pass
     pub notes : m.notes ≡ with_online_told l.notes l.label base answer
     pub told : a ≡ online_told answer
 
@@ -332,20 +375,43 @@ module _ (x : WorldOf) (l m : LaneOf) (a : Answer) where
     pub log : List Receipt
     pub object_log : List ObjectReceipt
     pub does : Does (lane_caller l.pass [] []) (lane_caller m.pass log object_log) reading
+    pub signals : LeavesSignals l.pass m.pass
     pub notes : m.notes ≡ with_done l.notes l.label log object_log
 
   -- a look at an object that takes no reading
   pub record CallsLook (Looks : Caller → Caller → Type 0) (told : Answer) : Type 0 where
     pub clock : LeavesClock l.pass m.pass
     pub looks : Looks (lane_caller l.pass [] []) (lane_caller m.pass [] [])
+    pub signals : LeavesSignals l.pass m.pass
     pub notes : m.notes ≡ l.notes
     pub tells : a ≡ told
+
+  -- ---- signals
+
+  -- The next signal was taken, and the lane then saw the entry that had sent it, where it was not accepted.
+  pub record CallsSigwait : Type 0 where
+    pub reading : ClockReading
+    pub reads : ReadsClock l.pass m.pass reading
+    pub log : List Receipt
+    pub object_log : List ObjectReceipt
+    pub next : NextSignal
+    pub mid : WorldPass
+    pub takes : TakesNext x.objects x.timers.about (lane_caller l.pass [] [])
+        (lane_caller mid log object_log) l.pass.signals.knows mid.signals.knows reading next
+    pub clock : LeavesClock l.pass mid
+    pub sees : SeesSent x mid m.pass next
+    pub notes : m.notes ≡ with_done l.notes l.label log object_log
+    pub told : a ≡ next_told next
 
 -- ---- each call
 
 -- there is an object of this number, and it has a setting
 abbrev pub IsSettable : WorldOf → ℕ → Type 0
 IsSettable x id = (id < length x.objects.decls) × HasSetting (decl_at x.objects id).kind
+
+-- there is a POSIX timer of this number, whether or not its signals are queued
+abbrev pub IsPosixTimer : WorldOf → ℕ → Type 0
+IsPosixTimer x id = (id < length x.objects.decls) × IsPosixKind (decl_at x.objects id).kind
 
 -- there is an object of this number and kind
 abbrev pub IsOfKind : WorldOf → Kind → ℕ → Type 0
@@ -361,13 +427,14 @@ CanCall x lane (calls.Expire context base budget) = (base < x.timers.about.bases
 CanCall x lane (calls.Clock write) = Unit
 CanCall x lane (calls.Settime timer flags value interval) = IsSettable x timer
 CanCall x lane (calls.Gettime timer) = IsSettable x timer
-CanCall x lane (calls.Accept timer) = IsOfKind x over.Posix timer
-CanCall x lane (calls.Overrun timer) = IsOfKind x over.Posix timer
+CanCall x lane (calls.Accept timer) = IsPosixTimer x timer
+CanCall x lane (calls.Overrun timer) = IsPosixTimer x timer
 CanCall x lane (calls.Read timer len) = IsOfKind x over.Fd timer
 CanCall x lane (calls.Readable timer) = IsOfKind x over.Fd timer
 CanCall x lane (calls.Sleep timer flags time) = IsOfKind x over.Sleeper timer
 CanCall x lane (calls.Interrupt timer) = IsOfKind x over.Sleeper timer
 CanCall x lane (calls.Slept timer) = IsOfKind x over.Sleeper timer
+CanCall x lane calls.Sigwait = Unit
 CanCall x lane (calls.Offline base heir budget) =
     (lane ≡ 0) × (base < x.timers.about.bases) × (heir < base) × (budget ≤ most_budget) × IsEvacuable x.timers.about
 CanCall x lane (calls.Online base) = (lane ≡ 0) × (base < x.timers.about.bases) × IsEvacuable x.timers.about
@@ -406,6 +473,7 @@ CalledThen x l (calls.Interrupt timer) a m =
     × CallsObject x l m a (λ old new reading. Interrupts x.objects x.timers.about old new timer reading s)
 CalledThen x l (calls.Slept timer) a m =
     (found : Slept) × CallsLook x l m a (λ old new. LooksSlept old new timer found) (slept_told found.answer found.stamp)
+CalledThen x l calls.Sigwait a m = CallsSigwait x l m a
 CalledThen x l (calls.Offline base heir budget) a m = CallsOffline x l m a base heir budget
 CalledThen x l (calls.Online base) a m = CallsOnline x l m a base
 

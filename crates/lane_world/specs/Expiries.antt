@@ -1,4 +1,4 @@
--- An expiry run by a lane's passes, whose functions trigger objects by a pass that is lent to it.
+-- An expiry run by a lane's passes, whose functions trigger objects and push signals by the passes that are lent to it.
 use Rattle.std.specs.Prelude.{ℕ, ◌≡◌, List, []}
 use Rattle.seq_timer.specs.declared.context.Context.{Context}
 use Rattle.ktime.specs.Readings.{ClockReading}
@@ -6,38 +6,45 @@ use Rattle.expire_pass.specs.declared.expiry.ExpireAnswer.{ExpireAnswer}
 use Rattle.base_row.specs.declared.log.Receipt.{Receipt}
 use Rattle.expire_pass.specs.Expiring.{Expires}
 use Rattle.timer_objects.specs.declared.log.ObjectReceipt.{ObjectReceipt}
-use Rattle.timer_objects.specs.Firings.{Fires, Firing, firing, LeavesPass}
+use Rattle.timer_objects.specs.QueuedFirings.{FiresAll, LeavesQueued, QueuedFiring, queued_firing}
 use Rattle.base_row.specs.declared.view.Opening.{Opening}
 use Rattle.expire_pass.specs.declared.handler.Restart.{Restart}
 use Rattle.hr_timers.specs.declared.numbers.ClaimNumbers.{ClaimNumbers}
 use Rattle.hr_timers.specs.Known.{KnownOfTimers}
+use Rattle.signal_queue.specs.Views.{KnowsQueue, PassOfQueue}
 use Rattle.timer_objects.specs.Known.{ObjectsPass}
 use Rattle.lane_world.specs.Worlds.{WorldOf}
+use Rattle.lane_world.specs.declared.WorldPass.{WorldPass}
 
--- The handler was lent a pass of objects, and began with empty logs; these are the logs of the run, of callbacks and of objects.
-pub record RunsGated (x : WorldOf) (v : KnownOfTimers) (p : ObjectsPass) (w : KnownOfTimers) (q : ObjectsPass) (context : Context) (base budget : ℕ)
-    (reading : ClockReading) (log callback_log : List Receipt) (object_log : List ObjectReceipt) (answer : ExpireAnswer) : Type 0 where
-  pub before : Firing
-  pub after : Firing
-  pub expires : Expires firing x.timers.about context base reading budget v before [] w after log answer
+-- The handler was lent passes of objects and signals, and began with empty logs; these are the logs of the run, of callbacks and of objects.
+pub record RunsGated (x : WorldOf) (p q : WorldPass) (context : Context) (base budget : ℕ) (reading : ClockReading) (log callback_log : List Receipt)
+    (object_log : List ObjectReceipt) (answer : ExpireAnswer) : Type 0 where
+  pub before : QueuedFiring
+  pub after : QueuedFiring
+  pub expires : Expires queued_firing x.timers.about context base reading budget p.timers.known before [] q.timers.known after log answer
   pub objects : before.objects.now ≡ x.objects
   pub callbacks : before.callbacks.now ≡ x.callbacks
-  pub pass : before.objects_pass.now ≡ p
-  pub back : after.objects_pass.now ≡ q
+  pub pass : (before.objects_pass.now ≡ p.objects) × (before.signal_pass.now ≡ p.signals)
+  pub back : (after.objects_pass.now ≡ q.objects) × (after.signal_pass.now ≡ q.signals)
   pub fresh : (before.log.receipts ≡ []) × (before.object_log.receipts ≡ [])
   pub logs : (after.log.receipts ≡ callback_log) × (after.object_log.receipts ≡ object_log)
 
--- a pass of objects keeps its name
-pub record KeepsName (p q : ObjectsPass) : Type 0 where
-  pub id : q.knows.pass.id ≡ p.knows.pass.id
+-- passes of objects and of signals keep their names, and what the latter knows stays true
+pub record KeepsNames (p q : ObjectsPass) (s t : PassOfQueue) : Type 0 where
+  pub objects : q.knows.pass.id ≡ p.knows.pass.id
+  pub signals : t.knows.pass.id ≡ s.knows.pass.id
+  pub queue : KnowsQueue s.knows → KnowsQueue t.knows
 
 -- a run with a handler of objects, and what it leaves of it
-pub record RunsWith (o : Opening) (context : Context) (base : ℕ) (reading : ClockReading) (budget : ℕ) (v : KnownOfTimers) (h : Firing) (log : List Receipt)
-    (w : KnownOfTimers) (h' : Firing) (log' : List Receipt) (answer : ExpireAnswer) : Type 0 where
-  pub expires : Expires firing o context base reading budget v h log w h' log' answer
-  pub leaves : LeavesPass h h'
+pub record RunsWith (o : Opening) (context : Context) (base : ℕ) (reading : ClockReading) (budget : ℕ) (v : KnownOfTimers) (h : QueuedFiring)
+    (log : List Receipt)
+    (w : KnownOfTimers) (h' : QueuedFiring) (log' : List Receipt) (answer : ExpireAnswer) : Type 0 where
+  pub expires : Expires queued_firing o context base reading budget v h log w h' log' answer
+  pub leaves : LeavesQueued h h'
+  pub queue : KnowsQueue h.signal_pass.now.knows → KnowsQueue h'.signal_pass.now.knows
 
 -- a function has run by a handler that was lent one of objects, and has it still
-pub record FiresLent (o : Opening) {N : Type 0} (name name' : N) (h h' : Firing) (v w : KnownOfTimers) (c : ClaimNumbers) (reading : ClockReading) (restart : Restart) : Type 0 where
+pub record FiresLent (o : Opening) {N : Type 0} (name name' : N) (h h' : QueuedFiring) (v w : KnownOfTimers) (c : ClaimNumbers) (reading : ClockReading)
+    (restart : Restart) : Type 0 where
   pub lent : name' ≡ name
-  pub fires : Fires o h h' v w c reading restart
+  pub fires : FiresAll o h h' v w c reading restart

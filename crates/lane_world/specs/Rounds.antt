@@ -77,6 +77,7 @@ pub record BeginsRound (main : WorldPass) (left : LeftOf) (lane : Lane) : Type 0
   pub timers : (lane.pass.timers.known.seen ≡ main.timers.known.seen) × (lane.pass.timers.known.mine ≡ [])
   pub objects : (lane.pass.objects.knows.pass.seen ≡ main.objects.knows.pass.seen) × (lane.pass.objects.knows.pass.mine ≡ [])
   pub clock : (lane.pass.clock.knows.pass.seen ≡ main.clock.knows.pass.seen) × (lane.pass.clock.knows.pass.mine ≡ [])
+  pub signals : (lane.pass.signals.knows.pass.seen ≡ main.signals.knows.pass.seen) × (lane.pass.signals.knows.pass.mine ≡ [])
   pub notes : lane.notes ≡ no_notes
   pub answers : lane.answers.items ≡ []
 
@@ -85,6 +86,7 @@ pub record HasSplit (p q : WorldPass) : Type 0 where
   pub timers : (q.timers.known.seen ≡ p.timers.known.seen) × (q.timers.known.mine ≡ p.timers.known.mine)
   pub objects : (q.objects.knows.pass.seen ≡ p.objects.knows.pass.seen) × (q.objects.knows.pass.mine ≡ p.objects.knows.pass.mine)
   pub clock : (q.clock.knows.pass.seen ≡ p.clock.knows.pass.seen) × (q.clock.knows.pass.mine ≡ p.clock.knows.pass.mine)
+  pub signals : (q.signals.knows.pass.seen ≡ p.signals.knows.pass.seen) × (q.signals.knows.pass.mine ≡ p.signals.knows.pass.mine)
 
 -- The first lane begins a round by the first passes, from which those of the others were split off. Nothing is noted, and its next call is the one
 -- behind those that it has answers of.
@@ -100,6 +102,7 @@ pub record TakesInPass (main other new : WorldPass) : Type 0 where
   pub timers : TakesIn main.timers.known other.timers.known new.timers.known
   pub objects : Retires main.objects.knows.pass other.objects.knows.pass new.objects.knows.pass
   pub clock : Retires main.clock.knows.pass other.clock.knows.pass new.clock.knows.pass
+  pub signals : Retires main.signals.knows.pass other.signals.knows.pass new.signals.knows.pass
 
 -- lanes are taken in one after another, the last one first, each with what it leaves
 abbrev pub TakesInLanes : WorldPass → LeftOf → List Lane → WorldPass → LeftOf → Type 0
@@ -118,6 +121,7 @@ pub record IsMain (x : WorldOf) (p : WorldPass) (lanes : List Lane) : Type 0 whe
   pub timers : LeadsFor p.timers.known.id (map (λ l. l.pass.timers.known.id.name) lanes)
   pub objects : LeadsFor p.objects.knows.pass.id (map (λ l. l.pass.objects.knows.pass.id.name) lanes)
   pub clock : LeadsFor p.clock.knows.pass.id (map (λ l. l.pass.clock.knows.pass.id.name) lanes)
+  pub signals : LeadsFor p.signals.knows.pass.id (map (λ l. l.pass.signals.knows.pass.id.name) lanes)
 
 -- the passes of a lane behind the first are the world's, answer for no others and have no claims
 pub record IsLaneOf (x : WorldOf) (l : Lane) : Type 0 where
@@ -127,6 +131,7 @@ pub record IsLaneOf (x : WorldOf) (l : Lane) : Type 0 where
   pub timers : l.pass.timers.known.id.split ≡ []
   pub objects : l.pass.objects.knows.pass.id.split ≡ []
   pub clock : l.pass.clock.knows.pass.id.split ≡ []
+  pub signals : l.pass.signals.knows.pass.id.split ≡ []
 
 -- a lane can make calls: its passes are the world's, and the first lane's are the first ones
 pub record CanRun (x : WorldOf) (l : Lane) : Type 0 where

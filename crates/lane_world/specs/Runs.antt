@@ -38,6 +38,7 @@ pub record Settles (p q : WorldPass) : Type 0 where
   pub objects : q.objects ≡ p.objects
   pub clock : Looks p.clock.knows.pass q.clock.knows.pass
   pub all : told q.timers.known ≡ length (writes q.clock.knows)
+  pub signals : q.signals ≡ p.signals
 
 -- Each object was looked at, and seen to have made all turns of which the timers' passes had been told before that; nothing else was done.
 pub record LooksAtAll (x : WorldOf) (p q : WorldPass) : Type 0 where
@@ -45,6 +46,7 @@ pub record LooksAtAll (x : WorldOf) (p q : WorldPass) : Type 0 where
   pub objects : Looks p.objects.knows.pass q.objects.knows.pass
   pub opening : q.objects.knows.opening ≡ p.objects.knows.opening
   pub clock : q.clock ≡ p.clock
+  pub signals : q.signals ≡ p.signals
   pub no_more : (i : ℕ) → i < length x.objects.decls → turns_told i p.timers.known ≤ length (seen_of q.objects i) + length (seen_of q.objects i)
 
 -- The rounds were made in turn, the clock was settled, each object was looked at, and the record shows the notes and answers that the rounds left, the

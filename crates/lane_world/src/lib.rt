@@ -7,6 +7,7 @@ use counted_row::RowPass;
 use hr_timers::Pass;
 use lane_notes::Notes;
 use record_text::{Answer, Label};
+use signal_queue::SignalPass;
 use timer_objects::Object;
 
 /// A pass of each kind. It can't be dropped.
@@ -14,6 +15,7 @@ pub struct WorldPass {
     pub timers: Pass,
     pub objects: RowPass<Object>,
     pub clock: ClockPass,
+    pub signals: SignalPass,
 }
 
 /// What a lane works with in a round: the label of its next call, its passes, its notes and answers. Once it wants memory it makes no call.

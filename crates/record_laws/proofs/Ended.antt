@@ -23,6 +23,11 @@ use Rattle.base_row.specs.declared.view.Opening.{Opening}
 use Rattle.lane_notes.proofs.Lists.{length-bases, length-objects, length-timers}
 use Rattle.std.proofs.Common.{◌≡◌}
 use Rattle.clock_cell.specs.Views.{writes}
+use Rattle.signal_queue.specs.Rules.{turns}
+use Rattle.signal_queue.specs.Turns.{AreTurns}
+use Rattle.std.specs.List.{AllByRecursion}
+use Rattle.run_history.specs.Runs.{IsOfQueued}
+use Rattle.record_laws.proofs.Signalled.{signals, signals_in_span, signals_long, signals_own, signals_queued, signals_seen}
 use Rattle.run_history.specs.Promises.{HasLog}
 use Rattle.run_history.specs.Histories.{clock_labels}
 use Rattle.script_text.specs.Declarations.{declareds_of, terms_of}
@@ -30,7 +35,7 @@ use Rattle.script_text.specs.Declarations.{declareds_of, terms_of}
 module _ {s : Script} {x : WorldOf} {q : WorldPass} {notes sorted : NotesOf} {logs : Label → CallLog} (last : AreLastOf s x q) (left : AreLeft s q notes logs)
     (is : IsSortedFrom notes sorted) (answers : List (List Answer)) (starts : RoundStarts) where
   abbrev e : Ending
-  e = ending_of (record_from s.version sorted s.bases (length s.timers) answers) q logs starts
+  e = ending_of (record_from s.version sorted s.bases (length s.timers) answers) q (signals last left) logs starts
 
   -- a run with this record goes on from what the last passes have seen, which is all
   follows : Follows q e
@@ -43,6 +48,7 @@ module _ {s : Script} {x : WorldOf} {q : WorldPass} {notes sorted : NotesOf} {lo
       goes_on = record { rest = []; whole = sym (append-nil (seen_of q.objects i)) };
       lines = object_lines_show last left is answers starts i;
     };
+    signals = ([], signals_seen last left ∙ sym (append-nil (turns q.signals.knows)));
   }
 
   -- law: it has of each call what its lane kept
@@ -53,6 +59,7 @@ module _ {s : Script} {x : WorldOf} {q : WorldPass} {notes sorted : NotesOf} {lo
     looks = looks_own last left is answers c;
     objects = object_own last left is answers c;
     skips = skips_own last left is answers c;
+    turns = signals_own last left c;
   }
 
   -- the clock has as many lines as writes were seen
@@ -69,15 +76,24 @@ module _ {s : Script} {x : WorldOf} {q : WorldPass} {notes sorted : NotesOf} {lo
       sorted = filed_notes last left is answers;
       filed = are_filed last left is answers;
       entries = λ c. (left.stand c).shows e follows;
-      ledger = rounds.moves e.run;
+      ledger = rounds.moves e.run e.signals;
       whole = rounds.moves_most;
       inside = receipts_inside last left is answers;
       clock_laid = record {
         inside = clock_in_span last left is;
-        ledger = rounds.clock e.run;
+        ledger = rounds.clock e.run e.signals;
         most = λ c label. subst (λ n. (logs c).clock.1 ≤ n) (sym clock_long) (rounds.clock_most c label);
       };
       writes = clock_accepted last left is;
+      signals = record {
+        legal = subst (AreTurns []) (sym (signals_seen last left)) last.of.passes.queue.legal;
+        of = subst (AllByRecursion (IsOfQueued s)) (sym (signals_seen last left)) (signals_queued last left);
+        laid = record {
+          inside = signals_in_span last left;
+          ledger = rounds.signals e.run e.signals;
+          most = λ c label. subst (λ n. (logs c).signals.1 ≤ n) (sym (signals_long last left)) (rounds.signals_most c label);
+        };
+      };
       object_histories = object_histories last left is answers starts;
       looks = looks_under last left is answers;
       skips = skips_under last left is answers;

@@ -9,4 +9,5 @@ pub mod ClockLines
 pub mod ObjectLines
 pub mod HungNotes
 pub mod HungLines
+pub mod Signalled
 pub mod Ended

@@ -35,6 +35,7 @@ use Rattle.lane_world.specs.Worlds.{WorldOf, decl_as}
 use Rattle.lane_world.specs.declared.WorldPass.{WorldPass}
 use Rattle.counted_row.specs.Meaning.{Leads}
 use Rattle.posix_timer.specs.States.{posix_opening}
+use Rattle.posix_timer.specs.Queued.{queued_opening}
 use Rattle.timer_fd.specs.States.{fd_opening}
 use Rattle.record_text.specs.declared.record.ClockLine.{ClockLine}
 use Rattle.record_text.specs.declared.record.RunRecord.{RunRecord}
@@ -43,7 +44,7 @@ use Rattle.record_laws.proofs.ClockLines.{clock_goes_on}
 use Rattle.record_laws.proofs.LastSeen.{objects_once, object_lines_are}
 use Rattle.record_laws.proofs.SeenThere.{many_objects, objects_past}
 use Rattle.lane_world.proofs.ObjectSeen.{leads_from, legal}
-use Rattle.timer_objects.proofs.KindOfObject.{fd_objects, posix_objects, sleeper_objects}
+use Rattle.timer_objects.proofs.KindOfObject.{fd_objects, posix_objects, queued_objects, sleeper_objects}
 use Rattle.sleeper.specs.States.{sleeper_opening}
 use Rattle.record_laws.proofs.OwnLines.{at_line, lines_long, own_lines, ShowNotes, told_of}
 
@@ -75,6 +76,8 @@ legal_lines s r i hs now are (kinds.Posix base) leads =
     legal posix_objects r.clock (posix_opening (clock_of s i) base s.limit) now hs (lines_of_object r i) leads are
 legal_lines s r i hs now are (kinds.Fd base) leads =
     legal fd_objects r.clock (fd_opening (clock_of s i) base s.limit) now hs (lines_of_object r i) leads are
+legal_lines s r i hs now are (kinds.Queued base) leads =
+    legal queued_objects r.clock (queued_opening (clock_of s i) base s.limit) now hs (lines_of_object r i) leads are
 legal_lines s r i hs now are (kinds.Sleeper base) leads =
     legal sleeper_objects r.clock (sleeper_opening (clock_of s i) base s.limit) now hs (lines_of_object r i) leads are
 
@@ -132,7 +135,7 @@ module _ {s : Script} {x : WorldOf} {q : WorldPass} {notes sorted : NotesOf} {lo
 
   module _ (starts : RoundStarts) where
     abbrev e : Ending
-    e = ending_of r q logs starts
+    e = ending_of r q [] logs starts
 
     -- law: they show the entries
     pub object_lines_show : (i : ℕ) → AreObjectLines r.clock (seen_of q.objects i) (lines_of_object r i)

@@ -1,5 +1,5 @@
 -- The words of entries and of answers are read back: each form from its own words.
-use Rattle.std.proofs.Common.{◌≡◌, ◌∷◌, [], ℕ, List, Bool, true, if◌then◌else◌, map, length, codes, refl, sym, ◌∙◌}
+use Rattle.std.proofs.Common.{◌≡◌, ◌∷◌, [], ℕ, List, Bool, true, false, if◌then◌else◌, map, length, codes, refl, sym, ◌∙◌}
 use Rattle.record_text.specs.declared.version.Version.{Version}
 use Rattle.record_text.specs.declared.version.Version.TheVariants as versions
 use Rattle.seq_timer.specs.declared.standing.BaseEvent.{BaseEvent}
@@ -29,7 +29,7 @@ use Rattle.record_text.specs.declared.record.ObjectEntry.TheVariants as object_e
 use Rattle.record_text.specs.declared.record.Answer.{Answer}
 use Rattle.record_text.specs.declared.record.Answer.TheVariants as answers
 use Rattle.record_text.specs.Replies.{answer_of_settime, answer_of_accept, answer_of_read, answer_of_sleep, answer_of_interrupt}
-use Rattle.record_text.specs.Text.{entry_numbers, entry_words, shift_words, told_words, object_entry_words}
+use Rattle.record_text.specs.Text.{counted_word, entry_numbers, entry_words, shift_words, told_words, object_entry_words}
 use Rattle.record_text.specs.Answers.{answer_words, answer_numbers}
 use Rattle.record_text.specs.Numbers.{AreMachineNumbers, EntryHasNoSlack, IsReplyTo, shift_numbers, told_numbers, object_entry_numbers}
 use Rattle.record_text.proofs.Words.{are_words}
@@ -175,10 +175,13 @@ done_of [] = answers.Slept
 done_of (n ∷ []) = answers.SleptAt (value n)
 done_of (n ∷ w ∷ ws) = answers.Done (value w) (map value ws)
 
--- a word that two answers begin with: what a call tells that takes a base off line ends sooner, or later where a timer is spent
+-- the word that a timer is spent: of a call on it with the stamp, of a signal with its timer and number, and of a call that takes a base off line
 pub spent_of : ℕ → List (List ℕ) → Answer
 spent_of stamp [] = answers.Spent stamp
-spent_of moved (w ∷ ws) = answers.OfflineSpent moved (value w) (number 0 ws)
+spent_of timer (n ∷ []) = answers.SpentSignal timer (value n)
+spent_of moved (t ∷ w ∷ ws) = answers.OfflineSpent moved (value t) (value w)
+
+-- a word that two answers begin with: what a call tells that takes a base off line ends sooner
 
 pub more_of : ℕ → List (List ℕ) → Answer
 more_of moved [] = answers.OfflineMore moved
@@ -222,6 +225,9 @@ answer_of ws =
     else if is_key ws (codes "interrupted") then answers.Interrupted
     else if is_key ws (codes "sleeping") then answers.Sleeping (number 1 ws)
     else if is_key ws (codes "awake") then answers.Awake (number 1 ws)
+    else if is_key ws (codes "signal") then answers.Signal (number 1 ws) (number 2 ws) (number 3 ws)
+    else if is_key ws (codes "stale") then answers.StaleSignal (number 1 ws) (number 2 ws)
+    else if is_key ws (codes "empty") then answers.NoneQueued
     else answers.Readable (flag_of (nth 1 ws)) (number 2 ws) (number 3 ws)
 
 pub answer_read : AreReadBack answer_of answer_words answer_numbers
@@ -290,6 +296,14 @@ answer_read answers.Interrupted h = (refl, refl)
 answer_read (answers.Sleeping stamp) h = rw (value_again stamp h.0, word_decimal stamp h.0) (refl, refl)
 answer_read (answers.SleptAt stamp) h = rw (value_again stamp h.0, word_decimal stamp h.0) (refl, refl)
 answer_read (answers.Awake stamp) h = rw (value_again stamp h.0, word_decimal stamp h.0) (refl, refl)
+answer_read (answers.Signal timer n overrun) h =
+    rw (value_again timer h.0, value_again n h.1.0, value_again overrun h.1.1.0, word_decimal timer h.0)
+    (rw (word_decimal n h.1.0, word_decimal overrun h.1.1.0) (refl, refl))
+answer_read (answers.StaleSignal timer n) h =
+    rw (value_again timer h.0, value_again n h.1.0, word_decimal timer h.0, word_decimal n h.1.0) (refl, refl)
+answer_read (answers.SpentSignal timer n) h =
+    rw (value_again timer h.0, value_again n h.1.0, word_decimal timer h.0, word_decimal n h.1.0) (refl, refl)
+answer_read answers.NoneQueued h = (refl, refl)
 
 -- a reply from the answer that it gives
 pub settime_of : Answer → SettimeReply
@@ -345,11 +359,27 @@ interrupt_is interrupts.Slept = refl
 interrupt_is (interrupts.Left ns) = refl
 interrupt_is interrupts.Interrupted = refl
 
+-- an expiry: its last word tells whether there was room for its signal, and whether it counted
+pub trigger_of : ℕ → ℕ → List ℕ → ObjectEntry
+trigger_of generation reading word =
+    if is_key (word ∷ []) (codes "full") then object_entries.Overflow generation reading
+    else object_entries.Trigger generation reading (counted_of word)
+
+trigger_is : (generation reading : ℕ) (counted : Bool)
+    → trigger_of generation reading (counted_word counted) ≡ object_entries.Trigger generation reading counted
+unfolding trigger_of
+trigger_is generation reading true = rw ((counted_read true).0) refl
+trigger_is generation reading false = rw ((counted_read false).0) refl
+
+overflow_is : (generation reading : ℕ) → trigger_of generation reading (codes "full") ≡ object_entries.Overflow generation reading
+unfolding trigger_of
+overflow_is generation reading = refl
+
 pub object_entry_of : List (List ℕ) → ObjectEntry
 object_entry_of ws =
     if is_key ws (codes "settime") then object_entries.Settime (number 1 ws) (number 2 ws) (number 3 ws) (number 4 ws) (armed_of (nth 5 ws))
     (settime_of (answer_of (after 6 ws)))
-    else if is_key ws (codes "trigger") then object_entries.Trigger (number 1 ws) (number 2 ws) (counted_of (nth 3 ws))
+    else if is_key ws (codes "trigger") then trigger_of (number 1 ws) (number 2 ws) (nth 3 ws)
     else if is_key ws (codes "accept") then object_entries.Accept (number 1 ws) (armed_of (nth 2 ws)) (accept_of (answer_of (after 3 ws)))
     else if is_key ws (codes "read") then object_entries.Read (number 1 ws) (armed_of (nth 2 ws)) (read_of (answer_of (after 3 ws)))
     else if is_key ws (codes "sleep") then object_entries.Sleep (number 1 ws) (number 2 ws) (number 3 ws) (armed_of (nth 4 ws)) (sleep_of (answer_of (after 5 ws)))
@@ -364,8 +394,11 @@ object_entry_read (object_entries.Settime flags value interval reading arm reply
     (rw (word_decimal flags h.0, word_decimal value h.1.0, word_decimal interval h.1.1.0, word_decimal reading h.1.1.1.0)
     (rw ((armed_read arm h.1.1.1.1.0).1) (refl, (answer_read (answer_of_settime reply) h.1.1.1.1.1).1))))
 object_entry_read (object_entries.Trigger generation reading counted) h =
-    rw (value_again generation h.0, value_again reading h.1.0, (counted_read counted).0, word_decimal generation h.0)
+    rw (value_again generation h.0, value_again reading h.1.0, trigger_is generation reading counted, word_decimal generation h.0)
     (rw (word_decimal reading h.1.0, (counted_read counted).1) (refl, refl))
+object_entry_read (object_entries.Overflow generation reading) h =
+    rw (value_again generation h.0, value_again reading h.1.0, overflow_is generation reading, word_decimal generation h.0)
+    (rw (word_decimal reading h.1.0) (refl, refl))
 object_entry_read (object_entries.Accept reading arm reply) h =
     rw (value_again reading h.0, (armed_read arm h.1.0).0, (answer_read (answer_of_accept reply) h.1.1).0, accept_is reply)
     (rw (word_decimal reading h.0, (armed_read arm h.1.0).1) (refl, (answer_read (answer_of_accept reply) h.1.1).1))

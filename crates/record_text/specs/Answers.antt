@@ -5,7 +5,23 @@ use Rattle.record_text.specs.declared.record.Answer.{Answer}
 use Rattle.record_text.specs.declared.record.Answer.TheVariants as answers
 use Rattle.record_text.specs.Words.{flag}
 
--- the words of what a sleeper's call alone is answered, and none for another answer
+-- the words of what a call that takes a signal of the queue is answered, and none for another answer
+abbrev pub signal_answer_words : Answer → List (List ℕ)
+signal_answer_words (answers.Signal timer number overrun) = codes "signal" ∷ decimal timer ∷ decimal number ∷ decimal overrun ∷ []
+signal_answer_words (answers.StaleSignal timer number) = codes "stale" ∷ decimal timer ∷ decimal number ∷ []
+signal_answer_words (answers.SpentSignal timer number) = codes "spent" ∷ decimal timer ∷ decimal number ∷ []
+signal_answer_words answers.NoneQueued = codes "empty" ∷ []
+signal_answer_words other = []
+
+-- the numbers of what a call that takes a signal of the queue is answered, and none for another answer
+abbrev pub signal_answer_numbers : Answer → List ℕ
+signal_answer_numbers (answers.Signal timer number overrun) = timer ∷ number ∷ overrun ∷ []
+signal_answer_numbers (answers.StaleSignal timer number) = timer ∷ number ∷ []
+signal_answer_numbers (answers.SpentSignal timer number) = timer ∷ number ∷ []
+signal_answer_numbers answers.NoneQueued = []
+signal_answer_numbers other = []
+
+-- the words of what a sleeper's call alone is answered, and of another answer those of a call that takes a signal
 abbrev pub sleeper_answer_words : Answer → List (List ℕ)
 sleeper_answer_words answers.Asleep = codes "asleep" ∷ []
 sleeper_answer_words answers.Slept = codes "done" ∷ []
@@ -15,9 +31,9 @@ sleeper_answer_words answers.Interrupted = codes "interrupted" ∷ []
 sleeper_answer_words (answers.Sleeping stamp) = codes "sleeping" ∷ decimal stamp ∷ []
 sleeper_answer_words (answers.SleptAt stamp) = codes "done" ∷ decimal stamp ∷ []
 sleeper_answer_words (answers.Awake stamp) = codes "awake" ∷ decimal stamp ∷ []
-sleeper_answer_words other = []
+sleeper_answer_words other = signal_answer_words other
 
--- the numbers of what a sleeper's call alone is answered, and none for another answer
+-- the numbers of what a sleeper's call alone is answered, and of another answer those of a call that takes a signal
 abbrev pub sleeper_answer_numbers : Answer → List ℕ
 sleeper_answer_numbers answers.Asleep = []
 sleeper_answer_numbers answers.Slept = []
@@ -27,7 +43,7 @@ sleeper_answer_numbers answers.Interrupted = []
 sleeper_answer_numbers (answers.Sleeping stamp) = stamp ∷ []
 sleeper_answer_numbers (answers.SleptAt stamp) = stamp ∷ []
 sleeper_answer_numbers (answers.Awake stamp) = stamp ∷ []
-sleeper_answer_numbers other = []
+sleeper_answer_numbers other = signal_answer_numbers other
 
 -- the words of what a call of a POSIX timer or a descriptor alone is answered, and of another answer those of a sleeper's call
 abbrev pub object_answer_words : Answer → List (List ℕ)

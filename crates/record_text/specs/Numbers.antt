@@ -55,6 +55,7 @@ abbrev pub object_entry_numbers : ObjectEntry → List ℕ
 object_entry_numbers (object_entries.Settime flags value interval reading arm reply) =
     flags ∷ value ∷ interval ∷ reading ∷ armed_number arm ∷ answer_numbers (answer_of_settime reply)
 object_entry_numbers (object_entries.Trigger generation reading counted) = generation ∷ reading ∷ []
+object_entry_numbers (object_entries.Overflow generation reading) = generation ∷ reading ∷ []
 object_entry_numbers other = rearming_numbers other
 
 -- the numbers of a line, also those that a text of version 1 does not show

@@ -215,6 +215,7 @@ abbrev pub object_entry_words : ObjectEntry → List (List ℕ)
 object_entry_words (object_entries.Settime flags value interval reading arm reply) =
     codes "settime" ∷ decimal flags ∷ decimal value ∷ decimal interval ∷ decimal reading ∷ armed_word arm ∷ answer_words (answer_of_settime reply)
 object_entry_words (object_entries.Trigger generation reading counted) = codes "trigger" ∷ decimal generation ∷ decimal reading ∷ counted_word counted ∷ []
+object_entry_words (object_entries.Overflow generation reading) = codes "trigger" ∷ decimal generation ∷ decimal reading ∷ codes "full" ∷ []
 object_entry_words other = rearming_words other
 
 -- the words of a line of a record of a version

@@ -194,6 +194,11 @@ pub enum ObjectEntry {
         reading: u64,
         counted: bool,
     },
+    /// An expiry of this generation that found no room in the queue for its signal.
+    Overflow {
+        generation: u64,
+        reading: u64,
+    },
     Accept {
         reading: u64,
         arm: Armed,
@@ -414,6 +419,24 @@ pub enum Answer {
     Awake {
         stamp: u64,
     },
+    /// The signal of this timer's entry of this number was taken and accepted, and so many further periods had passed.
+    Signal {
+        timer: u32,
+        number: u64,
+        overrun: u64,
+    },
+    /// The signal that was taken is pending no more.
+    StaleSignal {
+        timer: u32,
+        number: u64,
+    },
+    /// The timer of the signal that was taken has so many entries that it isn't accepted.
+    SpentSignal {
+        timer: u32,
+        number: u64,
+    },
+    /// No signal waited.
+    NoneQueued,
 }
 
 /// What a run leaves: the clock's writes, each base's history, each timer's history, each object's history, and each lane's answers.

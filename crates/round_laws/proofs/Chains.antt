@@ -24,17 +24,22 @@ moves_list = record { seen = λ n. n.moves; span = λ g. g.moves; rises = λ les
 abbrev pub clock_list : ListOf
 clock_list = record { seen = λ n. n.clock; span = λ g. g.clock; rises = λ less. less.clock; of_log = λ p q notes trace. refl }
 
+-- the pushes and pops of signals
+abbrev pub signals_list : ListOf
+signals_list = record { seen = λ n. n.signals; span = λ g. g.signals; rises = λ less. less.signals; of_log = λ p q notes trace. refl }
+
 -- ---- no less was seen
 
 -- the same
 pub no_less_same : {a : Seen} → IsNoLess a a
-no_less_same = record { clock = omega arith; moves = omega arith }
+no_less_same = record { clock = omega arith; moves = omega arith; signals = omega arith }
 
 -- twice no less
 pub no_less_trans : {a b c : Seen} → IsNoLess a b → IsNoLess b c → IsNoLess a c
 no_less_trans one two = record {
   clock = omega (arith, one.clock, two.clock);
   moves = omega (arith, one.moves, two.moves);
+  signals = omega (arith, one.signals, two.signals);
 }
 
 -- ---- where rounds began

@@ -42,6 +42,8 @@ fits_behind w c call a less before after no_less fits = record {
   clock_steps = falls_lower less.clock before.clock ((w.traces c).at ∷ map (λ x. x.0) (wrote (w.traces c).actions)) after.clock no_less.clock
       fits.clock_steps;
   move_steps = (omega (arith, no_less.moves, fits.move_steps.0), fits.move_steps.1);
+  signalled = fits.signalled;
+  signal_steps = falls_lower less.signals before.signals (map (λ x. x.0) (w.traces c).turns) after.signals no_less.signals fits.signal_steps;
 }
 
 -- law: so does its reading

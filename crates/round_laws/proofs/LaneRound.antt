@@ -18,8 +18,8 @@ use Rattle.script_text.specs.declared.script.Call.{Call}
 use Rattle.script_text.specs.declared.script.Round.{Round}
 use Rattle.script_text.specs.declared.script.Script.{Script}
 use Rattle.lane_world.specs.Called.{lane_of, LaneOf, Called}
-use Rattle.lane_world.proofs.Kept.{Follows, KeepsTurn, log_of, seen_by, StandAt, Tallies}
-use Rattle.lane_world.proofs.SeenMore.{follows_less, more_begun, more_called, more_split, more_trans, no_less, SeesMore, stand_later}
+use Rattle.lane_world.proofs.Kept.{AreTurnsOf, Follows, KeepsTurn, log_of, seen_by, StandAt, Tallies, turn_place}
+use Rattle.lane_world.proofs.SeenMore.{follows_less, more_begun, more_called, more_split, more_trans, no_less, SeesMore, stand_later, turned_later}
 use Rattle.lane_world.specs.Rounds.{as_index, BeginsFirst, BeginsRound, IsLaneOf, lane_calls, LeftOf, MakesLane, next_of, CalledAll}
 use Rattle.lane_world.specs.Worlds.{ArePassesOf, IsWhole, IsWorldOf, WorldOf}
 use Rattle.lane_world.specs.declared.Lane.{Lane}
@@ -29,7 +29,12 @@ use Rattle.round_laws.proofs.Chains.{lies_later, lies_pushed, ListOf, lies_new, 
 use Rattle.round_laws.proofs.LaneKept.{KeepsEach, fits_lane_behind, turn_joins, turn_more, turn_places, turn_promised}
 use Rattle.round_laws.proofs.NotesJoined.{are_later, AreOf, call_notes, joined, none_noted}
 use Rattle.lane_world.proofs.PartLists.{both_noted-assoc, each_weaker, no_notes-joins}
-use Rattle.round_laws.proofs.Tallies.{tallies_none, tallies_more, tallies_split}
+use Rattle.round_laws.proofs.Tallies.{mine_both, tallies_none, tallies_more, tallies_split}
+use Rattle.pass_names.specs.Counts.{count, total}
+use Rattle.pass_names.specs.Passes.{is_place}
+use Rattle.pass_names.proofs.Counts.{total-append}
+use Rattle.signal_queue.specs.Views.{PassOfQueue}
+use Rattle.lane_world.proofs.Left.{turns_at}
 use Rattle.std.proofs.lemmas.Option.{slice_get_within, same_Some}
 use Rattle.pass_names.specs.Passes.{Begins}
 use Rattle.run_history.proofs.Lists.{all_at}
@@ -61,9 +66,14 @@ answers_in done = map (λ k. k.answer) done
 abbrev pub HaveLogs : Ending → ℕ → List DoneCall → Type 0
 HaveLogs e lane done = (j : ℕ) (k : DoneCall) → slice_get done j ≡ Some k → HasLog e (label_at lane j) k.log
 
+-- how often a place is that of a push or a pop of these calls
+abbrev pub turns_done : ℕ → List DoneCall → ℕ
+turns_done k done = total (λ d. turns_at k d.log) done
+
 -- what was kept of a call stands in what passes have seen, and along each list in its round
-pub record Stands (past : List Seen) (p : WorldPass) (k : DoneCall) : Type 0 where
+pub record Stands (s : Script) (past : List Seen) (p : WorldPass) (k : DoneCall) : Type 0 where
   pub stand : StandAt p k.log
+  pub turned : AreTurnsOf s p k.log
   pub lies : (x : ListOf) → LiesIn x past (seen_by p) k.at.round k.log
 
 -- it is what the lane kept, by where rounds began and what passes have seen
@@ -71,7 +81,7 @@ pub record IsKeptOf (s : Script) (past : List Seen) (p : WorldPass) (lane : ℕ)
   pub parts : calls_of s lane ≡ calls_in d.done ++ d.rest
   pub promised : (e : Ending) → Follows p e → HaveLogs e lane d.done → IsJoined s e
       → IsSoFar (witness_of s e) lane (length d.done) (seen_by p) (calls_of s lane) d.rest (answers_in d.done)
-  pub each : AllByRecursion (Stands past p) d.done
+  pub each : AllByRecursion (Stands s past p) d.done
   pub next : (x : ListOf) (j : ℕ) (g h : DoneCall) → slice_get d.done j ≡ Some g → slice_get d.done (suc j) ≡ Some h → (x.span g.log).1 ≤ (x.span h.log).0
 
 -- law: and so it is when more was seen
@@ -81,7 +91,11 @@ kept_later {s} {p = p} {q = q} {lane = lane} {d = d} more kept = record {
   parts = kept.parts;
   promised = λ e follows has joined later fits. kept.promised e (follows_less more follows) has joined later
       (fits_lane_behind (witness_of s e) lane (length d.done) (seen_by p) (seen_by q) d.rest later (no_less more) fits);
-  each = each_weaker d.done (λ k is. record { stand = stand_later more is.stand; lies = λ x. lies_later (no_less more) (is.lies x) }) kept.each;
+  each = each_weaker d.done (λ k is. record {
+    stand = stand_later more is.stand;
+    turned = turned_later more is.turned;
+    lies = λ x. lies_later (no_less more) (is.lies x);
+  }) kept.each;
   next = kept.next;
 }
 
@@ -91,7 +105,7 @@ pub kept_pushed : {s : Script} {past : List Seen} {p : WorldPass} {lane : ℕ} {
 kept_pushed {d = d} kept = record {
   parts = kept.parts;
   promised = kept.promised;
-  each = each_weaker d.done (λ k is. record { stand = is.stand; lies = λ x. lies_pushed (is.lies x) }) kept.each;
+  each = each_weaker d.done (λ k is. record { stand = is.stand; turned = is.turned; lies = λ x. lies_pushed (is.lies x) }) kept.each;
   next = kept.next;
 }
 
@@ -145,9 +159,10 @@ module _ {s : Script} {l : LaneOf} {call : Call} {a : Answer} {m : LaneOf} (turn
               promise e follows (has (length done) one (at_seam done [] one)) joined,
               subst (λ n. FitsLane (witness_of s e) lane n (seen_by m.pass) rest later) (length-append done (one ∷ [])) fits,
             ));
-        each = All-append (Stands (before ++ seen_by base ∷ []) m.pass) done (one ∷ []) (kept_later more so_far).each (
+        each = All-append (Stands s (before ++ seen_by base ∷ []) m.pass) done (one ∷ []) (kept_later more so_far).each (
           record {
             stand = turn.kept.stand;
+            turned = turn.kept.turned;
             lies = λ x. lies_new x before turn.begun.pass m.pass turn.kept.notes turn.kept.trace (no_less (more_trans sees (more_called turn.sees)))
                 (no_less (more_called turn.kept.sees));
           },
@@ -155,7 +170,7 @@ module _ {s : Script} {l : LaneOf} {call : Call} {a : Answer} {m : LaneOf} (turn
         );
         next = λ x j g h this that.
             ⊎_elim (λ there. ⊎_elim (λ behind. so_far.next x j g h there behind)
-            (λ new. let most = ((all_at (Stands (before ++ seen_by base ∷ []) l.pass) done j g so_far.each there).lies x).most in
+            (λ new. let most = ((all_at (Stands s (before ++ seen_by base ∷ []) l.pass) done j g so_far.each there).lies x).most in
             omega (
               arith,
               most,
@@ -183,10 +198,10 @@ module _ {s : Script} {l : LaneOf} {call : Call} {a : Answer} {m : LaneOf} (turn
 
 -- ---- a round
 
--- A lane in a round, behind its calls of earlier rounds, with the first passes as they were when the round began. Behind these notes the places of its
--- passes are those of its own.
-pub record IsInRound (s : Script) (x : WorldOf) (before : List Seen) (base : WorldPass) (first : List DoneCall) (start : NotesOf) (lane : ℕ) (l : LaneOf)
-    (d : LaneSoFar) : Type 0 where
+-- A lane in a round, behind its calls of earlier rounds, with the first passes as they were when the round began. Behind these notes, and these places of
+-- pushes and pops, the places of its passes are those of its own.
+pub record IsInRound (s : Script) (x : WorldOf) (before : List Seen) (base : WorldPass) (first : List DoneCall) (start : NotesOf) (from : List (ℕ × ℕ))
+    (lane : ℕ) (l : LaneOf) (d : LaneSoFar) : Type 0 where
   pub label : l.label ≡ label_at lane (as_index (length d.done))
   pub opening : l.pass.objects.knows.opening ≡ (row_of x.objects).made
   pub sees : SeesMore base l.pass
@@ -194,27 +209,30 @@ pub record IsInRound (s : Script) (x : WorldOf) (before : List Seen) (base : Wor
   pub kept : IsKeptOf s (before ++ seen_by base ∷ []) l.pass lane d
   pub are : AreOf l.pass l.notes (IsFrom lane (length first) d.done)
   pub tallies : Tallies (length s.timers) l.pass (both_noted start l.notes)
+  pub turned : (k : ℕ) → count (is_place 0 k) l.pass.signals.knows.pass.mine + turns_done k first ≡ count (is_place 0 k) from + turns_done k d.done
 
 -- a lane has made calls in the round: they are done, with these answers, and it wrote no more than this
-pub record MakesInRound (s : Script) (x : WorldOf) (before : List Seen) (base : WorldPass) (first : List DoneCall) (start : NotesOf) (lane : ℕ) (m : LaneOf)
-    (done : List DoneCall) (rest : List CallInRound) (given : List Answer) (most : ℕ) : Type 0 where
+pub record MakesInRound (s : Script) (x : WorldOf) (before : List Seen) (base : WorldPass) (first : List DoneCall) (start : NotesOf) (from : List (ℕ × ℕ))
+    (lane : ℕ) (m : LaneOf) (done : List DoneCall) (rest : List CallInRound) (given : List Answer) (most : ℕ) : Type 0 where
   pub all : List DoneCall
   pub answers : answers_in all ≡ answers_in done ++ given
   pub few : length m.notes.writes ≤ most
-  pub is : IsInRound s x before base first start lane m (record { done = all; rest = rest })
+  pub is : IsInRound s x before base first start from lane m (record { done = all; rest = rest })
 
--- a lane begins a round: its passes have seen what the first ones had, the places that they have made are those of these notes, and nothing is noted
-pub record BeginsSo (s : Script) (x : WorldOf) (base : WorldPass) (left : LeftOf) (start : NotesOf) (old : Lane) : Type 0 where
+-- a lane begins a round: its passes have seen what the first ones had, the places that they have made are those of these notes, and these of pushes and
+-- pops, and nothing is noted
+pub record BeginsSo (s : Script) (x : WorldOf) (base : WorldPass) (left : LeftOf) (start : NotesOf) (from : List (ℕ × ℕ)) (old : Lane) : Type 0 where
   pub call : old.label.call ≡ as_index (length (get_or left.answers old.label.lane []))
   pub pass : ArePassesOf x old.pass
   pub sees : SeesMore base old.pass
   pub notes : old.notes ≡ no_notes
   pub answers : old.answers.items ≡ []
   pub tallies : Tallies (length s.timers) old.pass start
+  pub turned : old.pass.signals.knows.pass.mine ≡ from
 
 -- law: so does a lane behind the first, whose passes have made nothing
 pub begins_behind : {s : Script} {x : WorldOf} {base : WorldPass} {left : LeftOf} {old : Lane} → BeginsRound base left old → IsLaneOf x old
-    → BeginsSo s x base left no_notes old
+    → BeginsSo s x base left no_notes [] old
 begins_behind begins of = record {
   call = begins.call;
   pass = of.pass;
@@ -222,11 +240,12 @@ begins_behind begins of = record {
   notes = begins.notes;
   answers = begins.answers;
   tallies = tallies_none begins.timers.1 begins.objects.1 begins.clock.1;
+  turned = begins.signals.1;
 }
 
 -- law: and the first lane, whose passes are the first ones
 pub begins_first : {s : Script} {x : WorldOf} {base : WorldPass} {left : LeftOf} {old : Lane} → BeginsFirst x base left old
-    → Tallies (length s.timers) base left.notes → BeginsSo s x base left left.notes old
+    → Tallies (length s.timers) base left.notes → BeginsSo s x base left left.notes base.signals.knows.pass.mine old
 begins_first {left = left} begins tallies = record {
   call = ap (λ (l : Label). l.call) begins.label ∙ sym (ap (λ (l : Label). as_index (length (get_or left.answers l.lane []))) begins.label);
   pass = begins.of;
@@ -234,14 +253,15 @@ begins_first {left = left} begins tallies = record {
   notes = begins.notes;
   answers = begins.answers;
   tallies = tallies_split begins.split tallies;
+  turned = begins.split.signals.1;
 }
 
 module _ {s : Script} {x : WorldOf} (each : KeepsEach s x) (world : IsWorldOf s x) (range : IsInRange s) (whole : IsWhole x) (before : List Seen)
-    (base : WorldPass) (first : List DoneCall) (start : NotesOf) where
+    (base : WorldPass) (first : List DoneCall) (start : NotesOf) (from : List (ℕ × ℕ)) where
   -- one call
   one_call : {lane : ℕ} {l n : LaneOf} (done : List DoneCall) (rest : List CallInRound) {c : Call} {a : Answer}
-      → IsInRound s x before base first start lane l (record { done = done; rest = record { round = length before; call = c } ∷ rest }) → n.label ≡ l.label
-      → Called x l c a n → MakesInRound s x before base first start lane (next_of n) done rest (a ∷ []) (length l.notes.writes + 1)
+      → IsInRound s x before base first start from lane l (record { done = done; rest = record { round = length before; call = c } ∷ rest }) → n.label ≡ l.label
+      → Called x l c a n → MakesInRound s x before base first start from lane (next_of n) done rest (a ∷ []) (length l.notes.writes + 1)
   one_call {lane} {l} {n} done rest {c} {a} old same called =
       let at : CallInRound = record { round = length before; call = c } in
       let there : slice_get (calls_of s lane) (length done) ≡ Some at =
@@ -266,18 +286,28 @@ module _ {s : Script} {x : WorldOf} (each : KeepsEach s x) (world : IsWorldOf s 
           are = notes_one turn before lane done label (length first) (begins_length old.begins) old.are;
           tallies = subst (Tallies (length s.timers) n.pass) (both_noted-assoc start l.notes turn.kept.added ∙ ap (both_noted start) (sym (turn_joins turn)))
               (tallies_more (both_noted start l.notes) turn.kept.added old.tallies (turn_places turn));
+          turned = λ j.
+              let test = is_place 0 j in
+              let turns = turn.kept.trace.turns in
+              omega (
+                arith,
+                old.turned j,
+                mine_both test turn.begun.pass.signals.knows.pass.mine (map turn_place turns) turn.kept.turn_places,
+                ap (λ (p : PassOfQueue). count test p.knows.pass.mine) turn.signals,
+                total-append (λ (d : DoneCall). turns_at j d.log) done (k ∷ []),
+              );
         };
       }
 
   -- calls in turn
   calls_made : {lane : ℕ} (cs : List Call) (given : List Answer) {l m : LaneOf} (done : List DoneCall) (rest : List CallInRound)
-      → IsInRound s x before base first start lane l (record { done = done; rest = in_round (length before) cs ++ rest }) → CalledAll x l cs given m
-      → MakesInRound s x before base first start lane m done rest given (length l.notes.writes + length cs)
+      → IsInRound s x before base first start from lane l (record { done = done; rest = in_round (length before) cs ++ rest }) → CalledAll x l cs given m
+      → MakesInRound s x before base first start from lane m done rest given (length l.notes.writes + length cs)
   calls_made {lane} [] [] done rest old called = record {
     all = done;
     answers = sym (append-nil (answers_in done));
     few = omega (arith, ap (λ (k : LaneOf). length k.notes.writes) called);
-    is = subst (λ k. IsInRound s x before base first start lane k (record { done = done; rest = rest })) (sym called) old;
+    is = subst (λ k. IsInRound s x before base first start from lane k (record { done = done; rest = rest })) (sym called) old;
   }
   calls_made [] (a ∷ given) done rest old called = absurd called
   calls_made (c ∷ cs) [] done rest old called = absurd called
@@ -294,12 +324,12 @@ module _ {s : Script} {x : WorldOf} (each : KeepsEach s x) (world : IsWorldOf s 
   -- law: what a lane leaves of a round in which it made its calls
   pub leaves_from : {left : LeftOf} {r : Round} (rest : List CallInRound) {old new : Lane} → let lane = old.label.lane in
       IsKeptOf s (before ++ seen_by base ∷ []) base lane (record { done = first; rest = in_round (length before) (lane_calls lane r) ++ rest })
-      → get_or left.answers lane [] ≡ answers_in first → BeginsSo s x base left start old → MakesLane x r old new
-      → MakesInRound s x before base first start lane (lane_of new) first rest new.answers.items (length (lane_calls lane r))
+      → get_or left.answers lane [] ≡ answers_in first → BeginsSo s x base left start from old → MakesLane x r old new
+      → MakesInRound s x before base first start from lane (lane_of new) first rest new.answers.items (length (lane_calls lane r))
   leaves_from {left} {r} rest {old} {new} so_far same begins makes =
       let lane = old.label.lane in
       let cs = lane_calls lane r in
-      let begun : IsInRound s x before base first start lane (lane_of old) (record { done = first; rest = in_round (length before) cs ++ rest }) = record {
+      let begun : IsInRound s x before base first start from lane (lane_of old) (record { done = first; rest = in_round (length before) cs ++ rest }) = record {
         label = ap (label_at lane) (begins.call ∙ ap as_index (ap length same ∙ length-map first (λ (d : DoneCall). d.answer)));
         opening = begins.pass.objects.row.made;
         sees = begins.sees;
@@ -308,6 +338,7 @@ module _ {s : Script} {x : WorldOf} (each : KeepsEach s x) (world : IsWorldOf s 
         are = subst (λ ns. AreOf old.pass ns (IsFrom lane (length first) first)) (sym begins.notes)
             (none_noted (λ c g is. absurd (omega (arith, is.1, slice_get_within first c.call is.2.0 is.2.1))));
         tallies = subst (Tallies (length s.timers) old.pass) (no_notes-joins start ∙ ap (both_noted start) (sym begins.notes)) begins.tallies;
+        turned = λ j. let same = ap (count (is_place 0 j)) begins.turned in omega (arith, same);
       } in
       let made = calls_made cs makes.calls.given first rest begun makes.calls.calls in
       record {

@@ -1,5 +1,5 @@
 -- What lanes leave of a round is added to what all have left so far, one lane after another.
-use Rattle.std.proofs.Common.{◌≡◌, ◌≤◌, ◌<◌, ◌⊎◌, ℕ, true, false, nat_eq, cond, get_or, set, List, [], ◌∷◌, ◌++◌, length, length-set, arith, refl, sym, ap, ◌∙◌, subst, ⊎_elim, inl, inr, Some, zero, suc}
+use Rattle.std.proofs.Common.{◌≡◌, ◌≤◌, ◌<◌, ◌+◌, ◌⊎◌, ℕ, true, false, nat_eq, cond, get_or, set, List, [], ◌∷◌, ◌++◌, length, length-set, arith, refl, sym, ap, ◌∙◌, subst, ⊎_elim, inl, inr, Some, zero, suc}
 use Rattle.std.proofs.lemmas.Bool.{cases_lt, eqb-false, eqb-true}
 use Rattle.std.proofs.lemmas.List.{get_or-set_other, get_or-set_same}
 use Rattle.record_text.specs.declared.record.Label.{Label}
@@ -14,9 +14,12 @@ use Rattle.lane_world.specs.Rounds.{LeftOf, TakesInPass, with_lane}
 use Rattle.lane_world.specs.declared.Lane.{Lane}
 use Rattle.lane_world.specs.declared.WorldPass.{WorldPass}
 use Rattle.round_laws.proofs.Chains.{AreUpTo, up_to_later}
-use Rattle.round_laws.proofs.LaneRound.{IsFrom, IsKeptOf, kept_later, LaneSoFar, IsAt, answers_in, MakesInRound}
+use Rattle.round_laws.proofs.LaneRound.{IsFrom, IsKeptOf, kept_later, LaneSoFar, IsAt, answers_in, MakesInRound, turns_done}
 use Rattle.round_laws.proofs.NotesJoined.{are_later, AreOf, joined}
-use Rattle.round_laws.proofs.Tallies.{tallies_more, adds_taken}
+use Rattle.round_laws.proofs.Tallies.{adds_taken, mine_both, sum_at, tallies_more}
+use Rattle.pass_names.specs.Counts.{count}
+use Rattle.pass_names.specs.Passes.{is_place}
+use Rattle.lane_world.proofs.Left.{sum_below}
 use Rattle.lane_world.specs.Worlds.{WorldOf}
 use Rattle.lane_world.specs.Called.{lane_of}
 use Rattle.std.specs.List.{slice_get}
@@ -53,6 +56,7 @@ pub record AreLeftSoFar (s : Script) (past : List Seen) (p : WorldPass) (left : 
   pub kept : (j : ℕ) → IsKeptOf s past p j (of j)
   pub are : AreOf p left.notes (λ c. IsAt (of c.lane).done c)
   pub tallies : Tallies (length s.timers) p left.notes
+  pub turned : (k : ℕ) → count (is_place 0 k) p.signals.knows.pass.mine ≡ sum_below s.lanes (λ j. turns_done k (of j).done)
   pub rise : AreUpTo past (seen_by p)
 
 -- ---- one lane
@@ -99,14 +103,27 @@ given_taken answers lane given of end within is same j =
     (λ here. ap (λ i. get_or (set answers lane new) i []) here ∙ get_or-set_same answers lane new [] within ∙ ap (λ zs. zs ++ given) (same lane) ∙ sym is)
     (λ other. get_or-set_other answers lane j new [] other ∙ same j)
 
+-- the pushes and pops of all lanes with those of this one
+turned_put : (k lanes : ℕ) (of : ℕ → LaneSoFar) (name : ℕ) (end : LaneSoFar) → name < lanes
+    → sum_below lanes (λ j. turns_done k (put of name end j).done) + turns_done k (of name).done
+    ≡ sum_below lanes (λ j. turns_done k (of j).done) + turns_done k end.done
+turned_put k lanes of name end within =
+    let here : turns_done k (put of name end name).done ≡ turns_done k end.done =
+    put_at (λ (e : LaneSoFar). turns_done k e.done ≡ turns_done k end.done) of name end name (λ is. refl) (λ other. absurd (other refl)) in
+    sum_at lanes name (λ j. turns_done k (put of name end j).done) (λ j. turns_done k (of j).done) within
+    (λ j other. put_at (λ (e : LaneSoFar). turns_done k e.done ≡ turns_done k (of j).done) of name end j (λ is. absurd (other is)) (λ o. refl))
+    ∙ ap (λ n. sum_below lanes (λ j. turns_done k (of j).done) + n) here
+
 -- law: what a lane leaves of a round is added
 left_added : {s : Script} {x : WorldOf} {before : List Seen} {base p q : WorldPass} {left : LeftOf} (of : ℕ → LaneSoFar) (lane : Lane)
-    {start : NotesOf} {rest : List CallInRound} {most : ℕ} → let first = (of lane.label.lane).done in
-    (leaves : MakesInRound s x before base first start lane.label.lane (lane_of lane) first rest lane.answers.items most) → lane.label.lane < s.lanes
+    {start : NotesOf} {from : List (ℕ × ℕ)} {rest : List CallInRound} {most : ℕ} → let first = (of lane.label.lane).done in
+    (leaves : MakesInRound s x before base first start from lane.label.lane (lane_of lane) first rest lane.answers.items most) → lane.label.lane < s.lanes
     → SeesMore p q → SeesMore lane.pass q → Tallies (length s.timers) q (both_noted left.notes lane.notes)
+    → ((k : ℕ) → count (is_place 0 k) q.signals.knows.pass.mine
+    ≡ sum_below s.lanes (λ j. turns_done k (put of lane.label.lane (record { done = leaves.all; rest = rest }) j).done))
     → AreLeftSoFar s (before ++ seen_by base ∷ []) p left of
     → AreLeftSoFar s (before ++ seen_by base ∷ []) q (with_lane left lane) (put of lane.label.lane (record { done = leaves.all; rest = rest }))
-left_added {s = s} {before = before} {base = base} {q = q} {left = left} of lane {rest = rest} leaves within grows heard tallies so_far =
+left_added {s = s} {before = before} {base = base} {q = q} {left = left} of lane {rest = rest} leaves within grows heard tallies turned so_far =
     let name = lane.label.lane in
     let past = before ++ seen_by base ∷ [] in
     let end : LaneSoFar = record { done = leaves.all; rest = rest } in
@@ -120,23 +137,39 @@ left_added {s = s} {before = before} {base = base} {q = q} {left = left} of lane
       are = joined (are_later grows so_far.are) (are_later heard leaves.is.are) (apart of name end begins) (still of name end begins) (now of name end begins)
           (either of name end begins);
       tallies = tallies;
+      turned = turned;
       rise = up_to_later past (no_less grows) so_far.rise;
     }
 
 -- law: so where its passes are taken in
 pub left_taken : {s : Script} {x : WorldOf} {before : List Seen} {base p q : WorldPass} {left : LeftOf} (of : ℕ → LaneSoFar) (lane : Lane)
     {rest : List CallInRound} {most : ℕ} → let first = (of lane.label.lane).done in
-    (leaves : MakesInRound s x before base first no_notes lane.label.lane (lane_of lane) first rest lane.answers.items most) → lane.label.lane < s.lanes
+    (leaves : MakesInRound s x before base first no_notes [] lane.label.lane (lane_of lane) first rest lane.answers.items most) → lane.label.lane < s.lanes
     → TakesInPass p lane.pass q → AreLeftSoFar s (before ++ seen_by base ∷ []) p left of
     → AreLeftSoFar s (before ++ seen_by base ∷ []) q (with_lane left lane) (put of lane.label.lane (record { done = leaves.all; rest = rest }))
-left_taken {left = left} of lane leaves within takes so_far =
+left_taken {s = s} {p = p} {left = left} of lane {rest = rest} leaves within takes so_far =
     left_added of lane leaves within (more_taken takes) (more_heard takes)
-    (tallies_more left.notes lane.notes so_far.tallies (adds_taken takes leaves.is.tallies)) so_far
+    (tallies_more left.notes lane.notes so_far.tallies (adds_taken takes leaves.is.tallies))
+    (λ k. omega (
+      arith,
+      leaves.is.turned k,
+      so_far.turned k,
+      mine_both (is_place 0 k) p.signals.knows.pass.mine lane.pass.signals.knows.pass.mine takes.signals.mine,
+      turned_put k s.lanes of lane.label.lane (record { done = leaves.all; rest = rest }) within,
+    )) so_far
 
 -- law: and of the first lane, whose passes the others' are taken into
 pub left_first_lane : {s : Script} {x : WorldOf} {before : List Seen} {base : WorldPass} {left : LeftOf} (of : ℕ → LaneSoFar) (lane : Lane)
     {rest : List CallInRound} {most : ℕ} → let first = (of lane.label.lane).done in
-    (leaves : MakesInRound s x before base first left.notes lane.label.lane (lane_of lane) first rest lane.answers.items most) → lane.label.lane < s.lanes
+    (leaves : MakesInRound s x before base first left.notes base.signals.knows.pass.mine lane.label.lane (lane_of lane) first rest lane.answers.items most)
+    → lane.label.lane < s.lanes
     → AreLeftSoFar s (before ++ seen_by base ∷ []) base left of
     → AreLeftSoFar s (before ++ seen_by base ∷ []) lane.pass (with_lane left lane) (put of lane.label.lane (record { done = leaves.all; rest = rest }))
-left_first_lane of lane leaves within so_far = left_added of lane leaves within leaves.is.sees more_same leaves.is.tallies so_far
+left_first_lane {s = s} of lane {rest = rest} leaves within so_far =
+    left_added of lane leaves within leaves.is.sees more_same leaves.is.tallies
+    (λ k. omega (
+      arith,
+      leaves.is.turned k,
+      so_far.turned k,
+      turned_put k s.lanes of lane.label.lane (record { done = leaves.all; rest = rest }) within,
+    )) so_far

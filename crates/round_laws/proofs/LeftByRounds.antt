@@ -17,13 +17,14 @@ use Rattle.script_text.specs.Scripts.{all_calls, IsInRange}
 use Rattle.script_text.specs.declared.script.Call.TheVariants as calls
 use Rattle.script_text.specs.declared.script.Script.{Script}
 use Rattle.record_text.specs.declared.record.Answer.TheVariants as answers
-use Rattle.lane_world.proofs.Kept.{seen_by, label_of, StandAt, list_of, IsNoteSeen, TellLog, own_notes}
-use Rattle.lane_world.proofs.Left.{AreByRounds, AreLeft}
+use Rattle.lane_world.proofs.Kept.{AreTurnsOf, seen_by, label_of, StandAt, list_of, IsNoteSeen, TellLog, own_notes}
+use Rattle.lane_world.proofs.Left.{AreByRounds, AreLeft, sum_below, turns_at}
+use Rattle.round_laws.proofs.Tallies.{sum_items, sum_same}
 use Rattle.lane_world.specs.Rounds.{LeftOf, MakesRounds, none_left}
 use Rattle.lane_world.specs.Worlds.{AreFirst, IsWhole, IsWorldOf, WorldOf}
 use Rattle.lane_world.specs.declared.WorldPass.{WorldPass}
-use Rattle.round_laws.proofs.Chains.{clock_list, LiesIn, ListOf, moves_list, start_of}
-use Rattle.round_laws.proofs.LaneRound.{LaneSoFar, calls_in, Stands, DoneCall, answers_in}
+use Rattle.round_laws.proofs.Chains.{clock_list, LiesIn, ListOf, moves_list, signals_list, start_of}
+use Rattle.round_laws.proofs.LaneRound.{LaneSoFar, calls_in, Stands, DoneCall, answers_in, turns_done}
 use Rattle.round_laws.proofs.LanesTaken.{AreLeftSoFar}
 use Rattle.round_laws.proofs.NotesJoined.{own_notes-none}
 use Rattle.lane_world.proofs.PartLists.{each_weaker}
@@ -34,7 +35,13 @@ use Rattle.round_laws.proofs.LaneKept.{KeepsEach}
 abbrev pub no_call : DoneCall
 no_call = record {
   at = record { round = 0; call = calls.Cancel 0 };
-  log = record { notes = []; trace = record { at = 0; fired = []; moved = []; actions = []; first = 0; last = 0 }; moves = (0, 0); clock = (0, 0) };
+  log = record {
+    notes = [];
+    trace = record { at = 0; fired = []; moved = []; actions = []; first = 0; last = 0; turns = [] };
+    moves = (0, 0);
+    clock = (0, 0);
+    signals = (0, 0);
+  };
   answer = answers.NoSignal;
 }
 
@@ -47,6 +54,9 @@ tell_none = record {
 
 stand_none : (q : WorldPass) → StandAt q no_call.log
 stand_none q = record { rise = tt; below = tt; made = tt; shows = λ e follows. tt }
+
+turned_none : (s : Script) (q : WorldPass) → AreTurnsOf s q no_call.log
+turned_none s q = record { rise = tt; below = tt; each = tt }
 
 -- ---- when no calls are left of any lane
 
@@ -69,18 +79,24 @@ module _ {s : Script} {past : List Seen} {q : WorldPass} {left : LeftOf} (of : �
   there : (c : Label) → IsLabel s c → slice_get (of c.lane).done c.call ≡ Some (call_at c)
   there c is = slice_get-get_or (of c.lane).done c.call no_call (omega (arith, is, as_many c.lane))
 
-  stands : (c : Label) → IsLabel s c → Stands past q (call_at c)
-  stands c is = all_at (Stands past q) (of c.lane).done c.call (call_at c) (so_far.kept c.lane).each (there c is)
+  stands : (c : Label) → IsLabel s c → Stands s past q (call_at c)
+  stands c is = all_at (Stands s past q) (of c.lane).done c.call (call_at c) (so_far.kept c.lane).each (there c is)
 
   -- of each call, and of what is none
-  of_each : (c : Label) → TellLog (log_in c) (own_notes c left.notes) × StandAt q (log_in c)
+  of_each : (c : Label) → TellLog (log_in c) (own_notes c left.notes) × StandAt q (log_in c) × AreTurnsOf s q (log_in c)
   of_each c =
-      ⊎_elim (λ (is : c.call < length (calls_of s c.lane)). (so_far.are.tell c (log_in c) (call_at c, there c is, refl), (stands c is).stand))
+      ⊎_elim (λ (is : c.call < length (calls_of s c.lane)). (
+        so_far.are.tell c (log_in c) (call_at c, there c is, refl),
+        (stands c is).stand,
+        (stands c is).turned,
+      ))
       (λ (none : length (calls_of s c.lane) ≤ c.call). let past_all : length (of c.lane).done ≤ c.call = omega (arith, none, as_many c.lane) in
-      subst (λ (k : DoneCall). TellLog k.log (own_notes c left.notes) × StandAt q k.log) (sym (get_or_past (of c.lane).done c.call no_call past_all)) (
+      subst (λ (k : DoneCall). TellLog k.log (own_notes c left.notes) × StandAt q k.log
+      × AreTurnsOf s q k.log) (sym (get_or_past (of c.lane).done c.call no_call past_all)) (
         subst (TellLog no_call.log) (sym (own_notes-none c so_far.are
             (λ g at. absurd (omega (arith, past_all, slice_get_within (of c.lane).done c.call at.0 at.1))))) tell_none,
         stand_none q,
+        turned_none s q,
       ))
       (cases_lt c.call (length (calls_of s c.lane)))
 
@@ -98,6 +114,15 @@ module _ {s : Script} {past : List Seen} {q : WorldPass} {left : LeftOf} (of : �
         )) (so_far.are.seen k);
     few = omega (arith, few, range.count);
     places = so_far.tallies;
+    turned = λ c. (of_each c).2;
+    unturned = λ c none. ⊎_elim (λ (is : c.call < length (calls_of s c.lane)). absurd (none is))
+        (λ (past : length (calls_of s c.lane) ≤ c.call).
+        ap (λ (k : DoneCall). k.log.trace.turns) (get_or_past (of c.lane).done c.call no_call (omega (arith, past, as_many c.lane))))
+        (cases_lt c.call (length (calls_of s c.lane)));
+    turn_places = λ k. so_far.turned k ∙ sum_same s.lanes (λ j. turns_done k (of j).done)
+        (λ j. sum_below (length (calls_of s j)) (λ i. turns_at k (log_in (label_at j i)))) (λ j.
+        sum_items (λ (d : DoneCall). turns_at k d.log) no_call (of j).done
+        ∙ ap (λ n. sum_below n (λ i. turns_at k (get_or (of j).done i no_call).log)) (sym (as_many j)));
   }
 
   -- ---- along one list
@@ -128,15 +153,21 @@ module _ {s : Script} {past : List Seen} {q : WorldPass} {left : LeftOf} (of : �
 
   -- what had been seen of each list when each round began
   abbrev all_starts : RoundStarts
-  all_starts = record { moves = start_of moves_list past (seen_by q); clock = start_of clock_list past (seen_by q) }
+  all_starts = record {
+    moves = start_of moves_list past (seen_by q);
+    clock = start_of clock_list past (seen_by q);
+    signals = start_of signals_list past (seen_by q);
+  }
 
   -- law: then calls stand by rounds, and fit
   by_rounds : AreByRounds s q log_in all_starts left.answers
   by_rounds = record {
-    moves = λ r. ledger_on moves_list;
-    clock = λ r. ledger_on clock_list;
+    moves = λ r signals. ledger_on moves_list;
+    clock = λ r signals. ledger_on clock_list;
+    signals = λ r signals. ledger_on signals_list;
     moves_most = λ c is. (lies_of moves_list c is).most;
     clock_most = λ c is. (lies_of clock_list c is).most;
+    signals_most = λ c is. (lies_of signals_list c is).most;
     lanes = so_far.lanes;
     calls = λ e follows has joined lane.
         let done = (of lane).done in

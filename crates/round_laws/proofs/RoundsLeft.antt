@@ -22,10 +22,12 @@ use Rattle.lane_world.specs.declared.WorldPass.{WorldPass}
 use Rattle.round_laws.proofs.CallingLanes.{calls_within, in_round, many_calls, no_calls, round_first, lane_and_behind, many_from, many_most}
 use Rattle.round_laws.proofs.Chains.{up_to_push, no_less_same}
 use Rattle.round_laws.proofs.LaneKept.{KeepsEach, fits_lane_behind}
-use Rattle.round_laws.proofs.LaneRound.{BeginsSo, begins_behind, begins_first, IsKeptOf, kept_pushed, LaneSoFar, leaves_from, MakesInRound}
+use Rattle.round_laws.proofs.LaneRound.{BeginsSo, begins_behind, begins_first, IsKeptOf, kept_pushed, LaneSoFar, leaves_from, MakesInRound, turns_done}
 use Rattle.round_laws.proofs.LanesTaken.{AreLeftSoFar, left_first_lane, left_taken, put, put_at}
 use Rattle.round_laws.proofs.NotesJoined.{none_noted}
-use Rattle.round_laws.proofs.Tallies.{tallies_none}
+use Rattle.round_laws.proofs.Tallies.{sum_none, tallies_none}
+use Rattle.pass_names.specs.Counts.{count}
+use Rattle.pass_names.specs.Passes.{is_place}
 use Rattle.run_history.specs.Runs.{witness_of}
 use Rattle.run_history.specs.Actions.{also}
 use Rattle.lane_world.specs.Called.{lane_of}
@@ -54,6 +56,7 @@ round_begun {past = past} {p = p} so_far = record {
   kept = λ j. kept_pushed (so_far.kept j);
   are = so_far.are;
   tallies = so_far.tallies;
+  turned = so_far.turned;
   rise = up_to_push past (seen_by p) so_far.rise;
 }
 
@@ -62,20 +65,20 @@ module _ {s : Script} {x : WorldOf} (each : KeepsEach s x) (world : IsWorldOf s 
     (callers : AllByRecursion (λ c. c.lane < s.lanes) r.calls) (rest : ℕ → List CallInRound)
     (calls : (j : ℕ) → (was j).rest ≡ in_round (length before) (lane_calls j r) ++ rest j) where
   -- a lane of this number leaves this of the round, behind these notes of its passes
-  abbrev LeavesFrom : NotesOf → ℕ → Lane → Type 0
-  LeavesFrom start j l =
-      MakesInRound s x before base (was j).done start j (lane_of l) (was j).done (rest j) l.answers.items (many_calls r j) × (j < s.lanes)
+  abbrev LeavesFrom : NotesOf → List (ℕ × ℕ) → ℕ → Lane → Type 0
+  LeavesFrom start from j l =
+      MakesInRound s x before base (was j).done start from j (lane_of l) (was j).done (rest j) l.answers.items (many_calls r j) × (j < s.lanes)
 
   abbrev Leaves : ℕ → Lane → Type 0
-  Leaves = LeavesFrom no_notes
+  Leaves = LeavesFrom no_notes []
 
-  leaves_by : {start : NotesOf} {old new : Lane} → old.label.lane < s.lanes → BeginsSo s x base left start old → MakesLane x r old new
-      → LeavesFrom start (name_of new) new
-  leaves_by {start} {old} {new} within begins makes =
+  leaves_by : {start : NotesOf} {from : List (ℕ × ℕ)} {old new : Lane} → old.label.lane < s.lanes → BeginsSo s x base left start from old
+      → MakesLane x r old new → LeavesFrom start from (name_of new) new
+  leaves_by {start} {from} {old} {new} within begins makes =
       let name = old.label.lane in
       let kept = subst (λ ps. IsKeptOf s before base name (record { done = (was name).done; rest = ps })) (calls name) (so_far.kept name) in
-      let its = leaves_from each world range whole before base (was name).done start (rest name) (kept_pushed kept) (so_far.given name) begins makes in
-      subst (λ j. LeavesFrom start j new) (sym makes.name) (its, within)
+      let its = leaves_from each world range whole before base (was name).done start from (rest name) (kept_pushed kept) (so_far.given name) begins makes in
+      subst (λ j. LeavesFrom start from j new) (sym makes.name) (its, within)
 
   -- each does that has calls in it
   each_leaves : (begun ended : List Lane) → length ended ≡ length begun → AllByRecursion (BeginsRound base left) begun
@@ -122,7 +125,8 @@ module _ {s : Script} {x : WorldOf} (each : KeepsEach s x) (world : IsWorldOf s 
         → Taken (a + 1) m mid → Taken a q (with_lane mid lane)
     one_lane {a} {mid = mid} lane behind here its takes those =
         let name = name_of lane in
-        let leaves = subst (λ (d : LaneSoFar). MakesInRound s x before base d.done no_notes name (lane_of lane) d.done (rest name) lane.answers.items (many_calls r name))
+        let leaves = subst (λ (d : LaneSoFar). MakesInRound s x before base d.done no_notes [] name (lane_of lane) d.done (rest name) lane.answers.items
+        (many_calls r name))
         (sym (those.free name (omega (arith, here)) ∙ same name (omega (arith, here, behind)))) its.0 in
         let end : LaneSoFar = record { done = leaves.all; rest = rest name } in
         record {
@@ -246,11 +250,16 @@ left_first s {p = p} first = record {
   kept = λ j. record {
     parts = refl;
     promised = λ e follows has joined more fits. fits_lane_behind (witness_of s e) j 0 unseen (seen_by p) (calls_of s j) more
-        (record { clock = omega arith; moves = omega arith }) fits;
+        (record { clock = omega arith; moves = omega arith; signals = omega arith }) fits;
     each = tt;
     next = λ x i g h at. absurd (cc);
   };
   are = none_noted (λ c g at. absurd (let none = at.1 in cc));
   tallies = tallies_none (ap (λ k. k.mine) first.timers) (ap (λ v. v.pass.mine) first.objects) (ap (λ v. v.pass.mine) first.clock);
+  turned = λ k. omega (
+    arith,
+    ap (λ v. count (is_place 0 k) v.mine) first.signals,
+    sum_none s.lanes (λ j. turns_done k (lane_first s j).done) (λ j. refl),
+  );
   rise = λ round. no_less_same;
 }

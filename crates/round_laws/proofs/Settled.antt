@@ -13,7 +13,8 @@ use Rattle.script_text.specs.declared.script.Script.{Script}
 use Rattle.lane_world.proofs.Kept.{label_of, list_of}
 use Rattle.lane_world.proofs.Left.{AreByRounds, AreLeft}
 use Rattle.lane_world.proofs.PartLists.{each_weaker}
-use Rattle.lane_world.proofs.SeenMore.{begins_same, follows_less, seen_later, SeesMore, stand_later}
+use Rattle.lane_world.proofs.SeenMore.{begins_same, follows_less, seen_later, SeesMore, stand_later, turned_later}
+use Rattle.signal_queue.specs.Rules.{turns}
 use Rattle.lane_world.specs.Runs.{LooksAtAll, Settles}
 use Rattle.lane_world.specs.Worlds.{WorldOf}
 use Rattle.lane_world.specs.declared.WorldPass.{WorldPass}
@@ -24,6 +25,7 @@ pub record OnlySees (p q : WorldPass) : Type 0 where
   pub timers : q.timers.known.mine ≡ p.timers.known.mine
   pub objects : q.objects.knows.pass.mine ≡ p.objects.knows.pass.mine
   pub clock : q.clock.knows.pass.mine ≡ p.clock.knows.pass.mine
+  pub signals : q.signals ≡ p.signals
 
 -- law: as when the clock was settled
 pub only_settles : {p q : WorldPass} → Settles p q → OnlySees p q
@@ -32,10 +34,12 @@ only_settles settles = record {
     timers = settles.timers.seen;
     clock = settles.clock.seen.each 0;
     objects = λ i. begins_same (ap (λ o. seen_of o i) settles.objects);
+    signals = begins_same (ap (λ u. turns u.knows) settles.signals);
   };
   timers = settles.timers.mine;
   objects = ap (λ o. o.knows.pass.mine) settles.objects;
   clock = settles.clock.mine;
+  signals = settles.signals;
 }
 
 -- passes that have looked at each object, that of the timers as it was before
@@ -49,10 +53,12 @@ only_looks looks = record {
     timers = begins_same refl;
     clock = begins_same (ap (λ c. writes c.knows) looks.clock);
     objects = λ i. looks.objects.seen.each i;
+    signals = begins_same (ap (λ u. turns u.knows) looks.signals);
   };
   timers = refl;
   objects = looks.objects.mine;
   clock = ap (λ c. c.knows.pass.mine) looks.clock;
+  signals = looks.signals;
 }
 
 -- law: nothing else was made since
@@ -67,6 +73,9 @@ left_later {notes = notes} {logs = logs} sees left = record {
     objects = λ i n. ap (count (is_place i n)) sees.objects ∙ left.places.objects i n;
     clock = λ n. ap (count (is_place 0 n)) sees.clock ∙ left.places.clock n;
   };
+  turned = λ c. turned_later sees.more (left.turned c);
+  unturned = left.unturned;
+  turn_places = λ k. ap (λ u. count (is_place 0 k) u.knows.pass.mine) sees.signals ∙ left.turn_places k;
 }
 
 -- law: and calls stand by rounds as before
@@ -75,8 +84,10 @@ pub rounds_later : {s : Script} {p q : WorldPass} {logs : Label → CallLog} {st
 rounds_later sees rounds = record {
   moves = rounds.moves;
   clock = rounds.clock;
+  signals = rounds.signals;
   moves_most = λ c is. omega (arith, rounds.moves_most c is, begins_length sees.more.timers);
   clock_most = λ c is. omega (arith, rounds.clock_most c is, begins_length sees.more.clock);
+  signals_most = λ c is. omega (arith, rounds.signals_most c is, begins_length sees.more.signals);
   lanes = rounds.lanes;
   calls = λ e follows has joined lane. rounds.calls e (follows_less sees.more follows) has joined lane;
 }

@@ -1,5 +1,5 @@
 -- The places that passes have made are those of the notes: one call after another, and when passes are taken in.
-use Rattle.std.proofs.Common.{◌≡◌, ℕ, ◌+◌, Bool, List, [], ◌++◌, map, ap, ◌∙◌, arith}
+use Rattle.std.proofs.Common.{◌≡◌, ℕ, ◌+◌, Bool, List, [], ◌∷◌, ◌++◌, map, ap, ◌∙◌, arith}
 use Rattle.std.proofs.lemmas.List.{map-append}
 use Rattle.lane_notes.specs.Notes.{both_noted, no_notes, NotesOf}
 use Rattle.lane_notes.specs.declared.notes.ObjectNote.{ObjectNote}
@@ -9,10 +9,41 @@ use Rattle.pass_names.specs.Passes.{is_place}
 use Rattle.pass_names.proofs.Counts.{total-append}
 use Rattle.lane_world.specs.Rounds.{HasSplit, TakesInPass}
 use Rattle.lane_world.specs.declared.WorldPass.{WorldPass}
+use Rattle.std.proofs.Common.{◌<◌, zero, suc, length, get_or, refl}
+use Rattle.lane_world.proofs.Left.{sum_below}
+use Rattle.pass_names.specs.Counts.{total}
 use Rattle.lane_world.proofs.Kept.{AddsPlaces, Tallies, base_note_place, note_place, places_noted}
 
+-- ---- sums
+
+-- law: of equal values
+pub sum_same : (n : ℕ) (f g : ℕ → ℕ) → ((j : ℕ) → f j ≡ g j) → sum_below n f ≡ sum_below n g
+sum_same zero f g same = refl
+sum_same (suc n) f g same = let rest = sum_same n (λ j. f (suc j)) (λ j. g (suc j)) (λ j. same (suc j)) in omega (arith, same 0, rest)
+
+-- law: of none
+pub sum_none : (n : ℕ) (f : ℕ → ℕ) → ((j : ℕ) → f j ≡ 0) → sum_below n f ≡ 0
+sum_none zero f none = refl
+sum_none (suc n) f none = let rest = sum_none n (λ j. f (suc j)) (λ j. none (suc j)) in omega (arith, none 0, rest)
+
+-- law: of values that are equal but for one
+pub sum_at : (n a : ℕ) (f g : ℕ → ℕ) → a < n → ((j : ℕ) → (j ≡ a → ⊥) → f j ≡ g j) → sum_below n f + g a ≡ sum_below n g + f a
+sum_at zero a f g less same = absurd (omega (arith, less))
+sum_at (suc n) zero f g less same =
+    let rest = sum_same n (λ j. f (suc j)) (λ j. g (suc j)) (λ j. same (suc j) (λ is. absurd (omega (arith, is)))) in omega (arith, rest)
+sum_at (suc n) (suc a) f g less same =
+    let rest = sum_at n a (λ j. f (suc j)) (λ j. g (suc j)) (omega (arith, less)) (λ j other. same (suc j) (λ is. other (omega (arith, is)))) in
+    omega (arith, rest, same 0 (λ is. absurd (omega (arith, is))))
+
+-- law: of the items of a list
+pub sum_items : {X : Type 0} (f : X → ℕ) (d : X) (xs : List X) → total f xs ≡ sum_below (length xs) (λ i. f (get_or xs i d))
+sum_items f d [] = refl
+sum_items f d (x ∷ xs) = ap (λ n. f x + n) (sum_items f d xs)
+
+-- ---- places
+
 -- the places of two passes together
-mine_both : (test : ℕ × ℕ → Bool) (xs ys : List (ℕ × ℕ)) {zs : List (ℕ × ℕ)} → zs ≡ xs ++ ys → count test zs ≡ count test xs + count test ys
+pub mine_both : (test : ℕ × ℕ → Bool) (xs ys : List (ℕ × ℕ)) {zs : List (ℕ × ℕ)} → zs ≡ xs ++ ys → count test zs ≡ count test xs + count test ys
 mine_both test xs ys is = ap (count test) is ∙ total-append (λ x. one_if (test x)) xs ys
 
 -- the places of notes of one kind and of others

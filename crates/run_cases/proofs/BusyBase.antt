@@ -38,7 +38,7 @@ busy_move = record {
 -- what the call did that would take the base off line
 abbrev busy_trace : Trace
 busy_trace =
-    record { at = 0; fired = []; moved = busy_move ∷ []; actions = flat_map (evacuates 0 0) (busy_move ∷ []); first = 4; last = 7 }
+    record { at = 0; fired = []; moved = busy_move ∷ []; actions = flat_map (evacuates 0 0) (busy_move ∷ []); first = 4; last = 7; turns = [] }
 
 -- its witness
 abbrev busy_witness : Witness
@@ -134,17 +134,17 @@ not_finished (suc (suc (suc (suc (suc k))))) runs = absurd (none_some runs)
 -- law: it does not fit
 pub running_moved_doesnt_fit : Fits busy_script running_moved_record → ⊥
 running_moved_doesnt_fit o =
-    let w = witness_with busy_script running_moved_record o.0 o.1 in
-    let f = o.2 in
+    let w = witness_with busy_script running_moved_record o.0 o.1 o.2 in
+    let f = o.3 in
     let peek = (f.calls 0).2.2.1.0 in
     let call = (f.calls 0).2.2.2.1.0 in
-    let t = o.1 (at 0 3) in
+    let t = o.2 (at 0 3) in
     let moved = one_moved w t.first t.last 1 t.moved call.does.0.counted call.turns in
     let n = moved.0 in
     -- between the look and the call's last moment the timer has three entries, so its function runs where the other timer is moved
-    let low = seen_rises w f.history f.timers (o.1 (at 0 2)).last n 0 (omega (arith, peek.move_steps.1, call.move_steps.0, moved.1)) in
+    let low = seen_rises w f.history f.timers (o.2 (at 0 2)).last n 0 (omega (arith, peek.move_steps.1, call.move_steps.0, moved.1)) in
     let high = seen_rises w f.history f.timers n t.last 0 moved.2 in
     let last = not_finished (seen w t.last 0) (sym (same_then w f.history f.timers (running_on 1) refl t.last 0) ∙ call.holds.1.0) in
-    let three : seen w n 0 ≡ 3 = omega (arith, low, high, last, peek.holds.stamp, stamp_then w f.history f.timers (o.1 (at 0 2)).last 0) in
+    let three : seen w n 0 ≡ 3 = omega (arith, low, high, last, peek.holds.stamp, stamp_then w f.history f.timers (o.2 (at 0 2)).last 0) in
     false≢true (sym (moved.3 0) ∙ same_then w f.history f.timers (runs_on 1) refl n 0
     ∙ ap (λ k. runs_on 1 (timer_after busy_script running_moved_record 0 k)) three)

@@ -16,11 +16,11 @@ use Rattle.run_history.specs.Calls.{Does, AnswerHolds}
 use Rattle.run_history.specs.Deeds.{AllKeepExpiries, AllMoved}
 use Rattle.run_history.specs.Truths.{AreTrue, WasFront, WasOffLine}
 use Rattle.run_history.specs.Witnesses.{Witness, labels, writes_along}
-use Rattle.run_history.specs.Fits.{FitsLane, HasRead, ReadsInTurn}
+use Rattle.run_history.specs.Fits.{FitsLane, HasRead, ReadsInTurn, Seen}
 use Rattle.run_history.specs.Traces.{all_entered, HasTraced, own_moves}
 use Rattle.run_history.proofs.OthersMade.{none_moved}
 use Rattle.run_cases.proofs.Witnesses.{Along, everywhere}
-use Rattle.run_cases.proofs.Tests.{are_made, are_timed, AreTold, is_point, never_fall, IsPast, made_past, point_passes, steps_pass, told_pass, upto}
+use Rattle.run_cases.proofs.Tests.{are_made, are_timed, AreTold, is_point, is_signalled, never_fall, IsPast, made_past, point_passes, signalled_passes, steps_pass, told_pass, upto}
 
 -- ---- calls
 
@@ -33,6 +33,15 @@ last_of n (m ∷ ms) = last_of m ms
 abbrev pub clock_then : Witness → Label → ℕ
 clock_then w c = last_of (w.traces c).at (map (λ x. x.0) (wrote (w.traces c).actions))
 
+-- how many pushes and pops of signals a call has seen at its end
+abbrev pub signals_then : Witness → Label → ℕ → ℕ
+signals_then w c signals = last_of signals (map (λ x. x.0) (w.traces c).turns)
+
+-- a call's pushes and pops stand behind this number of them, and are what its answer names and the signals of what it entered
+abbrev pub is_heard : Witness → Label → Answer → ℕ → Bool
+is_heard w c answer signals =
+    is_signalled w c (w.traces c) answer && never_fall signals (map (λ x. x.0) (w.traces c).turns) (signals_then w c signals)
+
 -- a call's reading, its first and its last moment stand where they may, behind these numbers of writes and of moves, and it has as many of the clock's
 -- writes as stand before the first moment
 abbrev pub is_placed : Witness → Label → ℕ → ℕ → Bool
@@ -42,6 +51,10 @@ is_placed w c clock moves =
     && nat_eq (writes_along w (w.traces c).first) (w.traces c).at))
     && ((is_point w.script c 0 (w.traces c).first (labels w)
     && is_point w.script c (length (all_entered (w.traces c).actions)) (w.traces c).last (labels w)) && nat_le moves (w.traces c).first)
+
+-- what a lane has seen at a call's end
+abbrev pub seen_then : Witness → Label → Seen → Seen
+seen_then w c before = record { clock = clock_then w c; moves = (w.traces c).last; signals = signals_then w c before.signals }
 
 -- what else makes a call fit
 pub record IsRight (w : Witness) (c : Label) (call : Call) (answer : Answer) : Type 0 where
@@ -62,11 +75,11 @@ AreRight w lane index [] (a ∷ more) = ⊥
 AreRight w lane index (p ∷ ps) [] = ⊥
 
 -- the same of a lane's calls from one of them on
-abbrev pub are_placed : Witness → ℕ → ℕ → ℕ → ℕ → List CallInRound → Bool
-are_placed w lane index clock moves [] = true
-are_placed w lane index clock moves (p ∷ ps) =
-    is_placed w (record { lane = lane; call = index }) clock moves
-    && are_placed w lane (index + 1) (clock_then w (record { lane = lane; call = index })) (w.traces (record { lane = lane; call = index })).last ps
+abbrev pub are_placed : Witness → ℕ → ℕ → Seen → List CallInRound → List Answer → Bool
+are_placed w lane index before (p ∷ ps) (a ∷ more) =
+    (is_placed w (record { lane = lane; call = index }) before.clock before.moves && is_heard w (record { lane = lane; call = index }) a before.signals)
+    && are_placed w lane (index + 1) (seen_then w (record { lane = lane; call = index }) before) ps more
+are_placed w lane index before ps given = true
 
 -- a call that could have read the clock there did so in its turn, if it read it
 in_turn : (w : Witness) (c : Label) (call : Call) (from : ℕ) → HasRead w c from → ReadsInTurn w c call from
@@ -78,29 +91,32 @@ in_turn w c (calls.Online base) from read = tt
 in_turn w c call from read = read
 
 -- law: so the calls of a lane fit
-pub lane_fits : (w : Witness) (lane index clock moves : ℕ) (ps : List CallInRound) (given : List Answer)
-    → are_placed w lane index clock moves ps ≡ true
-    → AreRight w lane index ps given → FitsLane w lane index (record { clock = clock; moves = moves }) ps given
-lane_fits w lane index clock moves [] [] placed right = tt
-lane_fits w lane index clock moves [] (a ∷ more) placed right = absurd right
-lane_fits w lane index clock moves (p ∷ ps) [] placed right = absurd right
-lane_fits w lane index clock moves (p ∷ ps) (a ∷ more) placed right =
+pub lane_fits : (w : Witness) (lane index : ℕ) (before : Seen) (ps : List CallInRound) (given : List Answer)
+    → are_placed w lane index before ps given ≡ true → AreRight w lane index ps given → FitsLane w lane index before ps given
+lane_fits w lane index before [] [] placed right = tt
+lane_fits w lane index before [] (a ∷ more) placed right = absurd right
+lane_fits w lane index before (p ∷ ps) [] placed right = absurd right
+lane_fits w lane index before (p ∷ ps) (a ∷ more) placed right =
     let c : Label = record { lane = lane; call = index } in
     let t = w.traces c in
     let these = map (λ x. x.0) (wrote t.actions) in
-    let both = and_parts (is_placed w c clock moves) (are_placed w lane (index + 1) (clock_then w c) t.last ps) placed in
+    let turned = map (λ x. x.0) t.turns in
+    let all = and_parts (is_placed w c before.clock before.moves && is_heard w c a before.signals)
+    (are_placed w lane (index + 1) (seen_then w c before) ps more) placed in
+    let both = and_parts (is_placed w c before.clock before.moves) (is_heard w c a before.signals) all.0 in
+    let heard = and_parts (is_signalled w c t a) (never_fall before.signals turned (signals_then w c before.signals)) both.1 in
     let halves = and_parts (is_point w.script c 0 t.at (clock_labels w.run)
-    && (never_fall clock (t.at ∷ these) (clock_then w c) && nat_eq (writes_along w t.first) t.at))
+    && (never_fall before.clock (t.at ∷ these) (clock_then w c) && nat_eq (writes_along w t.first) t.at))
     ((is_point w.script c 0 t.first (labels w) && is_point w.script c (length (all_entered t.actions)) t.last (labels w))
-    && nat_le moves t.first) both.0 in
+    && nat_le before.moves t.first) both.0 in
     let times = and_parts (is_point w.script c 0 t.at (clock_labels w.run))
-    (never_fall clock (t.at ∷ these) (clock_then w c) && nat_eq (writes_along w t.first) t.at) halves.0 in
-    let readings = and_parts (never_fall clock (t.at ∷ these) (clock_then w c)) (nat_eq (writes_along w t.first) t.at) times.1 in
+    (never_fall before.clock (t.at ∷ these) (clock_then w c) && nat_eq (writes_along w t.first) t.at) halves.0 in
+    let readings = and_parts (never_fall before.clock (t.at ∷ these) (clock_then w c)) (nat_eq (writes_along w t.first) t.at) times.1 in
     let rest = and_parts (is_point w.script c 0 t.first (labels w) && is_point w.script c (length (all_entered t.actions)) t.last (labels w))
-    (nat_le moves t.first) halves.1 in
+    (nat_le before.moves t.first) halves.1 in
     let ends = and_parts (is_point w.script c 0 t.first (labels w))
     (is_point w.script c (length (all_entered t.actions)) t.last (labels w)) rest.0 in (
-      record { clock = clock_then w c; moves = t.last },
+      seen_then w c before,
       (
         record {
           traced = right.0.traced;
@@ -112,17 +128,19 @@ lane_fits w lane index clock moves (p ∷ ps) (a ∷ more) placed right =
           ends = point_passes w.script c (length (all_entered t.actions)) t.last (labels w) ends.1;
           truth = right.0.truth;
           holds = right.0.holds;
-          clock_steps = steps_pass clock (t.at ∷ these) (clock_then w c) readings.0;
-          move_steps = (upto moves t.first rest.1, omega arith);
+          clock_steps = steps_pass before.clock (t.at ∷ these) (clock_then w c) readings.0;
+          move_steps = (upto before.moves t.first rest.1, omega arith);
+          signalled = signalled_passes w c t a heard.0;
+          signal_steps = steps_pass before.signals turned (signals_then w c before.signals) heard.1;
         },
-        in_turn w c p.call moves (record {
+        in_turn w c p.call before.moves (record {
           moment = t.first;
-          behind = upto moves t.first rest.1;
+          behind = upto before.moves t.first rest.1;
           no_later = omega arith;
           writes = eqb-true (writes_along w t.first) t.at readings.1;
         }),
       ),
-      lane_fits w lane (index + 1) (clock_then w c) t.last ps more both.1 right.1,
+      lane_fits w lane (index + 1) (seen_then w c before) ps more all.1 right.1,
     )
 
 -- what a call did can be said of each timer and each object that is there

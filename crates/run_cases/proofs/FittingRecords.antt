@@ -1,5 +1,5 @@
 -- The records that fit: a witness for each, and what makes it fit.
-use Rattle.std.proofs.Common.{◌≡◌, ℕ, true, false, [], ◌∷◌, List, None, arith, refl, inl, inr}
+use Rattle.std.proofs.Common.{◌≡◌, ℕ, true, false, [], ◌∷◌, List, arith, refl, inl, inr}
 use Rattle.ktime.specs.Times.{passed}
 use Rattle.ktime.specs.declared.mode.Mode.TheVariants as modes
 use Rattle.clock_model.specs.declared.write.Write.TheVariants as writes
@@ -15,7 +15,8 @@ use Rattle.script_text.specs.declared.script.Call.TheVariants as calls
 use Rattle.run_history.specs.Actions.{Entered, Looked, Wrote}
 use Rattle.run_history.specs.Order.{calls_of}
 use Rattle.run_history.specs.Witnesses.{CountersList, TimersList, Witness, entries_in, Trace}
-use Rattle.run_history.specs.Fits.{Fits}
+use Rattle.run_history.specs.Fits.{Fits, unseen}
+use Rattle.run_history.specs.Histories.{answers_of}
 use Rattle.run_cases.specs.Fitting.{accept_entry, accepted_record, accepted_script, beside, beside_script, cancelled_record, expired_lines, idle_record, idle_script, kept_start, late_record, moved_record, moved_script, moved_start, rearming_start, none_entry, running_record, set_entry, told_record, told_script, trigger_entry}
 use Rattle.run_cases.specs.Lines.{at, start, cancel_entry, out_entry}
 use Rattle.run_cases.proofs.Calls.{are_placed, IsRight, right}
@@ -193,7 +194,8 @@ abbrev expired_witness : Answer → ℕ → Witness
 expired_witness told moment = beside_witness (beside expired_lines told (answers.Done 0 (0 ∷ []))) (0 ∷ 0 ∷ []) (did 0 [] moment moment)
     (ran 0 0 (fired 2 1 [] 3 false ∷ []) 1 3)
 
-expired_fits : (told : Answer) (moment : ℕ) → are_placed (expired_witness told moment) 0 0 0 0 (calls_of beside_script 0) ≡ true
+expired_fits : (told : Answer) (moment : ℕ)
+    → are_placed (expired_witness told moment) 0 0 unseen (calls_of beside_script 0) (answers_of (expired_witness told moment).run 0) ≡ true
     → IsRight (expired_witness told moment) (at 0 1) (calls.Cancel 0) told
     → Fits beside_script (beside expired_lines told (answers.Done 0 (0 ∷ [])))
 unfolding after_entry changed

@@ -18,3 +18,6 @@ pub mod RefusedHeir
 pub mod RefusedStart
 pub mod BusyBase
 pub mod Sleepers
+pub mod SignalsFitting
+pub mod SignalsWrong
+pub mod SignalsOfRuns

@@ -5,6 +5,7 @@ use Rattle.seq_timer.specs.Systems.{after_entry, after_shift, changed, shifted}
 use Rattle.record_text.specs.declared.record.Label.{Label}
 use Rattle.run_history.specs.Deeds.{evacuates}
 use Rattle.run_history.specs.Truths.{IsFront, WasFront}
+use Rattle.run_history.specs.Signals.{SignalMove}
 use Rattle.run_history.specs.Fits.{Fits}
 use Rattle.run_history.specs.Traces.{all_entered}
 use Rattle.run_history.specs.Witnesses.{Evacuation, Move, OfBase, OfRise, OfTimer, Shown, TimersList, Trace, Witness, timer_along, witness_with}
@@ -33,9 +34,9 @@ not_this wrong = omega (arith, ap timer_of wrong)
     timer_of (Some p) = p.1
 
 -- whatever the calls did
-module _ (traces : Label → Trace) where
+module _ (signals : List SignalMove) (traces : Label → Trace) where
   abbrev w : Witness
-  w = witness_with turns_script turns_record in_order traces
+  w = witness_with turns_script turns_record in_order signals traces
 
   -- the first timer is nowhere the next one, where it has its first two entries
   never_next : (n : ℕ) → (timer_along w n 0).stamp ≡ 2 → IsFront w 1 0 n → ⊥
@@ -65,6 +66,6 @@ module _ (traces : Label → Trace) where
 pub turns_dont_fit : Fits turns_script turns_record → ⊥
 turns_dont_fit fits =
     let o = in_one_order_of turns_script turns_record in_order refl (refl, (refl, tt)) (refl, (refl, tt)) refl (refl, (refl, tt)) refl fits in
-    let call = (o.1.calls 0).2.2.1.0 in
-    none_alone o.0 (o.0 _).at (o.0 _).first (o.0 _).last (o.0 _).moved _ _ call.does.0.counted refl refl
+    let call = (o.2.calls 0).2.2.1.0 in
+    none_alone o.0 o.1 (o.1 _).at (o.1 _).first (o.1 _).last (o.1 _).moved _ _ call.does.0.counted refl refl
     (call.traced.moves ∙ ap all_entered call.does.0.done) call.turns

@@ -50,6 +50,7 @@ offline_trace = record {
   actions = flat_map (evacuates 0 0) (heir_move ∷ []) ++ Shifted 1 1 (shifts.Offline 0) ∷ [];
   first = 2;
   last = 5;
+  turns = [];
 }
 
 -- its witness
@@ -133,7 +134,7 @@ stranded_doesnt_fit fits =
     let order : List Owner = BasesList 1 ∷ TimersList 0 ∷ TimersList 0 ∷ [] in
     let o = in_one_order_of stranded_script stranded_record (moves_by stranded_record [] order) refl (refl, tt) (refl, (refl, tt)) refl (refl, tt) refl fits in
     -- at the third place, where the timer is started
-    on_line (o.1.history.history.1.1.0.base.online refl)
+    on_line (o.2.history.history.1.1.0.base.online refl)
   where
     on_line : {heir : ℕ} → Some heir ≡ None → ⊥
     on_line wrong = cc
@@ -147,7 +148,7 @@ left_doesnt_fit fits =
     let order : List Owner = TimersList 0 ∷ TimersList 0 ∷ BasesList 1 ∷ [] in
     let o = in_one_order_of left_script left_record (moves_by left_record [] order) refl (refl, tt) (refl, (refl, tt)) refl (refl, tt) refl fits in
     -- at the third place, where the base goes off line
-    let clear = o.1.history.history.1.1.0.clear in
+    let clear = o.2.history.history.1.1.0.clear in
     not_there (ap front_of clear)
   where
     not_there : {p : ℕ × ℕ} → Some p ≡ None → ⊥
@@ -213,6 +214,6 @@ pub silent_doesnt_fit : Fits silent_script silent_record → ⊥
 silent_doesnt_fit fits =
     let o = in_one_order_of silent_script silent_record (moves_by silent_record [] (BasesList 1 ∷ []))
     refl (refl, tt) (refl, (refl, tt)) refl (refl, tt) refl fits in
-    let call = (o.1.calls 0).2.1.0 in
+    let call = (o.2.calls 0).2.1.0 in
     let wrong = call.traced.moves ∙ ap all_entered call.does in
     cc

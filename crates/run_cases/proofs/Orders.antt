@@ -1,9 +1,8 @@
 -- What a record that fits has: a witness of its script, and, where calls in order made its entries, one order of them alone.
-use Rattle.std.proofs.Common.{◌≡◌, ◌<◌, ◌≤◌, ◌⊎◌, ◌&&◌, ℕ, zero, suc, Bool, true, false, if◌then◌else◌, List, [], ◌∷◌, Some, map, take, drop, arith, refl, sym, ap, ◌∙◌, subst, inl, inr}
+use Rattle.std.proofs.Common.{◌≡◌, ◌⊎◌, ◌&&◌, ℕ, zero, suc, Bool, true, false, if◌then◌else◌, List, [], ◌∷◌, Some, map, refl, sym, ap, ◌∙◌, subst, inl, inr}
 use Rattle.std.specs.List.{AllByRecursion, list_all, slice_get}
 use Rattle.std.proofs.Math.Logic.{⊎_elim}
 use Rattle.std.proofs.lemmas.Bool.{and_parts, cases_Bool, false≢true}
-use Rattle.std.proofs.lemmas.Option.{same_Some}
 use Rattle.record_text.specs.declared.record.Label.{Label}
 use Rattle.record_text.specs.declared.record.RunRecord.{RunRecord}
 use Rattle.script_text.specs.declared.script.Script.{Script}
@@ -12,6 +11,7 @@ use Rattle.run_history.specs.Order.{is_before, IsInOrder}
 use Rattle.run_history.specs.Witnesses.{BasesList, CountersList, is_owner, lines_at, Move, moves_from, moves_on, Owner, owner_of, TimersList, Trace, witness_with}
 use Rattle.run_history.specs.Fits.{Fits, FitsIn}
 use Rattle.run_history.proofs.Owners.{other_owner, owner_is, owner_itself, same_owner}
+use Rattle.run_history.specs.Signals.{SignalMove}
 use Rattle.run_cases.proofs.Witnesses.{Along, timers_moves}
 use Rattle.run_cases.proofs.Small.{each_owner, is_list}
 use Rattle.run_cases.proofs.Tests.{all_true}
@@ -31,21 +31,6 @@ found o k (x ∷ ms) m at =
         → (p : ℕ) × (slice_get (x ∷ ms) p ≡ Some m)
     here zero at further = (0, at)
     here (suc k) at further = let f = further k at in (suc f.0, f.1)
-
--- what holds of the first so many holds at their places
-pub at_early : {X : Type 0} (P : X → Type 0) (n p : ℕ) (xs : List X) (x : X) → AllByRecursion P (take n xs) → slice_get xs p ≡ Some x → p < n → P x
-at_early P n p [] x all at less = absurd (cc)
-at_early P zero p (y ∷ xs) x all at less = absurd (omega (arith, less))
-at_early P (suc n) zero (y ∷ xs) x all at less = subst P (same_Some y x at) all.0
-at_early P (suc n) (suc p) (y ∷ xs) x all at less = at_early P n p xs x all.1 at (omega (arith, less))
-
--- and of those behind
-pub at_late : {X : Type 0} (P : X → Type 0) (n p : ℕ) (xs : List X) (x : X) → AllByRecursion P (drop n xs) → slice_get xs p ≡ Some x → n ≤ p → P x
-at_late P n p [] x all at more = absurd (cc)
-at_late P zero zero (y ∷ xs) x all at more = subst P (same_Some y x at) all.0
-at_late P zero (suc p) (y ∷ xs) x all at more = at_late P zero p xs x all.1 at (omega arith)
-at_late P (suc n) zero (y ∷ xs) x all at more = absurd (omega (arith, more))
-at_late P (suc n) (suc p) (y ∷ xs) x all at more = at_late P n p xs x all at (omega (arith, more))
 
 -- two lists are one or not
 cases_owner : (a b : Owner) → (a ≡ b) ⊎ (a ≡ b → ⊥)
@@ -131,11 +116,11 @@ pub in_one_order_of : (s : Script) (r : RunRecord) (ns : List Move) → list_all
     → Along (λ b. moves_on (BasesList b) ns ≡ moves_from 0 (lines_at r (BasesList b))) 0 r.bases
     → moves_on (CountersList 0) ns ≡ moves_from 0 (lines_at r (CountersList 0))
     → Along (λ i. moves_on (CountersList (suc i)) ns ≡ moves_from 0 (lines_at r (CountersList (suc i)))) 0 r.objects → are_apart s ns ≡ true
-    → Fits s r → (traces : Label → Trace) × FitsIn (witness_with s r ns traces)
+    → Fits s r → (signals : List SignalMove) × (traces : Label → Trace) × FitsIn (witness_with s r ns signals traces)
 in_one_order_of s r ns there all bases clock objects apart fits =
     let o = fits in
     let each = each_owner r ns there all bases clock objects in
-    (o.1, subst (λ ms. FitsIn (witness_with s r ms o.1)) (one_order s o.0 ns (λ x. o.2.history.all x ∙ sym (each x)) o.2.order apart) o.2)
+    (o.1, o.2, subst (λ ms. FitsIn (witness_with s r ms o.1 o.2)) (one_order s o.0 ns (λ x. o.3.history.all x ∙ sym (each x)) o.3.order apart) o.3)
 
 -- the same, where all entries are timers', there is one base, and the clock isn't written
 pub in_one_order : (s : Script) (r : RunRecord) (order : List ℕ)
@@ -145,5 +130,5 @@ pub in_one_order : (s : Script) (r : RunRecord) (order : List ℕ)
     → Along (λ b. moves_on (BasesList b) (timers_moves r order) ≡ moves_from 0 (lines_at r (BasesList b))) 0 r.bases
     → moves_on (CountersList 0) (timers_moves r order) ≡ moves_from 0 (lines_at r (CountersList 0))
     → Along (λ i. moves_on (CountersList (suc i)) (timers_moves r order) ≡ moves_from 0 (lines_at r (CountersList (suc i)))) 0 r.objects
-    → Fits s r → (traces : Label → Trace) × FitsIn (witness_with s r (timers_moves r order) traces)
+    → Fits s r → (signals : List SignalMove) × (traces : Label → Trace) × FitsIn (witness_with s r (timers_moves r order) signals traces)
 in_one_order s r order there all apart bases clock objects fits = in_one_order_of s r (timers_moves r order) there all bases clock objects apart fits

@@ -46,13 +46,13 @@ start_reading request reading number asked reply a one = by_outs a.outs one
 -- law: it does not fit
 pub hasty_doesnt_fit : Fits awaited_script hasty_record → ⊥
 hasty_doesnt_fit o =
-    let w = witness_with awaited_script hasty_record o.0 o.1 in
-    let f = o.2 in
+    let w = witness_with awaited_script hasty_record o.0 o.1 o.2 in
+    let f = o.3 in
     let run = (f.calls 0).2.1 in
     let look = (f.calls 1).1.0 in
     let write = (f.calls 1).2.1.0 in
     -- the look was behind the claim, and before the write
-    let order = began_before w f.history f.timers (at 0 1) 0 1 (o.1 (at 1 0)).last _ refl run.0.begins look.holds.stamp (lt refl) in
+    let order = began_before w f.history f.timers (at 0 1) 0 1 (o.2 (at 1 0)).last _ refl run.0.begins look.holds.stamp (lt refl) in
     let none = reads_no_later w f.history (at 0 1) (at 1 1) _ 0 run.1 refl write.begins
     (omega (arith, order, look.move_steps.1, write.move_steps.0)) in
     omega (arith, none, run.0.does.0.one_reading)
@@ -62,16 +62,16 @@ hasty_doesnt_fit o =
 -- law: it does not fit
 pub foreseen_doesnt_fit : Fits started_script foreseen_record → ⊥
 foreseen_doesnt_fit o =
-    let w = witness_with started_script foreseen_record o.0 o.1 in
-    let f = o.2 in
+    let w = witness_with started_script foreseen_record o.0 o.1 o.2 in
+    let f = o.3 in
     let started = (f.calls 0).1 in
     let look = (f.calls 1).1.0 in
     let write = (f.calls 1).2.1.0 in
     -- the look was behind the start, and before the write
-    let order = began_before w f.history f.timers (at 0 0) 0 0 (o.1 (at 1 0)).last _ refl started.0.begins look.holds.stamp (lt refl) in
+    let order = began_before w f.history f.timers (at 0 0) 0 0 (o.2 (at 1 0)).last _ refl started.0.begins look.holds.stamp (lt refl) in
     let none = reads_no_later w f.history (at 0 0) (at 1 1) _ 0 started.1 refl write.begins (omega (arith, order, look.move_steps.1, write.move_steps.0)) in
-    let one : 1 ≡ (o.1 (at 0 0)).at = start_reading (without_slack modes.Rel 10 0) (o.1 (at 0 0)).at 1 _ _ started.0.does.0
-    (entered_then w f.history f.timers (at 0 0) (o.1 (at 0 0)).actions 0 started.0.traced.moves ∙ ap (entered 0) started.0.does.1) in
+    let one : 1 ≡ (o.2 (at 0 0)).at = start_reading (without_slack modes.Rel 10 0) (o.2 (at 0 0)).at 1 _ _ started.0.does.0
+    (entered_then w f.history f.timers (at 0 0) (o.2 (at 0 0)).actions 0 started.0.traced.moves ∙ ap (entered 0) started.0.does.1) in
     omega (arith, none, one)
 
 -- ---- a lane sees a timer that was started behind a write, and is due by it, and then has nothing to expire, by the reading before the write
@@ -79,14 +79,14 @@ foreseen_doesnt_fit o =
 -- law: it does not fit
 pub stale_doesnt_fit : Fits nothing_script stale_record → ⊥
 stale_doesnt_fit o =
-    let w = witness_with nothing_script stale_record o.0 o.1 in
-    let f = o.2 in
+    let w = witness_with nothing_script stale_record o.0 o.1 o.2 in
+    let f = o.3 in
     let started = (f.calls 0).2.1 in
     let look = (f.calls 1).1.0 in
     let run = (f.calls 1).2.1 in
     -- the look was behind the start, and before the run
-    let order = began_before w f.history f.timers (at 0 1) 0 0 (o.1 (at 1 0)).last _ refl started.0.begins look.holds.stamp (lt refl) in
+    let order = began_before w f.history f.timers (at 0 1) 0 0 (o.2 (at 1 0)).last _ refl started.0.begins look.holds.stamp (lt refl) in
     let no_less = reads_no_less w (at 0 1) (at 1 1) _ _ started.1 run.1 (omega (arith, order, look.move_steps.1)) in
-    let one : 1 ≡ (o.1 (at 0 1)).at = start_reading (without_slack modes.Abs 5 0) (o.1 (at 0 1)).at 1 _ _ started.0.does.0
-    (entered_then w f.history f.timers (at 0 1) (o.1 (at 0 1)).actions 0 started.0.traced.moves ∙ ap (entered 0) started.0.does.1) in
+    let one : 1 ≡ (o.2 (at 0 1)).at = start_reading (without_slack modes.Abs 5 0) (o.2 (at 0 1)).at 1 _ _ started.0.does.0
+    (entered_then w f.history f.timers (at 0 1) (o.2 (at 0 1)).actions 0 started.0.traced.moves ∙ ap (entered 0) started.0.does.1) in
     omega (arith, no_less, one, run.0.does.0.one_reading)

@@ -6,6 +6,7 @@ use Rattle.seq_timer.specs.Tables.{is_armed_on, runs_on}
 use Rattle.seq_timer.specs.declared.standing.BaseEvent.TheVariants as shifts
 use Rattle.record_text.specs.declared.record.Label.{Label}
 use Rattle.run_history.specs.Actions.{Shifted}
+use Rattle.run_history.specs.Signals.{SignalMove}
 use Rattle.run_history.specs.Fits.{Fits}
 use Rattle.run_history.specs.Truths.{IsMoment}
 use Rattle.run_history.specs.Witnesses.{BasesList, Move, Trace, Witness, standing_along, witness_with}
@@ -58,17 +59,18 @@ abbrev in_order : List Move
 in_order = moves_by taken_record [] (BasesList 1 ∷ BasesList 2 ∷ [])
 
 -- whatever the calls did, the heir is off line wherever the second call has made no entry
-never_on : (traces : Label → Trace) (n : ℕ) → IsMoment (witness_with refused_script taken_record in_order traces) (at 0 1) [] n
-    → (standing_along (witness_with refused_script taken_record in_order traces) n 1).heir ≡ None → ⊥
+never_on : (signals : List SignalMove) (traces : Label → Trace) (n : ℕ)
+    → IsMoment (witness_with refused_script taken_record in_order signals traces) (at 0 1) [] n
+    → (standing_along (witness_with refused_script taken_record in_order signals traces) n 1).heir ≡ None → ⊥
 unfolding after_entry after_shift changed shifted
-never_on traces zero begins on = true≢false begins.within.behind.0
-never_on traces (suc zero) begins on = cc
-never_on traces (suc (suc zero)) begins on = omega (arith, begins.so_many)
-never_on traces (suc (suc (suc n))) begins on = omega (arith, begins.so_many)
+never_on signals traces zero begins on = true≢false begins.within.behind.0
+never_on signals traces (suc zero) begins on = cc
+never_on signals traces (suc (suc zero)) begins on = omega (arith, begins.so_many)
+never_on signals traces (suc (suc (suc n))) begins on = omega (arith, begins.so_many)
 
 -- law: it does not fit
 pub taken_doesnt_fit : Fits refused_script taken_record → ⊥
 taken_doesnt_fit fits =
     let o = in_one_order_of refused_script taken_record in_order refl tt (refl, (refl, (refl, tt))) refl tt refl fits in
-    let call = (o.1.calls 0).2.1.0 in
-    never_on o.0 (o.0 (at 0 1)).first call.begins call.holds.0.heir_online
+    let call = (o.2.calls 0).2.1.0 in
+    never_on o.0 o.1 (o.1 (at 0 1)).first call.begins call.holds.0.heir_online

@@ -1,5 +1,5 @@
 -- A settime whose start is refused behind its own cancel: it is told so, and not as it was before the cancel.
-use Rattle.std.proofs.Common.{◌≡◌, false, None, Some, [], ◌∷◌, length, arith, refl, ap, inl, inr}
+use Rattle.std.proofs.Common.{◌≡◌, false, Some, [], ◌∷◌, length, arith, refl, ap, inl, inr}
 use Rattle.ktime.specs.Times.{passed}
 use Rattle.seq_timer.specs.Systems.{after_entry, changed}
 use Rattle.record_text.specs.declared.record.Armed.TheVariants as armings

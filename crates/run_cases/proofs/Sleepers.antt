@@ -8,7 +8,6 @@ use Rattle.seq_timer.specs.Systems.{after_entry, changed}
 use Rattle.record_text.specs.declared.record.Armed.TheVariants as armings
 use Rattle.record_text.specs.declared.record.InterruptReply.{InterruptReply}
 use Rattle.record_text.specs.declared.record.InterruptReply.TheVariants as ended
-use Rattle.record_text.specs.declared.record.ObjectEntry.{ObjectEntry}
 use Rattle.record_text.specs.declared.record.ObjectEntry.TheVariants as object_entries
 use Rattle.record_text.specs.declared.record.SleepReply.TheVariants as sleeps
 use Rattle.script_text.specs.declared.script.Kind.TheVariants as kinds
@@ -138,7 +137,7 @@ left-interrupted e = absurd cc
 
 -- law: it does not fit
 pub time_left_doesnt_fit : Fits interrupted_script time_left_record → ⊥
-time_left_doesnt_fit fits = left-interrupted (fits.2.object_histories 0).2.2.2.1
+time_left_doesnt_fit fits = left-interrupted (fits.3.object_histories 0).2.2.2.1
 
 -- ---- a sleep is over before its time
 
@@ -147,4 +146,4 @@ sleeping-slept e = absurd cc
 
 -- law: it does not fit
 pub early_sleep_doesnt_fit : Fits early_sleep_script early_sleep_record → ⊥
-early_sleep_doesnt_fit fits = sleeping-slept (fits.2.calls 0).2.1.0.holds.1
+early_sleep_doesnt_fit fits = sleeping-slept (fits.3.calls 0).2.1.0.holds.1

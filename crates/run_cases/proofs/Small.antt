@@ -23,7 +23,7 @@ use Rattle.run_history.specs.Witnesses.{BasesList, CountersList, Witness, entrie
 use Rattle.run_history.specs.Fits.{AreSkipsUnder, Fits, FitsIn, FitsLane, unseen}
 use Rattle.run_cases.proofs.Calls.{AreRight, are_placed, lane_fits}
 use Rattle.run_cases.proofs.Witnesses.{Along, everywhere, each_list, none_on, no_calls}
-use Rattle.run_cases.proofs.Tests.{all_true, are_calls, are_in_order, are_sorted, are_in_turn, calls_pass, order_passes, other, sorted_pass, turn_passes}
+use Rattle.run_cases.proofs.Tests.{all_true, are_calls, are_in_order, are_signals, are_sorted, are_in_turn, calls_pass, order_passes, other, signals_pass, sorted_pass, turn_passes}
 
 -- ---- the whole record
 
@@ -69,7 +69,7 @@ are_sized w =
 
 -- all these tests
 abbrev pub is_passed : Witness → Bool
-is_passed w = are_sized w && ((are_called w && are_ordered w) && (are_under w && are_there w))
+is_passed w = (are_sized w && are_signals w.script w.signals) && ((are_called w && are_ordered w) && (are_under w && are_there w))
 
 -- what makes the record of a small witness fit: the tests are passed, and the rest is said of each timer and each lane
 pub record IsSmall (w : Witness) : Type 0 where
@@ -82,7 +82,7 @@ pub record IsSmall (w : Witness) : Type 0 where
   pub objects : Along (λ i. moves_on (CountersList (suc i)) w.moves ≡ moves_from 0 (lines_at w.run (CountersList (suc i)))) 0 w.run.objects
   pub history : IsSystemHistory w.script.bases (declareds_of w.script) (terms_of w.script) (entries_in w)
   pub object_histories : Along (λ i. IsLegalObject w.script w.run i (kind_of w.script i)) 0 w.script.timers
-  pub placed : Along (λ lane. are_placed w lane 0 0 0 (calls_of w.script lane) ≡ true) 0 w.run.answers
+  pub placed : Along (λ lane. are_placed w lane 0 unseen (calls_of w.script lane) (answers_of w.run lane) ≡ true) 0 w.run.answers
   pub calls : Along (λ lane. AreRight w lane 0 (calls_of w.script lane) (answers_of w.run lane)) 0 w.run.answers
 
 under_passes : (s : Script) (line : TimerLine) → is_under s line ≡ true → AreUnder s (map (λ look. look.label) line.looks)
@@ -145,12 +145,13 @@ small_fits w small =
     let r = w.run in
     let of_looks = λ (lines : List TimerLine). list_all (is_under s) lines in
     let of_skips = λ (lines : List ObjectLine). list_all (is_refused_under s) lines in
-    let passed = and_parts (are_sized w) ((are_called w && are_ordered w) && (are_under w && are_there w)) small.passed in
+    let passed = and_parts (are_sized w && are_signals s w.signals) ((are_called w && are_ordered w) && (are_under w && are_there w)) small.passed in
+    let whole = and_parts (are_sized w) (are_signals s w.signals) passed.0 in
     let tests = and_parts (are_called w && are_ordered w) (are_under w && are_there w) passed.1 in
     let along = and_parts (are_called w) (are_ordered w) tests.0 in
     let within = and_parts (are_under w) (are_there w) tests.1 in
     let sized = and_parts (nat_eq (length r.timers) (length s.timers) && nat_eq (length r.objects) (length s.timers))
-    (nat_eq (length r.answers) s.lanes && nat_eq (length r.bases) s.bases) passed.0 in
+    (nat_eq (length r.answers) s.lanes && nat_eq (length r.bases) s.bases) whole.0 in
     let more_sized = and_parts (nat_eq (length r.answers) s.lanes) (nat_eq (length r.bases) s.bases) sized.1 in
     let each_sized = and_parts (nat_eq (length r.timers) (length s.timers)) (nat_eq (length r.objects) (length s.timers)) sized.0 in
     let objects : length r.objects ≡ length s.timers = eqb-true (length r.objects) (length s.timers) each_sized.1 in
@@ -186,6 +187,7 @@ small_fits w small =
           (subst (λ n. n ≤ i) (sym (length-map s.timers (λ d. d.kind))) past))) (get_or_past r.objects i [] (subst (λ n. n ≤ i) (sym objects) past)));
       clock_order = order_passes s (clock_labels r) ordered.0;
       order = order_passes s (labels w) ordered.1;
+      signals = signals_pass s w.signals whole.1;
       calls = everywhere (λ lane. FitsLane w lane 0 unseen (calls_of s lane) (answers_of r lane)) r.answers
           (both 0 r.answers small.placed small.calls) (λ lane past.
           subst (λ ps. FitsLane w lane 0 unseen ps (answers_of r lane)) (sym (no_calls lane 0 s.rounds
@@ -195,12 +197,12 @@ small_fits w small =
           (subst (FitsLane w lane 0 unseen []) (sym (get_or_past r.answers lane [] past)) tt));
     }
   where
-    both : {X : Type 0} (n : ℕ) (xs : List X) → Along (λ lane. are_placed w lane 0 0 0 (calls_of w.script lane) ≡ true) n xs
+    both : {X : Type 0} (n : ℕ) (xs : List X) → Along (λ lane. are_placed w lane 0 unseen (calls_of w.script lane) (answers_of w.run lane) ≡ true) n xs
         → Along (λ lane. AreRight w lane 0 (calls_of w.script lane) (answers_of w.run lane)) n xs
         → Along (λ lane. FitsLane w lane 0 unseen (calls_of w.script lane) (answers_of w.run lane)) n xs
     both n [] placed each = tt
-    both n (x ∷ xs) placed each = (lane_fits w n 0 0 0 (calls_of w.script n) (answers_of w.run n) placed.0 each.0, both (n + 1) xs placed.1 each.1)
+    both n (x ∷ xs) placed each = (lane_fits w n 0 unseen (calls_of w.script n) (answers_of w.run n) placed.0 each.0, both (n + 1) xs placed.1 each.1)
 
 -- law: the record of a small witness fits its script
 pub fits_by : (w : Witness) → IsSmall w → Fits w.script w.run
-fits_by w small = (w.moves, w.traces, small_fits w small)
+fits_by w small = (w.moves, w.signals, w.traces, small_fits w small)

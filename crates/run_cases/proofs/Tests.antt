@@ -1,5 +1,5 @@
 -- What of a fit is a matter of numbers and labels, as tests that small witnesses pass by computing.
-use Rattle.std.proofs.Common.{◌≡◌, ◌<◌, ◌≤◌, ◌&&◌, ℕ, ◌+◌, zero, suc, Bool, true, false, not, if◌then◌else◌, nat_eq, nat_le, nat_lt, List, [], ◌∷◌, ◌++◌, length, take, drop, arith, refl, ap, ◌∙◌}
+use Rattle.std.proofs.Common.{◌≡◌, ◌<◌, ◌≤◌, ◌&&◌, ℕ, ◌+◌, zero, suc, Bool, true, false, not, if◌then◌else◌, nat_eq, nat_le, nat_lt, List, [], ◌∷◌, ◌++◌, length, map, take, drop, arith, refl, ap, ◌∙◌}
 use Rattle.std.specs.List.{AllByRecursion, list_all}
 use Rattle.std.proofs.lemmas.Bool.Decides.{nat_tests}
 use Rattle.std.proofs.lemmas.Bool.{and_parts, eqb-true}
@@ -7,13 +7,19 @@ use Rattle.seq_timer.specs.declared.event.EventBy.{EventBy}
 use Rattle.seq_timer.specs.declared.event.EventBy.TheVariants as events
 use Rattle.record_text.specs.declared.record.Label.{Label}
 use Rattle.script_text.specs.declared.script.Script.{Script}
-use Rattle.run_history.specs.Actions.{Action, also, Began, Entered, Looked, looked, Made, made, Shifted, Skipped, skipped, Wrote}
-use Rattle.run_history.specs.Order.{AreSorted, calls_of, is_before, is_label, is_lower, IsInOrder, IsLabel, IsPoint, made_by, NeverFall}
-use Rattle.run_history.specs.Witnesses.{Witness, labels}
-use Rattle.run_history.specs.Fits.{LabelsNeverFall}
+use Rattle.run_history.specs.Actions.{Action, also, Began, Entered, Looked, looked, Made, made, own, Shifted, Skipped, skipped, Wrote}
+use Rattle.run_history.specs.Order.{AreSorted, calls_of, is_before, is_label, is_lower, IsInOrder, IsLabel, IsPoint, IsWithin, made_by, NeverFall}
+use Rattle.record_text.specs.declared.record.Answer.{Answer}
+use Rattle.signal_queue.specs.declared.signal.Signal.{Signal}
+use Rattle.signal_queue.specs.declared.signal.Turn.{Turn}
+use Rattle.signal_queue.specs.declared.signal.Turn.TheVariants.{Popped, Pushed}
+use Rattle.signal_queue.specs.Turns.{AreTurns}
+use Rattle.run_history.specs.Signals.{SignalMove, popped_by, pushed_in, signal_labels, turns_in, waiting_at}
+use Rattle.run_history.specs.Witnesses.{Trace, Witness, labels}
+use Rattle.run_history.specs.Fits.{HasSignalled, IsSignalOrder, LabelsNeverFall}
 use Rattle.run_history.specs.Traces.{all_entered}
 use Rattle.run_history.specs.Told.{IsBelowLimit, observed}
-use Rattle.run_history.specs.Truths.{AreTrue, IsMoment, IsTrue, IsTrueEntry, OfClaim, Saw, SawFull}
+use Rattle.run_history.specs.Truths.{AreTrue, IsMoment, IsTrue, IsTrueEntry, OfClaim, Saw, SawFull, SawWaiting}
 
 -- numbers that a test compared
 pub below : (a b : ℕ) → nat_lt a b ≡ true → a < b
@@ -82,6 +88,20 @@ point_passes s c own n ls e =
       so_many = eqb-true (made_by c (take n ls)) own two.1;
     }
 
+-- a number of the list is within the call's bounds
+abbrev pub is_within : Script → Label → ℕ → List Label → Bool
+is_within s c n ls = (nat_le n (length ls) && list_all (λ x. not (is_before s c x)) (take n ls)) && list_all (λ x. not (is_before s x c)) (drop n ls)
+
+pub within_passes : (s : Script) (c : Label) (n : ℕ) (ls : List Label) → is_within s c n ls ≡ true → IsWithin s c n ls
+within_passes s c n ls e =
+    let parts = and_parts (nat_le n (length ls) && list_all (λ x. not (is_before s c x)) (take n ls)) (list_all (λ x. not (is_before s x c)) (drop n ls)) e in
+    let early = and_parts (nat_le n (length ls)) (list_all (λ x. not (is_before s c x)) (take n ls)) parts.0 in
+    record {
+      small = upto n (length ls) early.0;
+      before = all_unless (λ x. is_before s c x) (take n ls) early.1;
+      behind = all_unless (λ x. is_before s x c) (drop n ls) parts.1;
+    }
+
 -- labels in their order, each once
 abbrev pub are_sorted : List Label → Bool
 are_sorted [] = true
@@ -113,6 +133,103 @@ pub steps_pass : (from : ℕ) (ns : List ℕ) (to : ℕ) → never_fall from ns 
 steps_pass from [] to e = upto from to e
 steps_pass from (n ∷ ns) to e = let parts = and_parts (nat_le from n) (never_fall n ns to) e in (upto from n parts.0, steps_pass n ns to parts.1)
 
+-- ---- pushes and pops of signals
+
+abbrev pub is_signal : Signal → Signal → Bool
+is_signal a b = nat_eq a.timer b.timer && nat_eq a.number b.number
+
+pub same_signal : (a b : Signal) → is_signal a b ≡ true → a ≡ b
+same_signal a b e =
+    let parts = and_parts (nat_eq a.timer b.timer) (nat_eq a.number b.number) e in
+    ap {A = ℕ} (λ t. record { timer = t; number = a.number }) (eqb-true a.timer b.timer parts.0)
+    ∙ ap {A = ℕ} (λ n. record { timer = b.timer; number = n }) (eqb-true a.number b.number parts.1)
+
+abbrev pub is_turn : Turn → Turn → Bool
+is_turn (Pushed a) (Pushed b) = is_signal a b
+is_turn (Popped a) (Popped b) = is_signal a b
+is_turn a b = false
+
+same_turn : (a b : Turn) → is_turn a b ≡ true → a ≡ b
+same_turn (Pushed a) (Pushed b) e = ap Pushed (same_signal a b e)
+same_turn (Popped a) (Popped b) e = ap Popped (same_signal a b e)
+same_turn (Pushed a) (Popped b) e = absurd (cc)
+same_turn (Popped a) (Pushed b) e = absurd (cc)
+
+-- from these waiting signals on, each pop takes the oldest
+abbrev pub are_legal_turns : List Signal → List Turn → Bool
+are_legal_turns waiting [] = true
+are_legal_turns waiting (Pushed s ∷ ts) = are_legal_turns (waiting ++ s ∷ []) ts
+are_legal_turns [] (Popped s ∷ ts) = false
+are_legal_turns (w ∷ waiting) (Popped s ∷ ts) = is_signal s w && are_legal_turns waiting ts
+
+pub legal_turns_pass : (waiting : List Signal) (ts : List Turn) → are_legal_turns waiting ts ≡ true → AreTurns waiting ts
+legal_turns_pass waiting [] e = tt
+legal_turns_pass waiting (Pushed s ∷ ts) e = legal_turns_pass (waiting ++ s ∷ []) ts e
+legal_turns_pass [] (Popped s ∷ ts) e = absurd (cc)
+legal_turns_pass (w ∷ waiting) (Popped s ∷ ts) e =
+    let parts = and_parts (is_signal s w) (are_legal_turns waiting ts) e in (same_signal s w parts.0, legal_turns_pass waiting ts parts.1)
+
+-- the same pushes and pops
+abbrev pub are_turns : List Turn → List Turn → Bool
+are_turns [] [] = true
+are_turns (t ∷ ts) (u ∷ us) = is_turn t u && are_turns ts us
+are_turns ts us = false
+
+pub turns_pass : (ts us : List Turn) → are_turns ts us ≡ true → ts ≡ us
+turns_pass [] [] e = refl
+turns_pass [] (u ∷ us) e = absurd (cc)
+turns_pass (t ∷ ts) [] e = absurd (cc)
+turns_pass (t ∷ ts) (u ∷ us) e =
+    let parts = and_parts (is_turn t u) (are_turns ts us) e in ap (λ x. x ∷ ts) (same_turn t u parts.0) ∙ ap (λ xs. u ∷ xs) (turns_pass ts us parts.1)
+
+-- the same with their numbers
+abbrev pub are_numbered_turns : List (ℕ × Turn) → List (ℕ × Turn) → Bool
+are_numbered_turns [] [] = true
+are_numbered_turns (t ∷ ts) (u ∷ us) = (nat_eq t.0 u.0 && is_turn t.1 u.1) && are_numbered_turns ts us
+are_numbered_turns ts us = false
+
+numbered_turns_pass : (ts us : List (ℕ × Turn)) → are_numbered_turns ts us ≡ true → ts ≡ us
+numbered_turns_pass [] [] e = refl
+numbered_turns_pass [] (u ∷ us) e = absurd (cc)
+numbered_turns_pass (t ∷ ts) [] e = absurd (cc)
+numbered_turns_pass (t ∷ ts) (u ∷ us) e =
+    let parts = and_parts (nat_eq t.0 u.0 && is_turn t.1 u.1) (are_numbered_turns ts us) e in
+    let one = and_parts (nat_eq t.0 u.0) (is_turn t.1 u.1) parts.0 in
+    ap {A = ℕ} (λ n. (n, t.1) ∷ ts) (eqb-true t.0 u.0 one.0) ∙ ap (λ x. (u.0, x) ∷ ts) (same_turn t.1 u.1 one.1)
+    ∙ ap (λ xs. u ∷ xs) (numbered_turns_pass ts us parts.1)
+
+-- a call's pushes and pops are those of the order under its label: what its answer names, and the signals of what it entered
+abbrev pub is_signalled : Witness → Label → Trace → Answer → Bool
+is_signalled w c t answer =
+    are_numbered_turns (own (λ m. m.label) (λ m. m.turn) c 0 w.signals) t.turns
+    && are_turns (map (λ x. x.1) t.turns) (popped_by answer ++ pushed_in w.script t.actions)
+
+pub signalled_passes : (w : Witness) (c : Label) (t : Trace) (answer : Answer) → is_signalled w c t answer ≡ true → HasSignalled w c t answer
+signalled_passes w c t answer e =
+    let parts = and_parts (are_numbered_turns (own (λ m. m.label) (λ m. m.turn) c 0 w.signals) t.turns)
+    (are_turns (map (λ x. x.1) t.turns) (popped_by answer ++ pushed_in w.script t.actions)) e in
+    record { own = numbered_turns_pass _ _ parts.0; are = turns_pass _ _ parts.1 }
+
+-- the pushes and pops are one history of a queue, in the order of calls
+abbrev pub are_signals : Script → List SignalMove → Bool
+are_signals s ms = are_legal_turns [] (turns_in ms) && (are_calls s (signal_labels ms) && are_in_order s (signal_labels ms))
+
+pub signals_pass : (s : Script) (ms : List SignalMove) → are_signals s ms ≡ true → IsSignalOrder s ms
+signals_pass s ms e =
+    let parts = and_parts (are_legal_turns [] (turns_in ms)) (are_calls s (signal_labels ms) && are_in_order s (signal_labels ms)) e in
+    let called = and_parts (are_calls s (signal_labels ms)) (are_in_order s (signal_labels ms)) parts.1 in
+    record {
+      legal = legal_turns_pass [] (turns_in ms) parts.0;
+      calls = calls_pass s (signal_labels ms) called.0;
+      order = order_passes s (signal_labels ms) called.1;
+    }
+
+-- so many signals waited behind a number of them that is within the call's bounds
+pub saw_waiting : {w : Witness} {c : Label} {many : ℕ} (number : ℕ) → is_within w.script c number (signal_labels w.signals) ≡ true
+    → length (waiting_at w.signals number) ≡ many → SawWaiting w c many
+saw_waiting {w} {c} number within waiting =
+    record { number = number; within = within_passes w.script c number (signal_labels w.signals) within; waiting = waiting }
+
 -- ---- what a call did is true, each thing at the place of the call's next entry
 
 -- the place at which the call has its next entry, where it has made so many; the first of these places is numbered so
@@ -143,7 +260,7 @@ AreTold w c before (Looked t number look ∷ ds) =
     × AreTold w c (before ++ Looked t number look ∷ []) ds
 AreTold w c before (Began i stamp ∷ ds) = AreTold w c (before ++ Began i stamp ∷ []) ds
 AreTold w c before (Made i number entry ∷ ds) =
-    IsTrueEntry w i number entry (place_behind w c before) × AreTold w c (before ++ Made i number entry ∷ []) ds
+    IsTrueEntry w c i number entry (place_behind w c before) × AreTold w c (before ++ Made i number entry ∷ []) ds
 AreTold w c before (Skipped i number generation ∷ ds) =
     SawFull w i number (place_behind w c before) × AreTold w c (before ++ Skipped i number generation ∷ []) ds
 AreTold w c before (Shifted base number event ∷ ds) = AreTold w c (before ++ Shifted base number event ∷ []) ds

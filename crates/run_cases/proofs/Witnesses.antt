@@ -60,11 +60,12 @@ timers_moves r order = moves_by r [] (map TimersList order)
 
 -- what a call did with this reading, from one moment to another
 abbrev pub did : ℕ → List Action → ℕ → ℕ → Trace
-did reading actions first last = record { at = reading; fired = []; moved = []; actions = actions; first = first; last = last }
+did reading actions first last = record { at = reading; fired = []; moved = []; actions = actions; first = first; last = last; turns = [] }
 
 -- what an expiry run did
 abbrev pub ran : ℕ → ℕ → List Fired → ℕ → ℕ → Trace
-ran base reading each first last = record { at = reading; fired = each; moved = []; actions = flat_map (fires base reading) each; first = first; last = last }
+ran base reading each first last =
+    record { at = reading; fired = each; moved = []; actions = flat_map (fires base reading) each; first = first; last = last; turns = [] }
 
 -- what a call did in a turn of an object that had so many entries: these things, and then its entry of the object
 abbrev pub turn_of : ℕ → ℕ → List Action → ObjectEntry → List Action
@@ -81,6 +82,7 @@ witness_along s r order traces = record {
   script = s;
   run = r;
   moves = moves_by r [] order;
+  signals = [];
   traces = λ c. get_or (get_or traces c.lane []) c.call (did 0 [] 0 0);
 }
 
@@ -119,20 +121,20 @@ stays {Reached} {limit} {base} {a} below none same = record {
 }
 
 -- a call on an object that found its timer idle, starts it by this entry, and makes this entry of its object
-pub armed_anew : {Reached : ℕ → ℕ → Type 0} {limit reading ns : ℕ} {kind : Kind} {mode : Mode} {entry : Entry} (of_object : Armed → ObjectEntry)
-    (stamp number : ℕ) → Arms Reached limit 0 mode ns reading (base_of kind) (armings.Generation number) (Entered 0 number entry ∷ [])
-    → MakesAnew Reached limit kind 0 (Some (record { mode = mode; ns = ns })) reading of_object
-    (turn_of 0 stamp (Entered 0 number entry ∷ []) (of_object (armings.Generation number)))
-armed_anew {entry = entry} of_object stamp number arms =
-    record { cancel = None; arm = armings.Generation number; start = Entered 0 number entry ∷ []; stamp = stamp; arms = arms; done = refl }
+pub armed_anew : {Reached : ℕ → ℕ → Type 0} {limit timer reading ns : ℕ} {kind : Kind} {mode : Mode} {entry : Entry} (of_object : Armed → ObjectEntry)
+    (stamp number : ℕ) → Arms Reached limit timer mode ns reading (base_of kind) (armings.Generation number) (Entered timer number entry ∷ [])
+    → MakesAnew Reached limit kind timer (Some (record { mode = mode; ns = ns })) reading of_object
+    (turn_of timer stamp (Entered timer number entry ∷ []) (of_object (armings.Generation number)))
+armed_anew {timer = timer} {entry = entry} of_object stamp number arms =
+    record { cancel = None; arm = armings.Generation number; start = Entered timer number entry ∷ []; stamp = stamp; arms = arms; done = refl }
 
 -- a settime that did
-pub set_anew : {Reached : ℕ → ℕ → Type 0} {limit flags reading : ℕ} {kind : Kind} {value interval : TimeSpec} {entry : Entry} (stamp number : ℕ)
+pub set_anew : {Reached : ℕ → ℕ → Type 0} {limit timer flags reading : ℕ} {kind : Kind} {value interval : TimeSpec} {entry : Entry} (stamp number : ℕ)
     → AreValidFor kind flags value interval
-    → Arms Reached limit 0 (mode_by flags) (nanoseconds_of value) reading (base_of kind) (armings.Generation number) (Entered 0 number entry ∷ [])
-    → MakesAnew Reached limit kind 0 (Some (record { mode = mode_by flags; ns = nanoseconds_of value })) reading
+    → Arms Reached limit timer (mode_by flags) (nanoseconds_of value) reading (base_of kind) (armings.Generation number) (Entered timer number entry ∷ [])
+    → MakesAnew Reached limit kind timer (Some (record { mode = mode_by flags; ns = nanoseconds_of value })) reading
     (λ arm. object_entries.Settime flags (nanoseconds_of value) (nanoseconds_of interval) reading arm (settings.Old 0 0))
-    (turn_of 0 stamp (Entered 0 number entry ∷ [])
+    (turn_of timer stamp (Entered timer number entry ∷ [])
     (object_entries.Settime flags (nanoseconds_of value) (nanoseconds_of interval) reading (armings.Generation number) (settings.Old 0 0)))
     × AreValidFor kind flags value interval
 set_anew {flags = flags} {reading = reading} {value = value} {interval = interval} stamp number valid arms = (

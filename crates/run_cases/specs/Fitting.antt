@@ -30,7 +30,7 @@ use Rattle.script_text.specs.declared.script.Call.TheVariants as calls
 use Rattle.script_text.specs.declared.script.Callback.TheVariants as callbacks
 use Rattle.script_text.specs.declared.script.Kind.TheVariants as kinds
 use Rattle.script_text.specs.declared.script.Script.{Script}
-use Rattle.run_cases.specs.Lines.{advance_line, at, base_line, by, cancel_entry, case_object_line, case_record_in, case_script, case_script_in, case_start, case_start_entry, claim_entry, claim_lines, finish_entry, hard_expire, hard_raw, line, object_record, off_line_record, out_entry, raw_record, set_entry_of, set_start, settime_to, slack_entry, slack_start, sleep_of, sleeper_record, sleeper_script, start}
+use Rattle.run_cases.specs.Lines.{accepted_entry, advance_line, at, base_line, by, cancel_entry, case_object_line, case_record_in, case_script, case_script_in, case_start, case_start_entry, claim_entry, claim_lines, claimed_by, counted_entry, expired_record, expired_script, finish_entry, hard_expire, hard_raw, line, object_record, off_line_record, out_entry, queued_record, queued_script, raw_record, set_entry_of, set_start, settime_of, settime_to, slack_entry, slack_start, sleep_of, sleeper_record, sleeper_script, start}
 
 -- ---- a timer is started, expires, is cancelled when it is idle, and is looked at
 
@@ -541,3 +541,36 @@ interrupted_by reply answer = sleeper_record (advance_line 0 1 30 ∷ [])
 -- its record
 abbrev pub interrupted_record : RunRecord
 interrupted_record = interrupted_by ended.Interrupted answers.Interrupted
+
+-- ---- two queued timers expire in one run, and the one whose signal waits first is set anew; its signal is told as stale, then the other's is accepted, and
+-- then none waits
+
+-- the script: the second timer expires first
+abbrev pub signals_script : Script
+signals_script = queued_script 2 (settime_of 0 200 ∷ settime_of 1 100 ∷ calls.Clock (writes.Advance 200) ∷ hard_expire 0 4 ∷ settime_of 1 0
+    ∷ calls.Sigwait ∷ calls.Sigwait ∷ calls.Sigwait ∷ [])
+
+-- the entry of the settime that disarms the second timer
+abbrev pub disarming_entry : ObjectEntry
+disarming_entry = object_entries.Settime 1 0 0 1 armings.None (settings.Old 0 0)
+
+-- by the call that accepted the first timer's signal, and what the two calls were told that took the signals
+abbrev pub signals_by : ℕ → Answer → Answer → RunRecord
+signals_by call first second = queued_record (advance_line 0 2 200 ∷ []) (claimed_by 0 200 0 3 1 ∷ claimed_by 1 100 0 3 1 ∷ [])
+    ((case_object_line 0 0 (set_entry_of 200 0 1 0) ∷ case_object_line 0 3 (counted_entry 1 1) ∷ case_object_line 0 call (accepted_entry 1) ∷ [])
+    ∷ (case_object_line 0 1 (set_entry_of 100 0 1 0) ∷ case_object_line 0 3 (counted_entry 1 1) ∷ case_object_line 0 4 disarming_entry ∷ []) ∷ [])
+    (answers.Old 0 0 ∷ answers.Old 0 0 ∷ answers.Clock 1 ∷ answers.Done 1 (1 ∷ 0 ∷ []) ∷ answers.Old 0 0 ∷ first ∷ second ∷ answers.NoneQueued ∷ [])
+
+-- its record
+abbrev pub signals_record : RunRecord
+signals_record = signals_by 6 (answers.StaleSignal 1 2) (answers.Signal 0 2 0)
+
+-- ---- a queued timer's history is full when its signal is taken, and the call is told so
+
+-- the script
+abbrev pub spent_script : Script
+spent_script = record (expired_script (calls.Sigwait ∷ [])) { limit = 2 }
+
+-- its record
+abbrev pub spent_record : RunRecord
+spent_record = expired_record (counted_entry 1 1) [] (answers.SpentSignal 0 2 ∷ [])

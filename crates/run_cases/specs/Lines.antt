@@ -1,11 +1,13 @@
 -- Short words for scripts and records of few calls.
-use Rattle.std.specs.Prelude.{ℕ, ◌+◌, Bool, false, Some, List, [], ◌∷◌, map}
+use Rattle.std.specs.Prelude.{ℕ, ◌+◌, Bool, true, false, Some, List, [], ◌∷◌, map, replicate}
 use Rattle.clock_model.specs.declared.write.Write.TheVariants as writes
 use Rattle.ktime.specs.declared.clock_id.ClockId.TheVariants as clocks
 use Rattle.ktime.specs.declared.mode.Mode.{Mode}
 use Rattle.ktime.specs.declared.mode.Mode.TheVariants as modes
 use Rattle.seq_timer.specs.declared.context.Context.TheVariants as contexts
+use Rattle.record_text.specs.declared.record.AcceptReply.TheVariants as acceptances
 use Rattle.record_text.specs.declared.record.Answer.{Answer}
+use Rattle.record_text.specs.declared.record.Answer.TheVariants as answers
 use Rattle.record_text.specs.declared.record.BaseLine.{BaseLine}
 use Rattle.record_text.specs.declared.record.ClockLine.{ClockLine}
 use Rattle.seq_timer.specs.declared.event.EventBy.TheVariants as events
@@ -114,6 +116,11 @@ slack_entry ns slack = record {
 abbrev pub claim_lines : ℕ → ℕ → List TimerLine
 claim_lines lane call = line lane call (claim_entry 0 0 1) ∷ line lane call (finish_entry false 1) ∷ []
 
+-- the lines of a timer that this call of lane 0 starts, and that a call of a lane then claims, by the reading of this stamp
+abbrev pub claimed_by : ℕ → ℕ → ℕ → ℕ → ℕ → List TimerLine
+claimed_by call ns lane other stamp =
+    line 0 call (start modes.Abs ns ns) ∷ line lane other (claim_entry 0 stamp 1) ∷ line lane other (finish_entry false 1) ∷ []
+
 -- the clock's first write, which a lane's call made: it let so many nanoseconds pass
 abbrev pub advance_line : ℕ → ℕ → ℕ → ClockLine
 advance_line lane call ns = record { label = at lane call; write = writes.Advance ns; mono = ns; real = ns; boot = ns; changes = 0 }
@@ -152,9 +159,13 @@ raw_record clock timers answers = case_record_in versions.One clock timers answe
 abbrev pub case_object_line : ℕ → ℕ → ObjectEntry → ObjectLine
 case_object_line lane call entry = record { label = at lane call; entry = entry; skips = [] }
 
--- a settime of timer 0 to an absolute time, once
+-- a settime of a timer to an absolute time, once
+abbrev pub settime_of : ℕ → ℕ → Call
+settime_of timer value = calls.Settime timer 1 (record { sec = 0; nsec = value }) (record { sec = 0; nsec = 0 })
+
+-- one of timer 0
 abbrev pub settime_to : ℕ → Call
-settime_to value = calls.Settime 0 1 (record { sec = 0; nsec = value }) (record { sec = 0; nsec = 0 })
+settime_to value = settime_of 0 value
 
 -- the start that it makes by the reading of a stamp, and its entry
 abbrev pub set_start : ℕ → ℕ → Bool → Entry
@@ -187,3 +198,29 @@ sleeper_script called = case_script_in versions.Two 1 1 (kinds.Sleeper 0 ∷ [])
 abbrev pub sleeper_record : List ClockLine → List TimerLine → List ObjectLine → List Answer → RunRecord
 sleeper_record clock timers objects answers =
     record (object_record clock (timers ∷ []) (objects ∷ []) (answers ∷ [])) { version = versions.Two }
+
+-- a script of version 2 with so many queued timers, one lane and these calls
+abbrev pub queued_script : ℕ → List Call → Script
+queued_script timers called = case_script_in versions.Two 1 1 (replicate timers (kinds.Queued 0)) (map (by 0) called ∷ [])
+
+-- its record
+abbrev pub queued_record : List ClockLine → List (List TimerLine) → List (List ObjectLine) → List Answer → RunRecord
+queued_record clock timers objects answers = record (object_record clock timers objects (answers ∷ [])) { version = versions.Two }
+
+-- the entry of an expiry that counted, of this generation by the reading of this stamp
+abbrev pub counted_entry : ℕ → ℕ → ObjectEntry
+counted_entry generation reading = object_entries.Trigger generation reading true
+
+-- the entry of a signal's acceptance by the reading of a stamp, with no period passed
+abbrev pub accepted_entry : ℕ → ObjectEntry
+accepted_entry reading = object_entries.Accept reading armings.None (acceptances.Accepted 0)
+
+-- a script of a queued timer that is set and expires, and of these calls behind that
+abbrev pub expired_script : List Call → Script
+expired_script called = queued_script 1 (settime_to 100 ∷ calls.Clock (writes.Advance 100) ∷ hard_expire 0 4 ∷ called)
+
+-- its record, by the expiry's entry of the timer's object, the entries behind it, and the answers of those calls
+abbrev pub expired_record : ObjectEntry → List ObjectLine → List Answer → RunRecord
+expired_record expiry lines told = queued_record (advance_line 0 1 100 ∷ []) (claimed_by 0 100 0 2 1 ∷ [])
+    ((case_object_line 0 0 (set_entry_of 100 0 1 0) ∷ case_object_line 0 2 expiry ∷ lines) ∷ [])
+    (answers.Old 0 0 ∷ answers.Clock 1 ∷ answers.Done 1 (0 ∷ []) ∷ told)

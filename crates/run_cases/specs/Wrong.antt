@@ -5,6 +5,7 @@ use Rattle.clock_model.specs.declared.write.Write.TheVariants as writes
 use Rattle.seq_timer.specs.declared.context.Context.TheVariants as contexts
 use Rattle.seq_timer.specs.declared.standing.BaseEvent.TheVariants as shifts
 use Rattle.record_text.specs.declared.record.Answer.TheVariants as answers
+use Rattle.record_text.specs.declared.record.ClockLine.{ClockLine}
 use Rattle.record_text.specs.declared.record.Entry.{Entry}
 use Rattle.record_text.specs.declared.record.InterruptReply.TheVariants as ended
 use Rattle.record_text.specs.declared.record.ObjectEntry.TheVariants as object_entries
@@ -17,17 +18,12 @@ use Rattle.script_text.specs.declared.script.Callback.TheVariants as callbacks
 use Rattle.script_text.specs.declared.script.Kind.TheVariants as kinds
 use Rattle.script_text.specs.declared.script.Kind.{Kind}
 use Rattle.script_text.specs.declared.script.Script.{Script}
-use Rattle.run_cases.specs.Fitting.{accepts_by, armed_seen_by, asleep_entry, awaited_by, busy_by, canceled_by, first_expiry, full_by, interrupted_by, nothing_by, read_again, refused_by, second_set, seen_by, set_seen_by, skipped_by, started_by, two_expiries_by, unreadable_by}
-use Rattle.run_cases.specs.Lines.{advance_line, at, base_line, by, cancel_entry, case_object_line, case_record_in, case_script, case_script_in, case_start, case_start_entry, claim_entry, claim_lines, finish_entry, hard_expire, hard_raw, line, object_record, off_line_record, out_entry, raw_record, set_entry_of, set_start, settime_to, slack_entry, slack_start, sleep_of, sleeper_record, sleeper_script, start}
+use Rattle.run_cases.specs.Fitting.{accepts_by, armed_seen_by, asleep_entry, awaited_by, busy_by, canceled_by, first_expiry, full_by, interrupted_by, nothing_by, read_again, refused_by, second_set, seen_by, set_seen_by, signals_by, skipped_by, started_by, two_expiries_by, unreadable_by}
+use Rattle.run_cases.specs.Lines.{accepted_entry, advance_line, at, base_line, by, cancel_entry, case_object_line, case_record_in, case_script, case_script_in, case_start, case_start_entry, claim_entry, claim_lines, claimed_by, counted_entry, expired_record, expired_script, finish_entry, hard_expire, hard_raw, line, object_record, off_line_record, out_entry, queued_record, queued_script, raw_record, set_entry_of, set_start, settime_of, settime_to, slack_entry, slack_start, sleep_of, sleeper_record, sleeper_script, start}
 
 -- two timers whose callbacks do nothing
 abbrev pub two_timers : List Kind
 two_timers = hard_raw callbacks.Once ∷ hard_raw callbacks.Once ∷ []
-
--- the lines of a timer that this call of lane 0 starts, and that a call of a lane then claims, by the reading of this stamp
-abbrev pub claimed_by : ℕ → ℕ → ℕ → ℕ → ℕ → List TimerLine
-claimed_by call ns lane other stamp =
-    line 0 call (start modes.Abs ns ns) ∷ line lane other (claim_entry 0 stamp 1) ∷ line lane other (finish_entry false 1) ∷ []
 
 -- ---- two functions of one context at once on one base: a lane is told that a timer runs before it claims another timer there, and behind that, too
 
@@ -328,3 +324,72 @@ early_sleep_script = sleeper_script (sleep_of 0 10 ∷ calls.Slept 0 ∷ [])
 abbrev pub early_sleep_record : RunRecord
 early_sleep_record = sleeper_record [] (line 0 0 (start modes.Rel 10 10) ∷ []) (case_object_line 0 0 asleep_entry ∷ [])
     (answers.Asleep ∷ answers.SleptAt 1 ∷ [])
+
+-- ---- a call is told that no signal waits, and one does
+
+-- the script
+abbrev pub unheard_script : Script
+unheard_script = expired_script (calls.Sigwait ∷ [])
+
+-- a record that breaks it
+abbrev pub unheard_record : RunRecord
+unheard_record = expired_record (counted_entry 1 1) [] (answers.NoneQueued ∷ [])
+
+-- ---- a signal is named twice: it is accepted, and then told as stale
+
+-- the script
+abbrev pub renamed_script : Script
+renamed_script = expired_script (calls.Sigwait ∷ calls.Sigwait ∷ [])
+
+-- a record that breaks it
+abbrev pub renamed_record : RunRecord
+renamed_record = expired_record (counted_entry 1 1) (case_object_line 0 3 (accepted_entry 1) ∷ []) (answers.Signal 0 2 0 ∷ answers.StaleSignal 0 2 ∷ [])
+
+-- ---- an expiry finds no room for its signal, and no other waits
+
+-- the script
+abbrev pub roomy_script : Script
+roomy_script = expired_script []
+
+-- a record that breaks it
+abbrev pub roomy_record : RunRecord
+roomy_record = expired_record (object_entries.Overflow 1 1) [] []
+
+-- ---- of two signals the one that was sent later is named first
+
+-- the script: two timers expire in two runs
+abbrev pub younger_script : Script
+younger_script = queued_script 2 (settime_of 0 100 ∷ settime_of 1 200 ∷ calls.Clock (writes.Advance 100) ∷ hard_expire 0 4
+    ∷ calls.Clock (writes.Advance 100) ∷ hard_expire 0 4 ∷ calls.Sigwait ∷ calls.Sigwait ∷ [])
+
+-- the clock's second write
+abbrev pub later_write : ℕ → ClockLine
+later_write call = record { label = at 0 call; write = writes.Advance 100; mono = 200; real = 200; boot = 200; changes = 0 }
+
+-- a record that breaks it
+abbrev pub younger_record : RunRecord
+younger_record = queued_record (advance_line 0 2 100 ∷ later_write 4 ∷ []) (claimed_by 0 100 0 3 1 ∷ claimed_by 1 200 0 5 2 ∷ [])
+    ((case_object_line 0 0 (set_entry_of 100 0 1 0) ∷ case_object_line 0 3 (counted_entry 1 1) ∷ case_object_line 0 7 (accepted_entry 2) ∷ [])
+    ∷ (case_object_line 0 1 (set_entry_of 200 0 1 0) ∷ case_object_line 0 5 (counted_entry 1 2) ∷ case_object_line 0 6 (accepted_entry 2) ∷ []) ∷ [])
+    (answers.Old 0 0 ∷ answers.Old 0 0 ∷ answers.Clock 1 ∷ answers.Done 1 (0 ∷ []) ∷ answers.Clock 2 ∷ answers.Done 2 (1 ∷ [])
+    ∷ answers.Signal 1 2 0 ∷ answers.Signal 0 2 0 ∷ [])
+
+-- ---- of the signals of one expiry run the one whose timer was claimed second is named first: the script of two signals that wait in turn
+
+-- a record that breaks it
+abbrev pub swapped_record : RunRecord
+swapped_record = signals_by 5 (answers.Signal 0 2 0) (answers.StaleSignal 1 2)
+
+-- ---- a signal is accepted whose timer was set anew since, and expired again
+
+-- the script
+abbrev pub outdated_script : Script
+outdated_script = expired_script (settime_to 200 ∷ calls.Clock (writes.Advance 100) ∷ hard_expire 0 4 ∷ calls.Sigwait ∷ [])
+
+-- a record that breaks it
+abbrev pub outdated_record : RunRecord
+outdated_record = queued_record (advance_line 0 1 100 ∷ later_write 4 ∷ [])
+    ((claimed_by 0 100 0 2 1 ++ line 0 3 (set_start 200 1 false) ∷ line 0 5 (claim_entry 0 2 4) ∷ line 0 5 (finish_entry false 4) ∷ []) ∷ [])
+    ((case_object_line 0 0 (set_entry_of 100 0 1 0) ∷ case_object_line 0 2 (counted_entry 1 1) ∷ case_object_line 0 3 (set_entry_of 200 1 4 0)
+    ∷ case_object_line 0 5 (counted_entry 4 2) ∷ case_object_line 0 6 (accepted_entry 2) ∷ []) ∷ [])
+    (answers.Old 0 0 ∷ answers.Clock 1 ∷ answers.Done 1 (0 ∷ []) ∷ answers.Old 0 0 ∷ answers.Clock 2 ∷ answers.Done 2 (0 ∷ []) ∷ answers.Signal 0 2 0 ∷ [])

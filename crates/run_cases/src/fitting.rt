@@ -135,3 +135,15 @@ pub fn a_sleep_is_over_when_its_time_has_come()
 pub fn an_interrupted_sleep_tells_the_time_left()
     ensures { Fits fitting.interrupted_script fitting.interrupted_record }
 {}
+
+/// Two queued timers expire in one run, and the first one's signal is stale since the timer was set anew; the other's is accepted, and then none waits.
+#[tactic(auto, using(crate::proofs::SignalsFitting::signals_fit))]
+pub fn two_signals_wait_in_turn_and_one_is_stale()
+    ensures { Fits fitting.signals_script fitting.signals_record }
+{}
+
+/// A queued timer's history is full when its signal is taken: the call is told so.
+#[tactic(auto, using(crate::proofs::SignalsFitting::spent_fits))]
+pub fn a_signal_of_a_full_timer_is_spent()
+    ensures { Fits fitting.spent_script fitting.spent_record }
+{}

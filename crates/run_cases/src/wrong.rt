@@ -189,3 +189,39 @@ pub fn no_time_left_of_a_sleep_up_to_a_time()
 pub fn no_sleep_is_over_before_its_time()
     ensures { Fits wrong.early_sleep_script wrong.early_sleep_record → ⊥ }
 {}
+
+/// No call is told that no signal waits while one does.
+#[tactic(auto, using(crate::proofs::SignalsWrong::unheard_doesnt_fit))]
+pub fn no_queue_is_found_empty_while_a_signal_waits()
+    ensures { Fits wrong.unheard_script wrong.unheard_record → ⊥ }
+{}
+
+/// No signal is named by two answers.
+#[tactic(auto, using(crate::proofs::SignalsWrong::renamed_doesnt_fit))]
+pub fn no_signal_is_named_twice()
+    ensures { Fits wrong.renamed_script wrong.renamed_record → ⊥ }
+{}
+
+/// Of two signals that were sent one after the other the younger one isn't named first.
+#[tactic(auto, using(crate::proofs::SignalsWrong::younger_doesnt_fit))]
+pub fn no_younger_signal_is_named_first()
+    ensures { Fits wrong.younger_script wrong.younger_record → ⊥ }
+{}
+
+/// Of two signals of one expiry run the one whose timer was claimed second isn't named first.
+#[tactic(auto, using(crate::proofs::SignalsOfRuns::swapped_doesnt_fit))]
+pub fn signals_of_a_run_are_named_in_the_order_of_its_claims()
+    ensures { Fits fitting.signals_script wrong.swapped_record → ⊥ }
+{}
+
+/// No expiry finds the queue of signals full while it has room.
+#[tactic(auto, using(crate::proofs::SignalsWrong::roomy_doesnt_fit))]
+pub fn no_queue_is_found_full_while_it_has_room()
+    ensures { Fits wrong.roomy_script wrong.roomy_record → ⊥ }
+{}
+
+/// No signal is accepted whose timer was set anew since, though the timer has expired again and that signal is pending.
+#[tactic(auto, using(crate::proofs::SignalsWrong::outdated_doesnt_fit))]
+pub fn no_signal_is_accepted_whose_timer_was_set_since()
+    ensures { Fits wrong.outdated_script wrong.outdated_record → ⊥ }
+{}

@@ -41,8 +41,12 @@ use Rattle.run_history.specs.Witnesses.{Witness, timer_along}
 use Rattle.run_history.specs.Fits.{FitsCall, Seen}
 use Rattle.run_history.specs.Receipts.{PlacedEntry}
 use Rattle.run_history.specs.Rounds.{Spans}
+use Rattle.run_history.specs.Objects.{queued_after}
+use Rattle.run_history.specs.Signals.{IsQueued}
+use Rattle.posix_timer.specs.Queued.{is_fresh}
+use Rattle.signal_queue.specs.declared.signal.Turn.{Turn}
 use Rattle.run_history.proofs.Kept.{call_made, IsKept, moment_of, Stops}
-use Rattle.run_history.proofs.OthersMade.{none_moved, plain}
+use Rattle.run_history.proofs.OthersMade.{none_moved, plain, turning}
 use Rattle.run_history.proofs.Plain.{IsPlain, plain_arms, plain_then}
 
 -- ---- entries of its timer, and then the object's
@@ -125,9 +129,9 @@ disarmed Reached limit w c timer at base begin begun last wanted None arm start 
     by_wanted None is = none is.1
     by_wanted (Some wanted) is = by_start wanted.mode wanted.ns arm is
 
-module _ {w : Witness} {moves : Spans} {c : Label} {at begin last timer : ℕ} {wanted : Option Wanted} {cancel : Option (ℕ × ℕ)} {arm : Armed}
+module _ {w : Witness} {moves signals : Spans} {c : Label} {at begin last timer : ℕ} {wanted : Option Wanted} {cancel : Option (ℕ × ℕ)} {arm : Armed}
     {start : List Action} {stamp : ℕ} {notes : List PlacedEntry} {call : Call} {answer : Answer} {before after : Seen} (entry : Armed → ObjectEntry)
-    (kept : IsKept w moves c (plain at begin last (anew_actions timer cancel start stamp (entry arm))) notes call answer before after)
+    (kept : IsKept w moves signals c (plain at begin last (anew_actions timer cancel start stamp (entry arm))) notes call answer before after)
     (low : moves.first c ≤ begin) (anew : IsAnew w c notes at begin last timer wanted cancel arm start stamp) where
   abbrev turn : List Action
   turn = Began timer stamp ∷ cancels timer cancel ++ start
@@ -157,7 +161,7 @@ module _ {w : Witness} {moves : Spans} {c : Label} {at begin last timer : ℕ} {
     refused = saw;
   }
 
-  anew_made : (IsTrueStart w timer (stamp + 1) true arm anew.ends → IsTrueEntry w timer (stamp + 1) (entry arm) anew.ends)
+  anew_made : (IsTrueStart w timer (stamp + 1) true arm anew.ends → IsTrueEntry w c timer (stamp + 1) (entry arm) anew.ends)
       → (MakesAnew (WasOffLine w begin last) w.script.limit (kind_of w.script timer) timer wanted at entry (anew_actions timer cancel start stamp (entry arm))
       → Does (WasOffLine w begin last) w.script at call answer [] [] (anew_actions timer cancel start stamp (entry arm)))
       → AnswerHolds w begin last c at (anew_actions timer cancel start stamp (entry arm)) call answer → FitsCall w c call answer before after
@@ -189,11 +193,11 @@ UnsleptBy w timer (sleeps.Unarmed stamp) last = SawRefusal w timer stamp last
 abbrev pub start_of : ℕ → TimeSpec → Option Wanted
 start_of flags time = Some (record { mode = mode_by flags; ns = nanoseconds_of time })
 
-module _ {w : Witness} {moves : Spans} {c : Label} {at begin last timer : ℕ} {cancel : Option (ℕ × ℕ)} {arm : Armed} {start : List Action} {stamp : ℕ}
+module _ {w : Witness} {moves signals : Spans} {c : Label} {at begin last timer : ℕ} {cancel : Option (ℕ × ℕ)} {arm : Armed} {start : List Action} {stamp : ℕ}
     {notes : List PlacedEntry} {before after : Seen} where
   -- law: a settime that makes an entry fits
   pub settime_made : {flags : ℕ} {value interval : TimeSpec} (reply : SettimeReply)
-      → IsKept w moves c (plain at begin last (anew_actions timer cancel start stamp
+      → IsKept w moves signals c (plain at begin last (anew_actions timer cancel start stamp
       (object_entries.Settime flags (nanoseconds_of value) (nanoseconds_of interval) at arm reply))) notes
       (calls.Settime timer flags value interval) (answer_of_settime reply) before after
       → moves.first c ≤ begin → (anew : IsAnew w c notes at begin last timer (start_of flags value) cancel arm start stamp)
@@ -211,7 +215,8 @@ module _ {w : Witness} {moves : Spans} {c : Label} {at begin last timer : ℕ} {
 
   -- law: a sleep that makes an entry fits
   pub sleep_made : {flags : ℕ} {time : TimeSpec} (reply : SleepReply)
-      → IsKept w moves c (plain at begin last (anew_actions timer cancel start stamp (object_entries.Sleep flags (nanoseconds_of time) at arm reply))) notes
+      → IsKept w moves signals c (plain at begin last (anew_actions timer cancel start stamp (object_entries.Sleep flags
+      (nanoseconds_of time) at arm reply))) notes
       (calls.Sleep timer flags time) (answer_of_sleep reply) before after
       → moves.first c ≤ begin → (anew : IsAnew w c notes at begin last timer (start_of flags time) cancel arm start stamp)
       → IsValidSleep flags time → UnsleptBy w timer reply anew.ends
@@ -228,7 +233,7 @@ module _ {w : Witness} {moves : Spans} {c : Label} {at begin last timer : ℕ} {
 
   -- law: an interrupt that makes an entry fits
   pub interrupt_made : (reply : InterruptReply)
-      → IsKept w moves c (plain at begin last (anew_actions timer cancel start stamp (object_entries.Interrupt at reply))) notes
+      → IsKept w moves signals c (plain at begin last (anew_actions timer cancel start stamp (object_entries.Interrupt at reply))) notes
       (calls.Interrupt timer) (answer_of_interrupt reply) before after
       → moves.first c ≤ begin → IsAnew w c notes at begin last timer None cancel arm start stamp
       → FitsCall w c (calls.Interrupt timer) (answer_of_interrupt reply) before after
@@ -263,11 +268,11 @@ pub record IsRearmed (w : Witness) (c : Label) (notes : List PlacedEntry) (at be
 abbrev pub rearming_actions : ℕ → List Action → ℕ → ObjectEntry → List Action
 rearming_actions timer start stamp entry = Began timer stamp ∷ start ++ Made timer (stamp + 1) entry ∷ []
 
-module _ {w : Witness} {moves : Spans} {c : Label} {at begin last timer : ℕ} {arm : Armed} {start : List Action} {stamp : ℕ} {notes : List PlacedEntry}
-    {call : Call} {answer : Answer} {before after : Seen} (entry : Armed → ObjectEntry)
-    (kept : IsKept w moves c (plain at begin last (rearming_actions timer start stamp (entry arm))) notes call answer before after)
+module _ {w : Witness} {moves signals : Spans} {c : Label} {at begin last timer : ℕ} {arm : Armed} {start : List Action} {stamp : ℕ} {notes : List PlacedEntry}
+    {call : Call} {answer : Answer} {before after : Seen} {turns : List (ℕ × Turn)} (entry : Armed → ObjectEntry)
+    (kept : IsKept w moves signals c (turning at begin last (rearming_actions timer start stamp (entry arm)) turns) notes call answer before after)
     (low : moves.first c ≤ begin) (rearmed : IsRearmed w c notes at begin last timer arm start stamp) where
-  rearming_made : (IsTrueStart w timer (stamp + 1) false arm rearmed.ends → IsTrueEntry w timer (stamp + 1) (entry arm) rearmed.ends)
+  rearming_made : (IsTrueStart w timer (stamp + 1) false arm rearmed.ends → IsTrueEntry w c timer (stamp + 1) (entry arm) rearmed.ends)
       → (MakesRearming (WasOffLine w begin last) w.script.limit (kind_of w.script timer) timer at entry (rearming_actions timer start stamp (entry arm))
       → Does (WasOffLine w begin last) w.script at call answer [] [] (rearming_actions timer start stamp (entry arm)))
       → AnswerHolds w begin last c at (rearming_actions timer start stamp (entry arm)) call answer → FitsCall w c call answer before after
@@ -284,11 +289,11 @@ module _ {w : Witness} {moves : Spans} {c : Label} {at begin last timer : ℕ} {
       ))
       seen
 
-module _ {w : Witness} {moves : Spans} {c : Label} {at begin last timer : ℕ} {arm : Armed} {start : List Action} {stamp : ℕ} {notes : List PlacedEntry}
+module _ {w : Witness} {moves signals : Spans} {c : Label} {at begin last timer : ℕ} {arm : Armed} {start : List Action} {stamp : ℕ} {notes : List PlacedEntry}
     {before after : Seen} where
   -- law: an acceptance that makes an entry fits
   pub accept_made : (reply : AcceptReply)
-      → IsKept w moves c (plain at begin last (rearming_actions timer start stamp (object_entries.Accept at arm reply))) notes (calls.Accept timer)
+      → IsKept w moves signals c (plain at begin last (rearming_actions timer start stamp (object_entries.Accept at arm reply))) notes (calls.Accept timer)
       (answer_of_accept reply) before after
       → moves.first c ≤ begin → IsRearmed w c notes at begin last timer arm start stamp
       → FitsCall w c (calls.Accept timer) (answer_of_accept reply) before after
@@ -297,9 +302,20 @@ module _ {w : Witness} {moves : Spans} {c : Label} {at begin last timer : ℕ} {
   accept_made acceptances.NoSignal kept low rearmed =
       rearming_made (λ arm. object_entries.Accept at arm acceptances.NoSignal) kept low rearmed (λ is. is) (λ makes. makes) tt
 
+  -- law: an acceptance of the next signal fits, which was pending
+  pub signal_made : {turns : List (ℕ × Turn)} (number overrun : ℕ)
+      → IsKept w moves signals c (turning at begin last (rearming_actions timer start stamp (object_entries.Accept at arm
+      (acceptances.Accepted overrun))) turns)
+      notes calls.Sigwait (answers.Signal timer number overrun) before after
+      → moves.first c ≤ begin → IsRearmed w c notes at begin last timer arm start stamp → IsQueued (kind_of w.script timer)
+      → is_fresh (queued_after w.script w.run timer (base_of (kind_of w.script timer)) stamp) number ≡ true
+      → FitsCall w c calls.Sigwait (answers.Signal timer number overrun) before after
+  signal_made number overrun kept low rearmed queued fresh =
+      rearming_made (λ arm. object_entries.Accept at arm (acceptances.Accepted overrun)) kept low rearmed (λ is. is) (λ makes. (makes, queued)) fresh
+
   -- law: a read that makes an entry fits
   pub read_made : (len : ℕ) (reply : ReadReply)
-      → IsKept w moves c (plain at begin last (rearming_actions timer start stamp (object_entries.Read at arm reply))) notes (calls.Read timer len)
+      → IsKept w moves signals c (plain at begin last (rearming_actions timer start stamp (object_entries.Read at arm reply))) notes (calls.Read timer len)
       (answer_of_read reply) before after
       → moves.first c ≤ begin → IsRearmed w c notes at begin last timer arm start stamp → count_length ≤ len
       → FitsCall w c (calls.Read timer len) (answer_of_read reply) before after
@@ -312,7 +328,7 @@ module _ {w : Witness} {moves : Spans} {c : Label} {at begin last timer : ℕ} {
 
   -- law: a gettime of a descriptor that makes an entry fits
   pub gettime_made : (base left interval : ℕ)
-      → IsKept w moves c (plain at begin last (rearming_actions timer start stamp (object_entries.Gettime at arm left interval))) notes
+      → IsKept w moves signals c (plain at begin last (rearming_actions timer start stamp (object_entries.Gettime at arm left interval))) notes
       (calls.Gettime timer) (answers.Left left interval) before after
       → moves.first c ≤ begin → IsRearmed w c notes at begin last timer arm start stamp → kind_of w.script timer ≡ kinds.Fd base
       → FitsCall w c (calls.Gettime timer) (answers.Left left interval) before after

@@ -90,6 +90,7 @@ module _ (Fewer More : ℕ → ℕ → Type 0) (to : (base heir : ℕ) → Fewer
   body_wider limit (kinds.Raw context callback) reading f is = callback_wider limit callback reading f is
   body_wider limit (kinds.Posix base) reading f is = is
   body_wider limit (kinds.Fd base) reading f is = is
+  body_wider limit (kinds.Queued base) reading f is = is
   body_wider limit (kinds.Sleeper base) reading f is = is
 
   bodies_wider : (s : Script) (reading : ℕ) (fired : List Fired) → AllByRecursion (λ f. IsBody Fewer s.limit (kind_of s f.timer) reading f) fired

@@ -11,7 +11,8 @@ use Rattle.script_text.specs.declared.script.Script.{Script}
 use Rattle.run_history.specs.Witnesses.{labels, Move, Shown, witness_with}
 use Rattle.run_history.specs.Fits.{Fits, FitsIn}
 use Rattle.run_history.specs.Receipts.{AreAll, shape, weave}
-use Rattle.run_history.specs.Runs.{clock_spans, witness_of, Ending, IsEnding, IsJoined, IsRun, moves_spans, notes_in}
+use Rattle.run_history.specs.Runs.{clock_spans, witness_of, Ending, IsEnding, IsJoined, IsRun, moves_spans, notes_in, signal_spans}
+use Rattle.run_history.specs.Signals.{signal_labels}
 use Rattle.run_history.proofs.Filed.{receipts_from}
 use Rattle.run_history.proofs.Labels.{label_itself}
 use Rattle.run_history.proofs.Laid.{are_all, AreReceipts, at_among, is_among}
@@ -53,6 +54,7 @@ module _ (s : Script) (e : Ending) (ends : IsEnding s e) where
           (sym (length-map (weave e.run [] e.order) (λ (m : Move). m.label) ∙ length_weave e.run [] e.order)) (ends.whole c is);
     };
     clock_laid = ends.clock_laid;
+    signals = ends.signals;
   }
 
   -- each timer's lines show its part of the order
@@ -75,6 +77,11 @@ module _ (s : Script) (e : Ending) (ends : IsEnding s e) where
     object_histories = ends.object_histories;
     clock_order = in_order s (clock_labels e.run) (clock_spans e) ends.clock_laid;
     order = in_order s (labels (witness_of s e)) (moves_spans e) joined_from.moves_laid;
+    signals = record {
+      legal = ends.signals.legal;
+      calls = labels_from s (signal_labels e.signals) (signal_spans e) ends.signals.laid;
+      order = in_order s (signal_labels e.signals) (signal_spans e) ends.signals.laid;
+    };
     calls = λ lane. ends.calls lane joined_from;
   }
 
@@ -82,4 +89,4 @@ module _ (s : Script) (e : Ending) (ends : IsEnding s e) where
 pub run_fits : (s : Script) (r : RunRecord) → IsRun s r → Fits s r
 run_fits s r run =
     let w = witness_of s run.0 in
-    (w.moves, w.traces, subst (λ x. FitsIn (witness_with s x w.moves w.traces)) run.1 (fits_in s run.0 run.2))
+    (w.moves, w.signals, w.traces, subst (λ x. FitsIn (witness_with s x w.moves w.signals w.traces)) run.1 (fits_in s run.0 run.2))

@@ -36,11 +36,12 @@ use Rattle.record_text.specs.declared.record.SleepReply.TheVariants as begun
 use Rattle.run_history.specs.Actions.{Action, Shifted}
 use Rattle.run_history.specs.Histories.{reading_at}
 use Rattle.run_history.specs.ObjectCalls.{AreValidFor, IsValidSleep, nanoseconds_of}
-use Rattle.run_history.specs.Objects.{fd_after, posix_after, sleeper_after}
+use Rattle.run_history.specs.Objects.{fd_after, posix_at, sleeper_after}
+use Rattle.run_history.specs.Signals.{IsQueued}
 use Rattle.run_history.specs.Told.{IsOutOfRange}
 use Rattle.run_history.specs.Witnesses.{Evacuation, Fired, Witness, standing_along, timer_along}
 use Rattle.run_history.specs.Truths.{DisarmedFirst, HadEntries, IsDone, MayGo, NothingTold, RefusedBefore, RunsFirst, RunsNone}
-use Rattle.run_history.specs.Truths.{Saw, SawFull, SawFullOn, SawRefusal, StandsAt}
+use Rattle.run_history.specs.Truths.{Saw, SawFull, SawFullOn, SawRefusal, SawStale, SawWaiting, StandsAt, WasFresh, WasSent}
 use Rattle.run_history.specs.Deeds.{Anew, Cancels, Deed, Did, Evacuates, Never, Nothing, Rearms, Runs, Shifts, Starts, Where, Writes}
 
 -- a call in the one order: its label, its first and its last moment, and what it did
@@ -99,9 +100,10 @@ interrupts reading timer reply = Anew timer None (λ arm. object_entries.Interru
 abbrev pub SawSleep : Script → ℕ → ℕ → (Sleep → Type 0) → CallSpan → Type 0
 SawSleep s timer stamp IsSo c = HadEntries c.w timer stamp c.last × IsSo (sleeper_after s c.w.run timer (base_of (kind_of s timer)) stamp).sleep
 
--- a POSIX timer
+-- a POSIX timer, whether or not its signals are queued
 abbrev pub IsPosix : Kind → Type 0
 IsPosix (kinds.Posix base) = Unit
+IsPosix (kinds.Queued base) = Unit
 IsPosix kind = ⊥
 
 -- a timer descriptor
@@ -112,7 +114,8 @@ IsFd kind = ⊥
 -- The table, by the script and the call's reading. What an answer tells of timers, bases and objects held at the call's last moment; that a base might go off
 -- line held at its first. A settime that cancelled nothing found an idle timer when it had begun its turn; one whose start was refused
 -- tells of the moment before its object's entry. A write is refused only while the clock may take more of them, and where one of its times would be past the
--- latest; the answer is the greatest of these. That the clock has taken too many writes is never answered.
+-- latest; the answer is the greatest of these. That the clock has taken too many writes is never answered. What a call popped off the queue of signals its
+-- answer names (`popped_by`).
 abbrev pub call_row : Script → ℕ → Call → Answer → CallRow
 call_row s reading (calls.Start timer request) (answers.Started generation on was_armed) = only (Starts timer request generation on was_armed)
 call_row s reading (calls.Start timer request) (answers.Spent stamp) = looked (λ c. SawRefusal c.w timer stamp c.last)
@@ -144,7 +147,7 @@ call_row s reading (calls.Settime timer flags value interval) (answers.Unarmed s
 call_row s reading (calls.Gettime timer) (answers.LeftAt left interval shown stamp) = record {
   did = Where Nothing (IsPosix (kind_of s timer) × (shown ≡ reading));
   tells = λ c. HadEntries c.w timer stamp c.last
-      × (setting_of (posix_after s c.w.run timer (base_of (kind_of s timer)) stamp) (reading_at c.w.run.clock reading)
+      × (setting_of (posix_at s c.w.run timer (kind_of s timer) stamp) (reading_at c.w.run.clock reading)
       ≡ record { left = left; interval = interval });
 }
 call_row s reading (calls.Gettime timer) (answers.Left left interval) =
@@ -155,7 +158,7 @@ call_row s reading (calls.Accept timer) (answers.Accepted overrun) =
 call_row s reading (calls.Accept timer) answers.NoSignal = only (Rearms timer (λ arm. object_entries.Accept reading arm acceptances.NoSignal))
 call_row s reading (calls.Accept timer) (answers.Spent stamp) = looked (λ c. SawFull c.w timer stamp c.last)
 call_row s reading (calls.Overrun timer) (answers.Overrun overrun stamp) =
-    looked (λ c. HadEntries c.w timer stamp c.last × ((posix_after s c.w.run timer (base_of (kind_of s timer)) stamp).overrun ≡ overrun))
+    looked (λ c. HadEntries c.w timer stamp c.last × ((posix_at s c.w.run timer (kind_of s timer) stamp).overrun ≡ overrun))
 call_row s reading (calls.Read timer len) answers.Invalid = only (Where Nothing (len < count_length))
 call_row s reading (calls.Read timer len) (answers.Spent stamp) = full timer stamp (count_length ≤ len)
 call_row s reading (calls.Read timer len) (answers.Count total) =
@@ -190,6 +193,19 @@ call_row s reading (calls.Interrupt timer) answers.Interrupted = disarmed timer 
 call_row s reading (calls.Slept timer) (answers.Sleeping stamp) = looked (SawSleep s timer stamp (λ sleep. slept_answer sleep ≡ looks.Sleeping))
 call_row s reading (calls.Slept timer) (answers.SleptAt stamp) = looked (SawSleep s timer stamp (λ sleep. slept_answer sleep ≡ looks.Slept))
 call_row s reading (calls.Slept timer) (answers.Awake stamp) = looked (SawSleep s timer stamp (λ sleep. slept_answer sleep ≡ looks.Awake))
+call_row s reading calls.Sigwait (answers.Signal timer number overrun) = record {
+  did = Where (Rearms timer (λ arm. object_entries.Accept reading arm (acceptances.Accepted overrun))) (IsQueued (kind_of s timer));
+  tells = λ c. WasFresh c.w timer (base_of (kind_of s timer)) number c.actions;
+}
+call_row s reading calls.Sigwait (answers.StaleSignal timer number) = record {
+  did = Where Nothing (IsQueued (kind_of s timer));
+  tells = λ c. SawStale c.w c.first c.last timer (base_of (kind_of s timer)) number × WasSent c.w timer number c.last;
+}
+call_row s reading calls.Sigwait (answers.SpentSignal timer number) = record {
+  did = Where Nothing (IsQueued (kind_of s timer));
+  tells = λ c. (stamp : ℕ) × SawFull c.w timer stamp c.last × (number ≤ stamp);
+}
+call_row s reading calls.Sigwait answers.NoneQueued = looked (λ c. SawWaiting c.w c.label 0)
 call_row s reading (calls.Offline base heir budget) (answers.Offline moved stamp) = record {
   did = Evacuates heir moved (Shifted base stamp (shifts.Offline heir) ∷ []) (λ number. number ≤ budget);
   tells = λ c. MayGo c.w base heir c.first × IsUnused (timer_along c.w c.last) base;

@@ -46,6 +46,12 @@ IsTrigger reading f =
     ⊎ ((number : ℕ) × (f.body ≡ Skipped f.timer number f.generation ∷ [])))
     × (f.restart ≡ false)
 
+-- the same of a queued timer's, whose expiry may find no room for its signal
+abbrev pub IsQueuedTrigger : ℕ → Fired → Type 0
+IsQueuedTrigger reading f =
+    IsTrigger reading f
+    ⊎ (((stamp : ℕ) × (f.body ≡ Began f.timer stamp ∷ Made f.timer (stamp + 1) (object_entries.Overflow f.generation reading) ∷ [])) × (f.restart ≡ false))
+
 -- the entries of one move of a timer to an heir, which keeps its expiries
 abbrev pub evacuates : ℕ → ℕ → Evacuation → List Action
 evacuates heir reading e =
@@ -97,6 +103,7 @@ module _ (Reached : ℕ → ℕ → Type 0) where
   IsBody limit (kinds.Raw context callback) reading f = IsCallback limit callback reading f
   IsBody limit (kinds.Posix base) reading f = IsTrigger reading f
   IsBody limit (kinds.Fd base) reading f = IsTrigger reading f
+  IsBody limit (kinds.Queued base) reading f = IsQueuedTrigger reading f
   IsBody limit (kinds.Sleeper base) reading f = IsTrigger reading f
 
   -- what an expiry run did: each callback as its timer declares it, of the run's context, all by one reading, and the timers in the order of their

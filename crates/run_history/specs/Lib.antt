@@ -3,6 +3,7 @@ pub mod Histories
 pub mod ObjectEntries
 pub mod Objects
 pub mod Actions
+pub mod Signals
 pub mod Starts
 pub mod ObjectCalls
 pub mod Told

@@ -99,6 +99,8 @@ object_entry_shown clock (entries.Trigger generation reading counted) = record {
   call = calls.Trigger generation (reading_at clock reading);
   reply = replies.Trigger (if counted then triggers.Counted else triggers.Stale);
 }
+object_entry_shown clock (entries.Overflow generation reading) =
+    record { call = calls.Overflow generation (reading_at clock reading); reply = replies.Full }
 object_entry_shown clock (entries.Accept reading arm reply) =
     record { call = calls.Accept (reading_at clock reading) (arm_shown arm 0); reply = replies.Accept (accept_shown reply) }
 object_entry_shown clock (entries.Read reading arm reply) =

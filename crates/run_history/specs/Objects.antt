@@ -1,5 +1,5 @@
--- The histories of a record's objects, which are POSIX timers, timer descriptors and sleepers: each one's entries, and its state after each
--- number of them.
+-- The histories of a record's objects, which are POSIX timers, with or without queued signals, timer descriptors and sleepers: each one's entries, and its
+-- state after each number of them.
 use Rattle.std.specs.Prelude.{ℕ, ◌≡◌, Option, Some, None, List, [], ◌∷◌, map, take, get_or}
 use Rattle.ktime.specs.declared.clock_id.ClockId.{ClockId}
 use Rattle.record_text.specs.declared.record.Label.{Label}
@@ -13,6 +13,8 @@ use Rattle.timer_setting.specs.declared.object_call.ObjectCall.{ObjectCall}
 use Rattle.timer_setting.specs.declared.object_call.ObjectReply.{ObjectReply}
 use Rattle.posix_timer.specs.States.{PosixTimer}
 use Rattle.posix_timer.specs.Histories as posix
+use Rattle.posix_timer.specs.Queued as queued
+use Rattle.posix_timer.specs.declared.queued_state.QueuedState.{QueuedState}
 use Rattle.timer_fd.specs.States.{Descriptor}
 use Rattle.timer_fd.specs.Histories as fd
 use Rattle.sleeper.specs.States.{Sleeper}
@@ -20,7 +22,7 @@ use Rattle.sleeper.specs.Histories as sleepers
 use Rattle.script_text.specs.declared.script.Kind.{Kind}
 use Rattle.script_text.specs.declared.script.Kind.TheVariants as kinds
 use Rattle.script_text.specs.declared.script.Script.{Script}
-use Rattle.script_text.specs.Declarations.{clock_of}
+use Rattle.script_text.specs.Declarations.{base_of, clock_of}
 use Rattle.run_history.specs.ObjectEntries.{object_entry_shown}
 
 -- an object's lines; none for a timer by itself, and for one that isn't there
@@ -50,11 +52,21 @@ abbrev pub IsLegalObject : Script → RunRecord → ℕ → Kind → Type 0
 IsLegalObject s r i (kinds.Raw context callback) = lines_of_object r i ≡ []
 IsLegalObject s r i (kinds.Posix base) = posix.IsPosixHistory (clock_of s i) base s.limit (object_history r i)
 IsLegalObject s r i (kinds.Fd base) = fd.IsFdHistory (clock_of s i) base s.limit (object_history r i)
+IsLegalObject s r i (kinds.Queued base) = queued.IsQueuedHistory (clock_of s i) base s.limit (object_history r i)
 IsLegalObject s r i (kinds.Sleeper base) = sleepers.IsSleeperHistory (clock_of s i) base s.limit (object_history r i)
 
 -- a POSIX timer after its first so many entries
 abbrev pub posix_after : Script → RunRecord → ℕ → ℕ → ℕ → PosixTimer
 posix_after s r i base stamp = posix.posix_state_after (clock_of s i) base s.limit (take stamp (object_history r i))
+
+-- a POSIX timer whose signals go to the queue
+abbrev pub queued_after : Script → RunRecord → ℕ → ℕ → ℕ → QueuedState
+queued_after s r i base stamp = queued.queued_state_after (clock_of s i) base s.limit (take stamp (object_history r i))
+
+-- the setting of either, by its kind
+abbrev pub posix_at : Script → RunRecord → ℕ → Kind → ℕ → PosixTimer
+posix_at s r i (kinds.Queued base) stamp = (queued_after s r i base stamp).timer
+posix_at s r i kind stamp = posix_after s r i (base_of kind) stamp
 
 -- a descriptor after its first so many entries
 abbrev pub fd_after : Script → RunRecord → ℕ → ℕ → ℕ → Descriptor
@@ -81,4 +93,5 @@ abbrev pub object_armed_after : Script → RunRecord → ℕ → ℕ → Kind �
 object_armed_after s r i stamp (kinds.Raw context callback) = None
 object_armed_after s r i stamp (kinds.Posix base) = armed_in_phase (posix_after s r i base stamp).phase
 object_armed_after s r i stamp (kinds.Fd base) = armed_in_phase (fd_after s r i base stamp).phase
+object_armed_after s r i stamp (kinds.Queued base) = armed_in_phase (queued_after s r i base stamp).timer.phase
 object_armed_after s r i stamp (kinds.Sleeper base) = armed_in_phase (sleeper_after s r i base stamp).phase

@@ -15,24 +15,32 @@ use Rattle.run_history.specs.Witnesses.{Witness, entries_in, IsOneHistory, label
 use Rattle.run_history.specs.Fits.{AreSkipsUnder, FitsLane, unseen}
 use Rattle.run_history.specs.Receipts.{AreAll, AreFiled, Filed, PlacedEntry, ShowsEntry, weave}
 use Rattle.run_history.specs.Rounds.{IsLaid, IsLedger, Spans}
+use Rattle.run_history.specs.Signals.{IsQueued, SignalMove, signal_labels, turns_in}
+use Rattle.signal_queue.specs.declared.signal.Turn.{Turn}
+use Rattle.signal_queue.specs.declared.signal.Turn.TheVariants.{Popped, Pushed}
+use Rattle.signal_queue.specs.Turns.{AreTurns}
 
--- What a lane keeps of one call: its receipts with their places; what it did; and how many entries of all timers, bases and objects, and writes of the clock,
--- its passes had seen when it began and when it ended.
+-- What a lane keeps of one call: its receipts with their places; what it did; and how many entries of all timers, bases and objects, writes of the clock, and
+-- pushes and pops of signals its passes had seen when it began and when it ended.
 pub record CallLog : Type 0 where
   pub notes : List PlacedEntry
   pub trace : Trace
   pub moves : ℕ × ℕ
   pub clock : ℕ × ℕ
+  pub signals : ℕ × ℕ
 
--- of each list how long it was when each round began: of all entries, and of the clock's writes
+-- of each list how long it was when each round began: of all entries, of the clock's writes, and of the pushes and pops of signals
 pub record RoundStarts : Type 0 where
   pub moves : ℕ → ℕ
   pub clock : ℕ → ℕ
+  pub signals : ℕ → ℕ
 
--- The record; the order of all entries, which is what the last pass of the timers' table has seen; what the lanes kept of each call; and where rounds began.
+-- The record; the order of all entries, which is what the last pass of the timers' table has seen; the pushes and pops of signals, which the last pass of the
+-- queue has seen, with their calls; what the lanes kept of each call; and where rounds began.
 pub record Ending : Type 0 where
   pub run : RunRecord
   pub order : List SystemEntry
+  pub signals : List SignalMove
   pub logs : Label → CallLog
   pub starts : RoundStarts
 
@@ -47,9 +55,25 @@ moves_spans e = record { first = λ c. (e.logs c).moves.0; last = λ c. (e.logs 
 abbrev pub clock_spans : Ending → Spans
 clock_spans e = record { first = λ c. (e.logs c).clock.0; last = λ c. (e.logs c).clock.1; starts = e.starts.clock }
 
+-- and on that of the pushes and pops
+abbrev pub signal_spans : Ending → Spans
+signal_spans e = record { first = λ c. (e.logs c).signals.0; last = λ c. (e.logs c).signals.1; starts = e.starts.signals }
+
 -- the record's lines along the order
 abbrev pub witness_of : Script → Ending → Witness
-witness_of s e = record { script = s; run = e.run; moves = weave e.run [] e.order; traces = λ c. (e.logs c).trace }
+witness_of s e =
+    record { script = s; run = e.run; moves = weave e.run [] e.order; signals = e.signals; traces = λ c. (e.logs c).trace }
+
+-- a push is of a signal of a queued timer
+abbrev pub IsOfQueued : Script → Turn → Type 0
+IsOfQueued s (Pushed signal) = IsQueued (kind_of s signal.timer)
+IsOfQueued s (Popped signal) = Unit
+
+-- the queue's table: its pushes and pops are one history, each in the span of its call, and only queued timers' signals are pushed
+pub record AreSignals (s : Script) (e : Ending) : Type 0 where
+  pub legal : AreTurns [] (turns_in e.signals)
+  pub of : AllByRecursion (IsOfQueued s) (turns_in e.signals)
+  pub laid : IsLaid s (signal_labels e.signals) (signal_spans e)
 
 -- what holds of the whole run, for each lane to use
 pub record IsJoined (s : Script) (e : Ending) : Type 0 where
@@ -62,6 +86,7 @@ pub record IsJoined (s : Script) (e : Ending) : Type 0 where
   -- calls stand along each list by rounds
   pub moves_laid : IsLaid s (labels (witness_of s e)) (moves_spans e)
   pub clock_laid : IsLaid s (clock_labels e.run) (clock_spans e)
+  pub signals : AreSignals s e
 
 -- the parts that make a run, each of which is what one table or one lane gives
 pub record IsEnding (s : Script) (e : Ending) : Type 0 where
@@ -79,6 +104,7 @@ pub record IsEnding (s : Script) (e : Ending) : Type 0 where
   -- the clock's list
   pub clock_laid : IsLaid s (clock_labels e.run) (clock_spans e)
   pub writes : AreWrites (at_stamp 0) e.run.clock
+  pub signals : AreSignals s e
   -- the objects' lists
   pub object_histories : (i : ℕ) → IsLegalObject s e.run i (kind_of s i)
   -- looks and skips under their lines, and one list for each base, timer and lane

@@ -11,9 +11,11 @@ use Rattle.record_text.specs.declared.record.Armed.TheVariants as armings
 use Rattle.record_text.specs.declared.record.ObjectEntry.{ObjectEntry}
 use Rattle.record_text.specs.declared.record.ObjectEntry.TheVariants as object_entries
 use Rattle.script_text.specs.Declarations.{kind_of, terms_of}
-use Rattle.run_history.specs.Order.{IsPoint}
+use Rattle.run_history.specs.Order.{IsPoint, IsWithin}
+use Rattle.run_history.specs.Signals.{most_signals, signal_labels, waiting_at}
 use Rattle.run_history.specs.Histories.{reading_at}
-use Rattle.run_history.specs.Objects.{object_armed_after}
+use Rattle.run_history.specs.Objects.{object_armed_after, queued_after}
+use Rattle.posix_timer.specs.Queued.{is_fresh}
 use Rattle.run_history.specs.Actions.{Action, Began, Entered, Looked, Made, Shifted, Skipped, Wrote}
 use Rattle.run_history.specs.Told.{IsBelowLimit, IsArmedLike, observed}
 use Rattle.ktime.specs.declared.clock_id.ClockId.{ClockId}
@@ -123,22 +125,29 @@ IsTrueStart w i number on_clock (armings.Generation generation) n =
     × IsArmedLike on_clock (object_armed_after w.script w.run i number (kind_of w.script i)) generation (timer_along w n i)
 IsTrueStart w i number on_clock armings.Unarmed n = SawRefusal w i (timer_along w n i).stamp n
 
+-- behind so many pushes and pops, a number within the call's bounds, just so many signals waited
+pub record SawWaiting (w : Witness) (c : Label) (many : ℕ) : Type 0 where
+  pub number : ℕ
+  pub within : IsWithin w.script c number (signal_labels w.signals)
+  pub waiting : length (waiting_at w.signals number) ≡ many
+
 -- the same, of each entry of an object
-abbrev pub IsTrueEntry : Witness → ℕ → ℕ → ObjectEntry → ℕ → Type 0
-IsTrueEntry w i number (object_entries.Settime flags value interval reading arm reply) n = IsTrueStart w i number true arm n
-IsTrueEntry w i number (object_entries.Trigger generation reading counted) n = NothingTold
-IsTrueEntry w i number (object_entries.Accept reading arm reply) n = IsTrueStart w i number false arm n
-IsTrueEntry w i number (object_entries.Read reading arm reply) n = IsTrueStart w i number false arm n
-IsTrueEntry w i number (object_entries.Gettime reading arm left interval) n = IsTrueStart w i number false arm n
-IsTrueEntry w i number (object_entries.Sleep flags time reading arm reply) n = IsTrueStart w i number true arm n
-IsTrueEntry w i number (object_entries.Interrupt reading reply) n = NothingTold
+abbrev pub IsTrueEntry : Witness → Label → ℕ → ℕ → ObjectEntry → ℕ → Type 0
+IsTrueEntry w c i number (object_entries.Settime flags value interval reading arm reply) n = IsTrueStart w i number true arm n
+IsTrueEntry w c i number (object_entries.Trigger generation reading counted) n = NothingTold
+IsTrueEntry w c i number (object_entries.Overflow generation reading) n = SawWaiting w c most_signals
+IsTrueEntry w c i number (object_entries.Accept reading arm reply) n = IsTrueStart w i number false arm n
+IsTrueEntry w c i number (object_entries.Read reading arm reply) n = IsTrueStart w i number false arm n
+IsTrueEntry w c i number (object_entries.Gettime reading arm left interval) n = IsTrueStart w i number false arm n
+IsTrueEntry w c i number (object_entries.Sleep flags time reading arm reply) n = IsTrueStart w i number true arm n
+IsTrueEntry w c i number (object_entries.Interrupt reading reply) n = NothingTold
 
 -- what a thing that a call did tells of a timer or an object is true, at a moment after what the call did before it
 abbrev pub IsTrue : Witness → Label → List Action → Action → ℕ → Type 0
 IsTrue w c before (Entered timer number entry) n = OfClaim entry.event (IsMoment w c before n)
 IsTrue w c before (Looked timer number look) n = IsMoment w c before n × Saw w timer number (observed look) n × IsBelowLimit w.script.limit number look
 IsTrue w c before (Began i stamp) n = NothingTold
-IsTrue w c before (Made i number entry) n = IsMoment w c before n × IsTrueEntry w i number entry n
+IsTrue w c before (Made i number entry) n = IsMoment w c before n × IsTrueEntry w c i number entry n
 IsTrue w c before (Skipped i number generation) n = IsMoment w c before n × SawFull w i number n
 IsTrue w c before (Shifted base number event) n = NothingTold
 IsTrue w c before (Wrote number write) n = NothingTold
@@ -170,3 +179,24 @@ pub record MayGo (w : Witness) (base heir n : ℕ) : Type 0 where
   pub online : (standing_along w n base).heir ≡ None
   pub heir_online : (standing_along w n heir).heir ≡ None
   pub room : (standing_along w n base).stamp < last_standing
+
+-- ---- the next signal
+
+-- at a moment of the call the timer's history had room, and the signal of this number wasn't pending
+pub record SawStale (w : Witness) (first last timer base number : ℕ) : Type 0 where
+  pub stamp : ℕ
+  pub moment : ℕ
+  pub from : first ≤ moment
+  pub to : moment ≤ last
+  pub had : HadEntries w timer stamp moment
+  pub room : stamp < w.script.limit
+  pub stale : is_fresh (queued_after w.script w.run timer base stamp) number ≡ false
+
+-- at this moment the entry that sent the signal of this number was one of the timer's
+abbrev pub WasSent : Witness → ℕ → ℕ → ℕ → Type 0
+WasSent w timer number n = (stamp : ℕ) × HadEntries w timer stamp n × (number ≤ stamp)
+
+-- a call whose turn of the timer began behind so many entries found the signal of this number pending
+abbrev pub WasFresh : Witness → ℕ → ℕ → ℕ → List Action → Type 0
+WasFresh w timer base number (Began i stamp ∷ actions) = is_fresh (queued_after w.script w.run timer base stamp) number ≡ true
+WasFresh w timer base number actions = ⊥

@@ -9,6 +9,8 @@ use Rattle.record_text.specs.declared.record.ObjectLine.{ObjectLine}
 use Rattle.record_text.specs.declared.record.RunRecord.{RunRecord}
 use Rattle.record_text.specs.declared.record.TimerLine.{TimerLine}
 use Rattle.run_history.specs.Actions.{Action, also}
+use Rattle.signal_queue.specs.declared.signal.Turn.{Turn}
+use Rattle.run_history.specs.Signals.{SignalMove}
 use Rattle.run_history.specs.Histories.{entry_shown, lines_of_base, lines_of_timer}
 use Rattle.run_history.specs.Objects.{lines_of_object}
 use Rattle.script_text.specs.Declarations.{declareds_of, terms_of}
@@ -41,8 +43,9 @@ pub record Evacuation : Type 0 where
   pub slack : ℕ
   pub placement : Placement
 
--- what one call did: the stamp of its one reading; the callbacks that it ran; the timers that it moved off a base; its actions in their order; and two
--- numbers of the order, at the first of which it had made no entry yet, and at the last of which it had made them all
+-- what one call did: the stamp of its one reading; the callbacks that it ran; the timers that it moved off a base; its actions in their order; two
+-- numbers of the order, at the first of which it had made no entry yet, and at the last of which it had made them all; and its pushes and pops of signals,
+-- each with how many stand before it
 pub record Trace : Type 0 where
   pub at : ℕ
   pub fired : List Fired
@@ -50,6 +53,7 @@ pub record Trace : Type 0 where
   pub actions : List Action
   pub first : ℕ
   pub last : ℕ
+  pub turns : List (ℕ × Turn)
 
 -- what a line shows: an entry of a timer, or of a base; or a rise of a counter. Counter 0 counts the clock's writes. Counter i + 1 rises where a call's turn of
 -- object i begins and again where the call makes its entry: it is odd while a call has its turn.
@@ -120,16 +124,17 @@ pub record Move : Type 0 where
   pub shown : Shown
 
 -- a script, a record of it, and what the record doesn't print: an order of all timers', bases' and objects' entries, the beginnings of turns and the clock's
--- writes; and what each call did
+-- writes; an order of the pushes and pops of signals; and what each call did
 pub record Witness : Type 0 where
   pub script : Script
   pub run : RunRecord
   pub moves : List Move
+  pub signals : List SignalMove
   pub traces : Label → Trace
 
 -- the same of this script and this record
-abbrev pub witness_with : Script → RunRecord → List Move → (Label → Trace) → Witness
-witness_with s r moves traces = record { script = s; run = r; moves = moves; traces = traces }
+abbrev pub witness_with : Script → RunRecord → List Move → List SignalMove → (Label → Trace) → Witness
+witness_with s r moves signals traces = record { script = s; run = r; moves = moves; signals = signals; traces = traces }
 
 -- the moves of one list
 abbrev pub moves_on : Owner → List Move → List Move

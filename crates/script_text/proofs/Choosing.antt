@@ -102,6 +102,7 @@ form_again version forms.SoftOnce = (λ has. soft_callback version (codes "once"
 form_again version forms.SoftEvery = (λ has. soft_callback version (codes "every") (drop 4 (row forms.SoftEvery)) _ has (rw has refl), refl)
 form_again version forms.Posix = (λ has vs h. refl, refl)
 form_again version forms.Fd = (λ has vs h. refl, refl)
+form_again version forms.Queued = (λ has vs h. found_where forms.Queued (has_form version forms.Queued) has, refl)
 form_again version forms.Sleeper = (λ has vs h. found_where forms.Sleeper (has_form version forms.Sleeper) has, refl)
 form_again version forms.Round = (λ has vs h. refl, refl)
 form_again version call =

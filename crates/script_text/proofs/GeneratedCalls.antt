@@ -77,6 +77,7 @@ raw_suits : (form : Form) → ((context : Context) (callback : Callback) → sui
 raw_suits form h (kinds.Raw context callback) raw = h context callback
 raw_suits form h (kinds.Posix base) raw = absurd raw
 raw_suits form h (kinds.Fd base) raw = absurd raw
+raw_suits form h (kinds.Queued base) raw = absurd raw
 raw_suits form h (kinds.Sleeper base) raw = absurd raw
 
 all_raw : (lanes : ℕ) → AllByRecursion (λ d. IsRaw d.kind) (lane_timers lanes)

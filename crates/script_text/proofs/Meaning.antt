@@ -109,6 +109,9 @@ declares d forms.Posix (values.Number i ∷ values.Clock c ∷ values.Number b �
 declares d forms.Fd (values.Number i ∷ values.Clock c ∷ values.Number b ∷ []) is fit e =
     let own = object_on d i b e in
     (record { clock = c; kind = kinds.Fd b }, record { means = refl; line = rw own.0 refl; range = own.1 })
+declares d forms.Queued (values.Number i ∷ values.Clock c ∷ values.Number b ∷ []) is fit e =
+    let own = object_on d i b e in
+    (record { clock = c; kind = kinds.Queued b }, record { means = refl; line = rw own.0 refl; range = own.1 })
 declares d forms.Sleeper (values.Number i ∷ values.Clock c ∷ values.Number b ∷ []) is fit e =
     let own = object_on d i b e in
     (record { clock = c; kind = kinds.Sleeper b }, record { means = refl; line = rw own.0 refl; range = own.1 })
@@ -132,6 +135,8 @@ declaration_again d clock (kinds.Raw contexts.Soft (callbacks.Starts n b)) range
 declaration_again d clock (kinds.Posix base) range =
     record { means = refl; part = refl; values = rw (eq-eqb (length d.timers) (length d.timers) refl, lt-ltb base d.bases range) refl; kind = refl }
 declaration_again d clock (kinds.Fd base) range =
+    record { means = refl; part = refl; values = rw (eq-eqb (length d.timers) (length d.timers) refl, lt-ltb base d.bases range) refl; kind = refl }
+declaration_again d clock (kinds.Queued base) range =
     record { means = refl; part = refl; values = rw (eq-eqb (length d.timers) (length d.timers) refl, lt-ltb base d.bases range) refl; kind = refl }
 declaration_again d clock (kinds.Sleeper base) range =
     record { means = refl; part = refl; values = rw (eq-eqb (length d.timers) (length d.timers) refl, lt-ltb base d.bases range) refl; kind = refl }
@@ -266,6 +271,7 @@ suits_range : (kind : Kind) → suits forms.StartRange kind ≡ suits forms.Star
 suits_range (kinds.Raw context callback) = refl
 suits_range (kinds.Posix base) = refl
 suits_range (kinds.Fd base) = refl
+suits_range (kinds.Queued base) = refl
 suits_range (kinds.Sleeper base) = refl
 
 as_start : (timers : List Declaration) (i : ℕ) → HasTimerFor timers i forms.StartRange → HasTimerFor timers i forms.Start
@@ -314,10 +320,15 @@ calls_for d some forms.Read (values.Number k ∷ values.Number i ∷ values.Numb
     timer_call d forms.Read _ _ k i _ (calls.Read i n) refl refl refl (λ none suit. suit) e kind
 calls_for d some forms.Sleep (values.Number k ∷ values.Number i ∷ values.Number f ∷ values.Number s ∷ values.Number n ∷ []) is fit e kind =
     timer_call d forms.Sleep _ _ k i _ (calls.Sleep i f (record { sec = s; nsec = n })) refl refl refl (λ none suit. suit) e kind
+calls_for d some forms.Sigwait (values.Number k ∷ []) is fit e kind = (
+  record { lane = k; call = calls.Sigwait },
+  record { means = refl; line = refl; lane = ltb-true k d.lanes (holds _ _ (neither _ _ e).0); range = tt },
+)
 calls_for d some forms.Offline (values.Number k ∷ values.Number b ∷ values.Number h ∷ values.Number n ∷ []) is fit e kind =
     (record { lane = k; call = calls.Offline b h n }, offline_call d some k b h n e)
 calls_for d some forms.Online (values.Number k ∷ values.Number b ∷ []) is fit e kind =
     (record { lane = k; call = calls.Online b }, online_call d some k b e)
+-- other values don't fill these rows, and the other forms are of no call
 calls_for d some forms.Start vs is fit e kind = absurd cc
 calls_for d some forms.StartRange vs is fit e kind = absurd cc
 calls_for d some forms.Expire vs is fit e kind = absurd cc
@@ -328,6 +339,7 @@ calls_for d some forms.Suspend vs is fit e kind = absurd cc
 calls_for d some forms.Settime vs is fit e kind = absurd cc
 calls_for d some forms.Read vs is fit e kind = absurd cc
 calls_for d some forms.Sleep vs is fit e kind = absurd cc
+calls_for d some forms.Sigwait vs is fit e kind = absurd cc
 calls_for d some forms.Offline vs is fit e kind = absurd cc
 calls_for d some forms.Online vs is fit e kind = absurd cc
 calls_for d some forms.Version vs is fit e kind = absurd cc
@@ -342,6 +354,7 @@ calls_for d some forms.SoftOnce vs is fit e kind = absurd cc
 calls_for d some forms.SoftEvery vs is fit e kind = absurd cc
 calls_for d some forms.Posix vs is fit e kind = absurd cc
 calls_for d some forms.Fd vs is fit e kind = absurd cc
+calls_for d some forms.Queued vs is fit e kind = absurd cc
 calls_for d some forms.Sleeper vs is fit e kind = absurd cc
 calls_for d some forms.Round vs is fit e kind = absurd cc
 calls_for d some f (values.Number k ∷ values.Number i ∷ []) is fit e kind = timer_call d f _ _ k i _ _ refl refl refl (λ none suit. suit) e kind
@@ -385,6 +398,8 @@ call_again d lane (calls.Offline base heir budget) own range = record {
 }
 call_again d lane (calls.Online base) own range =
     record { means = refl; part = refl; values = rw (eq-eqb lane 0 range.0, lt-ltb base d.bases range.1) refl; kind = refl }
+call_again d lane calls.Sigwait own range =
+    record { means = refl; part = refl; values = rw (lt-ltb lane d.lanes own) refl; kind = refl }
 call_again d lane (calls.Clock (writes.Advance by)) own range =
     record { means = refl; part = refl; values = rw (lt-ltb lane d.lanes own) refl; kind = refl }
 call_again d lane (calls.Clock (writes.Set to)) own range =

@@ -50,6 +50,7 @@ call_line lane (calls.Readable timer) = of_numbers forms.Readable (lane ∷ time
 call_line lane (calls.Sleep timer flags time) = of_numbers forms.Sleep (lane ∷ timer ∷ flags ∷ time.sec ∷ time.nsec ∷ [])
 call_line lane (calls.Interrupt timer) = of_numbers forms.Interrupt (lane ∷ timer ∷ [])
 call_line lane (calls.Slept timer) = of_numbers forms.Slept (lane ∷ timer ∷ [])
+call_line lane calls.Sigwait = of_numbers forms.Sigwait (lane ∷ [])
 call_line lane (calls.Offline base heir budget) = of_numbers forms.Offline (lane ∷ base ∷ heir ∷ budget ∷ [])
 call_line lane (calls.Online base) = of_numbers forms.Online (lane ∷ base ∷ [])
 
@@ -90,7 +91,7 @@ plain_call_of forms.Offline (values.Number k ∷ values.Number b ∷ values.Numb
 plain_call_of forms.Online (values.Number k ∷ values.Number b ∷ []) = Some (record { lane = k; call = calls.Online b })
 plain_call_of form vs = None
 
--- the call of an object that a line asks for, and its lane, by its form and values
+-- the call of an object, or of the queue of signals, that a line asks for, and its lane, by its form and values
 unfoldable pub object_call_of : Form → List Value → Option LaneCall
 object_call_of forms.Settime
     (values.Number k ∷ values.Number i ∷ values.Number f ∷ values.Number vs ∷ values.Number vn ∷ values.Number is ∷ values.Number in_ ∷ []) =
@@ -98,6 +99,7 @@ object_call_of forms.Settime
 object_call_of forms.Read (values.Number k ∷ values.Number i ∷ values.Number n ∷ []) = Some (record { lane = k; call = calls.Read i n })
 object_call_of forms.Sleep (values.Number k ∷ values.Number i ∷ values.Number f ∷ values.Number s ∷ values.Number n ∷ []) =
     Some (record { lane = k; call = calls.Sleep i f (record { sec = s; nsec = n }) })
+object_call_of forms.Sigwait (values.Number k ∷ []) = Some (record { lane = k; call = calls.Sigwait })
 object_call_of form vs = None
 
 -- the call that a line asks for, and its lane
@@ -138,5 +140,6 @@ IsCallInRange lane bases timers (calls.Readable timer) = HasTimerFor timers time
 IsCallInRange lane bases timers (calls.Sleep timer flags time) = HasTimerFor timers timer forms.Sleep
 IsCallInRange lane bases timers (calls.Interrupt timer) = HasTimerFor timers timer forms.Interrupt
 IsCallInRange lane bases timers (calls.Slept timer) = HasTimerFor timers timer forms.Slept
+IsCallInRange lane bases timers calls.Sigwait = Unit
 IsCallInRange lane bases timers (calls.Offline base heir budget) = (lane ≡ 0) × (base < bases) × (heir < base) × (budget ≤ most_budget)
 IsCallInRange lane bases timers (calls.Online base) = (lane ≡ 0) × (base < bases)

@@ -30,6 +30,7 @@ abbrev pub context_of : Kind → Context
 context_of (kinds.Raw context callback) = context
 context_of (kinds.Posix base) = contexts.Hard
 context_of (kinds.Fd base) = contexts.Hard
+context_of (kinds.Queued base) = contexts.Hard
 context_of (kinds.Sleeper base) = contexts.Hard
 
 -- the base of an object's timer
@@ -37,6 +38,7 @@ abbrev pub base_of : Kind → ℕ
 base_of (kinds.Raw context callback) = 0
 base_of (kinds.Posix base) = base
 base_of (kinds.Fd base) = base
+base_of (kinds.Queued base) = base
 base_of (kinds.Sleeper base) = base
 
 -- as what a declaration's timer is declared

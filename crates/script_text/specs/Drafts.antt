@@ -54,6 +54,7 @@ declaration_of forms.SoftEvery (values.Number i ∷ values.Clock c ∷ values.Nu
     Some (record { clock = c; kind = kinds.Raw contexts.Soft (callbacks.Every n) })
 declaration_of forms.Posix (values.Number i ∷ values.Clock c ∷ values.Number b ∷ []) = Some (record { clock = c; kind = kinds.Posix b })
 declaration_of forms.Fd (values.Number i ∷ values.Clock c ∷ values.Number b ∷ []) = Some (record { clock = c; kind = kinds.Fd b })
+declaration_of forms.Queued (values.Number i ∷ values.Clock c ∷ values.Number b ∷ []) = Some (record { clock = c; kind = kinds.Queued b })
 declaration_of forms.Sleeper (values.Number i ∷ values.Clock c ∷ values.Number b ∷ []) = Some (record { clock = c; kind = kinds.Sleeper b })
 declaration_of form vs = None
 

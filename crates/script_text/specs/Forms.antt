@@ -67,6 +67,7 @@ row forms.SoftOnce = soft (codes "once") []
 row forms.SoftEvery = soft (codes "every") (At fields.Free ∷ [])
 row forms.Posix = Key (codes "posix") ∷ At fields.NewTimer ∷ At fields.Clock ∷ At fields.Base ∷ []
 row forms.Fd = Key (codes "fd") ∷ At fields.NewTimer ∷ At fields.Clock ∷ At fields.Base ∷ []
+row forms.Queued = Key (codes "queued") ∷ At fields.NewTimer ∷ At fields.Clock ∷ At fields.Base ∷ []
 row forms.Sleeper = Key (codes "sleeper") ∷ At fields.NewTimer ∷ At fields.Clock ∷ At fields.Base ∷ []
 row forms.Round = Key (codes "round") ∷ []
 row forms.Start = called (codes "start") (At fields.Timer ∷ At fields.Mode ∷ At fields.Free ∷ At fields.Base ∷ [])
@@ -88,6 +89,7 @@ row forms.Readable = called (codes "readable") (At fields.Timer ∷ [])
 row forms.Sleep = called (codes "sleep") (At fields.Timer ∷ At fields.Free ∷ At fields.Free ∷ At fields.Free ∷ [])
 row forms.Interrupt = called (codes "interrupt") (At fields.Timer ∷ [])
 row forms.Slept = called (codes "slept") (At fields.Timer ∷ [])
+row forms.Sigwait = called (codes "sigwait") []
 row forms.Offline = called_first (codes "offline") (At fields.Base ∷ At fields.Heir ∷ At fields.Budget ∷ [])
 row forms.Online = called_first (codes "online") (At fields.Base ∷ [])
 
@@ -99,6 +101,8 @@ since forms.StartRange = versions.Two
 since forms.SoftExpire = versions.Two
 since forms.Offline = versions.Two
 since forms.Online = versions.Two
+since forms.Queued = versions.Two
+since forms.Sigwait = versions.Two
 since forms.Sleeper = versions.Two
 since forms.Sleep = versions.Two
 since forms.Interrupt = versions.Two
@@ -129,6 +133,7 @@ part forms.SoftOnce = parts.Declaration
 part forms.SoftEvery = parts.Declaration
 part forms.Posix = parts.Declaration
 part forms.Fd = parts.Declaration
+part forms.Queued = parts.Declaration
 part forms.Sleeper = parts.Declaration
 part forms.Round = parts.Round
 part call = parts.Call
@@ -141,10 +146,14 @@ suits forms.Cancel (kinds.Raw context callback) = true
 suits forms.Peek kind = true
 suits forms.Settime (kinds.Posix base) = true
 suits forms.Settime (kinds.Fd base) = true
+suits forms.Settime (kinds.Queued base) = true
 suits forms.Gettime (kinds.Posix base) = true
 suits forms.Gettime (kinds.Fd base) = true
+suits forms.Gettime (kinds.Queued base) = true
 suits forms.Accept (kinds.Posix base) = true
+suits forms.Accept (kinds.Queued base) = true
 suits forms.Overrun (kinds.Posix base) = true
+suits forms.Overrun (kinds.Queued base) = true
 suits forms.Read (kinds.Fd base) = true
 suits forms.Readable (kinds.Fd base) = true
 suits forms.Sleep (kinds.Sleeper base) = true
@@ -156,7 +165,8 @@ suits form kind = false
 abbrev pub plain_forms : List (List ℕ × Form)
 plain_forms =
     (codes "hrt", forms.Version) ∷ (codes "bases", forms.Bases) ∷ (codes "lanes", forms.Lanes) ∷ (codes "limit", forms.Limit)
-    ∷ (codes "posix", forms.Posix) ∷ (codes "fd", forms.Fd) ∷ (codes "sleeper", forms.Sleeper) ∷ (codes "round", forms.Round) ∷ []
+    ∷ (codes "posix", forms.Posix) ∷ (codes "fd", forms.Fd) ∷ (codes "queued", forms.Queued) ∷ (codes "sleeper", forms.Sleeper)
+    ∷ (codes "round", forms.Round) ∷ []
 
 -- those of a raw timer, by the word after its clock
 abbrev pub raw_forms : List (List ℕ × Form)
@@ -176,4 +186,5 @@ call_forms =
     ∷ (codes "settime", forms.Settime) ∷ (codes "gettime", forms.Gettime) ∷ (codes "accept", forms.Accept) ∷ (codes "overrun", forms.Overrun)
     ∷ (codes "read", forms.Read) ∷ (codes "readable", forms.Readable)
     ∷ (codes "sleep", forms.Sleep) ∷ (codes "interrupt", forms.Interrupt) ∷ (codes "slept", forms.Slept)
+    ∷ (codes "sigwait", forms.Sigwait)
     ∷ (codes "offline", forms.Offline) ∷ (codes "online", forms.Online) ∷ []

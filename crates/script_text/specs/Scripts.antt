@@ -68,6 +68,8 @@ declaration_line timer clock (kinds.Raw context (callbacks.Starts ns base)) =
 declaration_line timer clock (kinds.Posix base) =
     record { form = forms.Posix; values = values.Number timer ∷ values.Clock clock ∷ values.Number base ∷ [] }
 declaration_line timer clock (kinds.Fd base) = record { form = forms.Fd; values = values.Number timer ∷ values.Clock clock ∷ values.Number base ∷ [] }
+declaration_line timer clock (kinds.Queued base) =
+    record { form = forms.Queued; values = values.Number timer ∷ values.Clock clock ∷ values.Number base ∷ [] }
 declaration_line timer clock (kinds.Sleeper base) =
     record { form = forms.Sleeper; values = values.Number timer ∷ values.Clock clock ∷ values.Number base ∷ [] }
 
@@ -110,6 +112,7 @@ IsKindInRange bases (kinds.Raw contexts.Soft callbacks.Cancels) = ⊥
 IsKindInRange bases (kinds.Raw contexts.Soft callback) = Unit
 IsKindInRange bases (kinds.Posix base) = base < bases
 IsKindInRange bases (kinds.Fd base) = base < bases
+IsKindInRange bases (kinds.Queued base) = base < bases
 IsKindInRange bases (kinds.Sleeper base) = base < bases
 
 -- lines are of forms that a version has

@@ -24,6 +24,7 @@ pub enum Form {
     SoftEvery,
     Posix,
     Fd,
+    Queued,
     Sleeper,
     Round,
     Start,
@@ -44,6 +45,7 @@ pub enum Form {
     Sleep,
     Interrupt,
     Slept,
+    Sigwait,
     Offline,
     Online,
 }
@@ -122,6 +124,7 @@ pub(crate) const PLAIN: &[(&[u8], Form)] = &[
     (b"limit", Form::Limit),
     (b"posix", Form::Posix),
     (b"fd", Form::Fd),
+    (b"queued", Form::Queued),
     (b"sleeper", Form::Sleeper),
     (b"round", Form::Round),
 ];
@@ -157,6 +160,7 @@ pub(crate) const CALLS: &[(&[u8], Form)] = &[
     (b"sleep", Form::Sleep),
     (b"interrupt", Form::Interrupt),
     (b"slept", Form::Slept),
+    (b"sigwait", Form::Sigwait),
     (b"offline", Form::Offline),
     (b"online", Form::Online),
 ];
@@ -189,6 +193,7 @@ impl Form {
             Form::SoftEvery => &[KEY, NEW_TIMER, CLOCK, KEY, FREE],
             Form::Posix => &[KEY, NEW_TIMER, CLOCK, BASE],
             Form::Fd => &[KEY, NEW_TIMER, CLOCK, BASE],
+            Form::Queued => &[KEY, NEW_TIMER, CLOCK, BASE],
             Form::Sleeper => &[KEY, NEW_TIMER, CLOCK, BASE],
             Form::Round => &[KEY],
             Form::Start => &[LANE, KEY, TIMER, Some(Field::Mode), FREE, BASE],
@@ -209,6 +214,7 @@ impl Form {
             Form::Sleep => &[LANE, KEY, TIMER, FREE, FREE, FREE],
             Form::Interrupt => &[LANE, KEY, TIMER],
             Form::Slept => &[LANE, KEY, TIMER],
+            Form::Sigwait => &[LANE, KEY],
             Form::Offline => &[
                 FIRST_LANE,
                 KEY,
@@ -231,6 +237,8 @@ impl Form {
             | Form::SoftExpire
             | Form::Offline
             | Form::Online
+            | Form::Queued
+            | Form::Sigwait
             | Form::Sleeper
             | Form::Sleep
             | Form::Interrupt
@@ -263,6 +271,7 @@ impl Form {
             | Form::SoftEvery
             | Form::Posix
             | Form::Fd
+            | Form::Queued
             | Form::Sleeper => Part::Declaration,
             Form::Round => Part::Round,
             _ => Part::Call,
@@ -320,8 +329,13 @@ impl Form {
         match self {
             Form::Peek => true,
             Form::Start | Form::StartRange | Form::Cancel => matches!(kind, Kind::Raw { .. }),
-            Form::Settime | Form::Gettime => matches!(kind, Kind::Posix { .. } | Kind::Fd { .. }),
-            Form::Accept | Form::Overrun => matches!(kind, Kind::Posix { .. }),
+            Form::Settime | Form::Gettime => matches!(
+                kind,
+                Kind::Posix { .. } | Kind::Fd { .. } | Kind::Queued { .. }
+            ),
+            Form::Accept | Form::Overrun => {
+                matches!(kind, Kind::Posix { .. } | Kind::Queued { .. })
+            }
             Form::Read | Form::Readable => matches!(kind, Kind::Fd { .. }),
             Form::Sleep | Form::Interrupt | Form::Slept => matches!(kind, Kind::Sleeper { .. }),
             _ => false,

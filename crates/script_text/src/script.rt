@@ -33,6 +33,10 @@ pub enum Kind {
     Fd {
         base: u32,
     },
+    /// A POSIX timer that sends its signals to the queue, its timer on this base.
+    Queued {
+        base: u32,
+    },
     /// A sleeper, its timer on this base.
     Sleeper {
         base: u32,
@@ -110,6 +114,8 @@ pub enum Call {
     Slept {
         timer: u32,
     },
+    /// Takes the next signal of the queue.
+    Sigwait,
     /// Takes the base off line, and moves at most so many timers to the heir.
     Offline {
         base: u32,

@@ -2,7 +2,7 @@
 ghost use Rattle.std.specs.Prelude.{◌≡◌, ◌++◌, ◌∷◌, OnOk, string_bytes, codes, length, map};
 ghost use Rattle.std.specs.Fmt.{decimal};
 ghost use Rattle.record_text.specs.Numbers.{AreMachineNumbers};
-ghost use Rattle.record_text.specs.Answers.{answer_numbers, object_answer_numbers, shift_answer_numbers, sleeper_answer_numbers, answer_words, object_answer_words, shift_answer_words, sleeper_answer_words};
+ghost use Rattle.record_text.specs.Answers.{answer_numbers, object_answer_numbers, shift_answer_numbers, signal_answer_numbers, sleeper_answer_numbers, answer_words, object_answer_words, shift_answer_words, signal_answer_words, sleeper_answer_words};
 ghost use Rattle.record_text.specs.Text.{spaced};
 
 use crate::item_list::ItemList;
@@ -123,7 +123,7 @@ fn write_object_answer(out: &mut String, answer: &Answer) -> Result<(), AllocErr
     Ok(())
 }
 
-/// Writes the words of what a sleeper's call alone is answered, each after a space. It writes nothing for another answer.
+/// Writes the words of what a sleeper's call alone is answered, or a call that takes a signal of the queue.
 fn write_sleeper_answer(out: &mut String, answer: &Answer) -> Result<(), AllocError>
     ensures text { OnOk result (string_bytes out.new ≡ string_bytes out.old ++ spaced (sleeper_answer_words answer.now)) }
     ensures numbers { OnOk result (AreMachineNumbers (sleeper_answer_numbers answer.now)) }
@@ -137,6 +137,29 @@ fn write_sleeper_answer(out: &mut String, answer: &Answer) -> Result<(), AllocEr
         Answer::Sleeping { stamp } => write_word(out, "sleeping", &[stamp])?,
         Answer::SleptAt { stamp } => write_word(out, "done", &[stamp])?,
         Answer::Awake { stamp } => write_word(out, "awake", &[stamp])?,
+        _ => write_signal_answer(out, answer)?,
+    }
+    Ok(())
+}
+
+/// Writes the words of what a call that takes a signal of the queue is answered. It writes nothing for another answer.
+fn write_signal_answer(out: &mut String, answer: &Answer) -> Result<(), AllocError>
+    ensures text { OnOk result (string_bytes out.new ≡ string_bytes out.old ++ spaced (signal_answer_words answer.now)) }
+    ensures numbers { OnOk result (AreMachineNumbers (signal_answer_numbers answer.now)) }
+{
+    match *answer {
+        Answer::Signal {
+            timer,
+            number,
+            overrun,
+        } => write_word(out, "signal", &[timer.into(), number, overrun])?,
+        Answer::StaleSignal { timer, number } => {
+            write_word(out, "stale", &[timer.into(), number])?
+        }
+        Answer::SpentSignal { timer, number } => {
+            write_word(out, "spent", &[timer.into(), number])?
+        }
+        Answer::NoneQueued => write_word(out, "empty", &[])?,
         _ => {}
     }
     Ok(())

@@ -36,6 +36,13 @@ impl HasWords for ObjectEntry {
                 write_word(out, "trigger", &[generation, reading])?;
                 write_word(out, counted_word(counted), &[])?;
             }
+            ObjectEntry::Overflow {
+                generation,
+                reading,
+            } => {
+                write_word(out, "trigger", &[generation, reading])?;
+                write_word(out, "full", &[])?;
+            }
             rearming => write_rearming(out, rearming)?,
         }
         Ok(())

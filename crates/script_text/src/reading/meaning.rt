@@ -45,6 +45,10 @@ pub fn declaration(form: Form, values: &[Value]) -> Option<Declaration>
             let base = *base as u32;
             (clock, Kind::Fd { base })
         }
+        (Form::Queued, [Number(_), Clock(clock), Number(base)]) => {
+            let base = *base as u32;
+            (clock, Kind::Queued { base })
+        }
         (Form::Sleeper, [Number(_), Clock(clock), Number(base)]) => {
             let base = *base as u32;
             (clock, Kind::Sleeper { base })
@@ -181,7 +185,7 @@ fn write(write: Write) -> Call
     Call::Clock { write }
 }
 
-/// The call of an object that a line asks for.
+/// The call of an object, or of the queue of signals, that a line asks for.
 #[tactic(auto, unfolding(crate::specs::CallLines::object_call_of))]
 fn object_call(form: Form, values: &[Value]) -> Option<LaneCall>
     requires { AreShort (row form) values.now }
@@ -194,6 +198,7 @@ fn object_call(form: Form, values: &[Value]) -> Option<LaneCall>
             let (timer, len) = (*timer as u32, *len);
             (lane, Call::Read { timer, len })
         }
+        (Form::Sigwait, [Number(lane)]) => (lane, Call::Sigwait),
         _ => return None,
     };
     let lane = *lane as u32;

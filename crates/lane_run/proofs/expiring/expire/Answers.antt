@@ -1,10 +1,11 @@
-use Rattle.std.proofs.Common.{◌∙◌, rules, refl, sym, ap}
+use Rattle.std.proofs.Common.{◌∙◌, rules, sym, ap}
 use Rattle.ktime.specs.Readings.{ClockReading}
 use Rattle.lane_notes.proofs.Receipts.{with_receipts-append}
 use Rattle.lane_notes.specs.Entries.{with_receipts}
 use Rattle.lane_notes.specs.Notes.{NotesOf}
 use Rattle.lane_notes.specs.Objects.{with_object_receipts}
 use Rattle.lane_world.specs.Called.{expire_told}
+use Rattle.lane_run.proofs.Objects.{reads_still}
 use Rattle.lane_run.proofs.expiring.expire.Goals as goal
 
 pub returns-clause-call : goal.returns-clause-call
@@ -12,7 +13,7 @@ returns-clause-call g c =
     let was = c.requires.reading in
     let ran = c.in_ok-answer.field-0 in record {
       reading = c.args.reading;
-      reads = record { same = refl; shows = was.shows; count = was.count };
+      reads = reads_still was c.run_gated.ensures.clock;
       log = ran.log.receipts;
       callback_log = ran.callback_log.receipts;
       object_log = ran.object_log.receipts;

@@ -15,7 +15,7 @@ returns-clause-call g c =
           (λ x old new reading. Gettimes x.objects x.timers.about old new c.args.timer reading (decl_at x.objects c.args.timer).kind made.result
           × (c.gettime_answer.result ≡ gettime_told (decl_at x.objects c.args.timer).kind reading.stamp made.result))
           c.args.reading made.new.log.receipts made.new.object_log.receipts c.world.view_is c.note_logs.ensures.rest.3
-          (record { same = refl; shows = was.shows; count = was.count }) c.in_ok-logs.ensures.empty (
+          (record { same = refl; shows = was.shows; count = was.count }) refl c.in_ok-logs.ensures.empty (
             made.ensures.gets,
             c.gettime_answer.ensures ∙ ap (λ (r : ClockReading). gettime_told c.kind.result r.stamp made.result) c.reading.view_is
                 ∙ ap (λ k. gettime_told k c.args.reading.stamp made.result) c.kind.ensures,

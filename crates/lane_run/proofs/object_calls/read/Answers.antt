@@ -10,5 +10,6 @@ returns-clause-call g c =
       made.result,
       c.read_answer.ensures,
       calls_object (λ x old new reading. ReadsFd x.objects x.timers.about old new c.args.timer c.args.len reading made.result) c.args.reading
-          made.new.log.receipts made.new.object_log.receipts c.world.view_is c.note_logs.ensures.rest.3 (record { same = refl; shows = was.shows; count = was.count }) c.in_ok-logs.ensures.empty made.ensures.reads c.in_ok-note_logs.ensures.notes,
+          made.new.log.receipts made.new.object_log.receipts c.world.view_is c.note_logs.ensures.rest.3
+          (record { same = refl; shows = was.shows; count = was.count }) refl c.in_ok-logs.ensures.empty made.ensures.reads c.in_ok-note_logs.ensures.notes,
     )

@@ -14,4 +14,4 @@ loop-id-preserved g c =
     let here = c.world.view_is in
     looked_more {r = record c.loop-id.main { timers = c.look_at.new.pass; objects = c.look_at.new.objects_pass }} c.loop-id.invariant
     (subst (λ (y : WorldOf). IsPassOf y.timers c.look_at.new.pass) here seen.pass)
-    (subst (λ (y : WorldOf). IsObjectsPass y.objects c.look_at.new.objects_pass) here seen.objects) refl seen.looks seen.finds seen.told seen.name
+    (subst (λ (y : WorldOf). IsObjectsPass y.objects c.look_at.new.objects_pass) here seen.objects) refl refl seen.looks seen.finds seen.told seen.name

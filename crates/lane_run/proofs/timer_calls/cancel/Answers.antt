@@ -13,6 +13,7 @@ returns-clause-call g c =
       answer = c.try_to_cancel_logged-answer.result;
       cancels = its.0;
       objects = refl;
+      signals = refl;
       notes = only_timers p.notes p.label c.note_receipts.new.notes c.in_ok-note_receipts.ensures (c.receipts.ensures ∙ its.1);
       told = c.cancel_answer.ensures;
     }

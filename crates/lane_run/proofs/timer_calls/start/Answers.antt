@@ -17,6 +17,7 @@ returns-clause-call g c =
       answer = c.start_logged-answer.result;
       starts = its.0;
       objects = refl;
+      signals = refl;
       notes = only_timers p.notes p.label c.note_receipts.new.notes c.in_ok-note_receipts.ensures (c.receipts.ensures ∙ its.1);
       told = c.start_answer.ensures;
     }

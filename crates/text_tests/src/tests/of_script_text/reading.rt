@@ -144,12 +144,14 @@ fn reads_a_script_whole(rt: HostRuntime) {
 }
 
 const TWO: &str = "hrt 2\nbases 64\nlanes 1\nlimit 281474976708608\n\
-    soft 0 realtime once\nsoft 1 boottime every 10\nsleeper 2 realtime 63\nround\n\
+    soft 0 realtime once\nsoft 1 boottime every 10\nsleeper 2 realtime 63\n\
+    queued 3 monotonic 0\nround\n\
     0 startrange 0 rel 100 50 63\n0 startrange 1 abs 7 9223372036854775807 0\n0 start 1 rel 5 1\n\
     0 softexpire 63 4096\n0 offline 1 0 4\n0 online 1\n\
-    0 sleep 2 1 5 999999999\n0 interrupt 2\n0 slept 2\n";
+    0 sleep 2 1 5 999999999\n0 interrupt 2\n0 slept 2\n\
+    0 accept 3\n0 sigwait\n";
 
-fn calls_of_two() -> [Call; 9] {
+fn calls_of_two() -> [Call; 11] {
     [
         start(0, Mode::Rel, 100, Some(50), 63),
         start(1, Mode::Abs, 7, Some(9223372036854775807), 0),
@@ -171,6 +173,8 @@ fn calls_of_two() -> [Call; 9] {
         },
         Call::Interrupt { timer: 2 },
         Call::Slept { timer: 2 },
+        Call::Accept { timer: 3 },
+        Call::Sigwait,
     ]
 }
 
@@ -186,6 +190,7 @@ fn reads_a_script_of_version_2_whole(rt: HostRuntime) {
         soft(ClockId::Realtime, Callback::Once),
         soft(ClockId::Boottime, Callback::Every { interval: 10 }),
         declared(ClockId::Realtime, Kind::Sleeper { base: 63 }),
+        declared(ClockId::Monotonic, Kind::Queued { base: 0 }),
     ];
     assert_eq!(rt; script.timers.as_slice(), declarations.as_slice());
     let [round] = script.rounds.as_slice() else {
@@ -198,10 +203,10 @@ fn reads_a_script_of_version_2_whole(rt: HostRuntime) {
 /// A timer of each kind, and a round's beginning.
 const KINDS: &str = "hrt 2\nbases 3\nlanes 2\nlimit 100\n\
     raw 0 monotonic once\nposix 1 realtime 0\nfd 2 boottime 0\nsoft 3 monotonic once\n\
-    sleeper 4 monotonic 0\nround\n";
+    sleeper 4 monotonic 0\nqueued 5 realtime 0\nround\n";
 
 /// Calls that are not for the kind of their timer: objects are started by their settings alone, and a soft timer is a raw one.
-const WRONG_KINDS: [&str; 16] = [
+const WRONG_KINDS: [&str; 18] = [
     "0 settime 0 0 1 0 0 0",
     "0 gettime 3",
     "0 start 2 rel 5 0",
@@ -218,6 +223,8 @@ const WRONG_KINDS: [&str; 16] = [
     "0 sleep 1 0 0 5",
     "0 interrupt 2",
     "0 slept 0",
+    "0 start 5 rel 5 0",
+    "0 read 5 8",
 ];
 
 /// Calls of lanes other than the first, also of one that the script doesn't have.
@@ -236,12 +243,13 @@ const HEIRS: [&str; 4] = [
     "0 offline 2 9223372036854775807 4",
 ];
 
-const NUMBERS: [&str; 5] = [
+const NUMBERS: [&str; 6] = [
     "0 startrange 0 rel 5 05 0",
     "0 softexpire 0 04",
     "0 offline 1 00 4",
     "00 online 1",
     "0 sleep 4 0 0 05",
+    "00 sigwait",
 ];
 
 /// Compares what is told of each of these lines behind the ones of all kinds.
@@ -258,8 +266,8 @@ fn tells(rt: &impl Abort, alloc: Global, told: &str, lines: &[&str]) {
 
 #[test]
 fn tells_the_first_cause_against_a_call(rt: HostRuntime) {
-    tells(&rt, rt.alloc(), "line 11: WrongKind\n", &WRONG_KINDS);
-    tells(&rt, rt.alloc(), "line 11: LaneLimit\n", &LANES);
-    tells(&rt, rt.alloc(), "line 11: HeirLimit\n", &HEIRS);
-    tells(&rt, rt.alloc(), "line 11: BadNumber\n", &NUMBERS);
+    tells(&rt, rt.alloc(), "line 12: WrongKind\n", &WRONG_KINDS);
+    tells(&rt, rt.alloc(), "line 12: LaneLimit\n", &LANES);
+    tells(&rt, rt.alloc(), "line 12: HeirLimit\n", &HEIRS);
+    tells(&rt, rt.alloc(), "line 12: BadNumber\n", &NUMBERS);
 }

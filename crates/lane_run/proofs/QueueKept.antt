@@ -1,0 +1,48 @@
+-- What a pass of signals knows stays true in an expiry run that was lent it.
+use Rattle.std.proofs.Common.{ℕ, List, sym, subst, inl, inr}
+use Rattle.std.specs.Prelude.{Bool, true, false}
+use Rattle.ktime.specs.Readings.{ClockReading}
+use Rattle.seq_timer.specs.declared.context.Context.{Context}
+use Rattle.base_row.specs.declared.log.Receipt.{Receipt}
+use Rattle.base_row.specs.declared.view.Opening.{Opening}
+use Rattle.hr_timers.specs.declared.numbers.ClaimNumbers.{ClaimNumbers}
+use Rattle.hr_timers.specs.Known.{KnownOfTimers}
+use Rattle.expire_pass.specs.declared.expiry.ExpireAnswer.{ExpireAnswer}
+use Rattle.expire_pass.specs.declared.handler.Restart.{Restart}
+use Rattle.expire_pass.specs.Expiring.{Expires}
+use Rattle.expire_pass.proofs.Leaving.{run_leaves}
+use Rattle.signal_queue.specs.Views.{KnowsQueue, PassOfQueue}
+use Rattle.signal_queue.specs.declared.view.QueueView.{QueueView}
+use Rattle.timer_objects.specs.declared.object.Kind.{Kind}
+use Rattle.timer_objects.specs.declared.object.Kind.TheVariants as kinds
+use Rattle.timer_objects.specs.Known.{decl_at}
+use Rattle.timer_objects.specs.QueuedFirings.{FiresKind, QueuedFiring, queued_firing}
+use Rattle.timer_objects.specs.Signals.{FiresQueued, IsSentBy}
+
+-- what the pass of signals knows stays true from the one handler to the other
+abbrev pub KnowsStill : QueuedFiring → QueuedFiring → Type 0
+KnowsStill h h' = KnowsQueue h.signal_pass.now.knows → KnowsQueue h'.signal_pass.now.knows
+
+knows_sent : (sends : Bool) (s t : QueueView) (id number : ℕ) → IsSentBy sends s t id number → KnowsQueue s → KnowsQueue t
+knows_sent true s t id number sent knows = sent.2
+knows_sent false s t id number same knows = subst KnowsQueue (sym same) knows
+
+module _ (o : Opening) (h h' : QueuedFiring) (v w : KnownOfTimers) (c : ClaimNumbers) (reading : ClockReading) (restart : Restart) where
+  knows_queued : FiresQueued h.objects.now h.objects_pass.now h'.objects_pass.now h.object_log.receipts h'.object_log.receipts v w
+      h.signal_pass.now.knows h'.signal_pass.now.knows c.timer c.generation reading → KnowsStill h h'
+  knows_queued (inl sends) knows = knows_sent _ h.signal_pass.now.knows h'.signal_pass.now.knows c.timer _ sends.sent knows
+  knows_queued (inr (inl over)) knows = over.full.1
+  knows_queued (inr (inr skips)) knows = subst KnowsQueue (sym skips.none) knows
+
+  knows_kind : (kind : Kind) → FiresKind o h h' v w c reading restart kind → KnowsStill h h'
+  knows_kind kinds.Raw by knows = subst (λ (p : PassOfQueue). KnowsQueue p.knows) (sym by.3) knows
+  knows_kind kinds.Queued by knows = knows_queued by.0 knows
+  knows_kind kind by knows = subst (λ (p : PassOfQueue). KnowsQueue p.knows) (sym by.4) knows
+
+-- law: so it does in a run
+pub knows_still : (o : Opening) (reading : ClockReading) (x : Context) (base budget : ℕ) (k : KnownOfTimers) (h : QueuedFiring) (log : List Receipt)
+    (k' : KnownOfTimers) (h' : QueuedFiring) (log' : List Receipt) (a : ExpireAnswer) → Expires queued_firing o x base reading budget k h log k' h' log' a
+    → KnowsStill h h'
+knows_still o reading =
+    run_leaves queued_firing o reading KnowsStill (λ h knows. knows) (λ h i j one two knows. two (one knows)) (λ h h' v w c restart fires.
+    knows_kind o h h' v w c reading restart (decl_at h.objects.now c.timer).kind fires.fires)
