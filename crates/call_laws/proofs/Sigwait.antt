@@ -1,5 +1,5 @@
 -- The call that takes the next signal, as its lane keeps it.
-use Rattle.std.proofs.Common.{◌≡◌, ◌≤◌, ◌<◌, ℕ, Some, List, [], ◌∷◌, ◌++◌, length, map, arith, refl, sym, ap, ◌∙◌, subst}
+use Rattle.std.proofs.Common.{false, ◌≡◌, ◌≤◌, ◌<◌, ℕ, Some, List, [], ◌∷◌, ◌++◌, length, map, arith, refl, sym, ap, ◌∙◌, subst}
 use Rattle.std.specs.List.{slice_get}
 use Rattle.std.proofs.Math.Logic.{⊎_elim}
 use Rattle.std.proofs.lemmas.Bool.{cases_lt}
@@ -21,7 +21,7 @@ use Rattle.timer_objects.specs.Calls.{Caller, FindsFull}
 use Rattle.timer_objects.specs.Known.{seen_of}
 use Rattle.timer_objects.specs.Meaning.{object_meaning, opened_objects}
 use Rattle.timer_objects.specs.Signals as signals
-use Rattle.timer_objects.specs.Signals.{AcceptsSignal, FindsStale, TakesNext, TakesOldest}
+use Rattle.timer_objects.specs.Signals.{AcceptsSignal, FindsStale, TakesNext, TakesOldest, object_fresh}
 use Rattle.timer_objects.specs.declared.object.Kind.TheVariants as over
 use Rattle.timer_objects.specs.declared.object.Object.TheVariants as objects
 use Rattle.timer_objects.specs.declared.object.Object.{Object}
@@ -47,13 +47,13 @@ use Rattle.run_history.proofs.Kept.{call_made}
 use Rattle.run_history.proofs.Lists.{all_at, at_left}
 use Rattle.run_history.proofs.ObjectsMade.{signal_made}
 use Rattle.run_history.proofs.OthersMade.{quiet_made, turning}
-use Rattle.lane_world.specs.Called.{CallsSigwait, lane_caller, LaneOf, next_told, SeesEntry, SeesSent}
+use Rattle.lane_world.specs.Called.{CallsSigwait, lane_caller, LaneOf, next_told, SeesEntry, SeesSent, SeesStale}
 use Rattle.lane_world.specs.Runs.{ObjectMove}
 use Rattle.lane_world.specs.Worlds.{decl_of, WorldOf}
 use Rattle.lane_world.specs.declared.WorldPass.{WorldPass}
 use Rattle.lane_world.proofs.Declared.{declared_over, over_of}
 use Rattle.lane_world.proofs.Kept.{FollowsObject, IsNextCall, KeepsCall}
-use Rattle.lane_world.proofs.ObjectSeen.{object_seen}
+use Rattle.lane_world.proofs.ObjectSeen.{object_after, object_seen}
 use Rattle.lane_world.proofs.PartLists.{no_notes-joins}
 use Rattle.lane_world.proofs.SeenMore.{begins_same, follows_object, goes_before}
 use Rattle.lane_notes.specs.Notes.{no_notes}
@@ -102,6 +102,18 @@ module _ {s : Script} {x : WorldOf} {l : LaneOf} (next : IsNextCall s x l calls.
       → object ≡ objects.Queued t → t ≡ queued_after s e.run timer (base_of (kind_of s timer)) (length seen)
   queued_is e timer seen object t at follows is =
       queued_looked s e.run timer (length seen) (kind_of s timer) (sym is ∙ object_seen s x next.world timer seen object at e follows)
+
+  -- a signal that was seen not to be pending there isn't pending at the record's
+  stale_at : (e : Ending) (timer number : ℕ) (seen : List ObjectMove) (object : Object) → IsQueued (kind_of s timer)
+      → StateAfter object_meaning (opened_objects x.objects.decls x.objects.limit) timer seen object → FollowsObject e timer seen
+      → object_fresh object number ≡ false → is_fresh (queued_after s e.run timer (base_of (kind_of s timer)) (length seen)) number ≡ false
+  stale_at e timer number seen object queued at follows stale =
+      sym (of_kind (kind_of s timer) queued) ∙ sym (ap (λ o. object_fresh o number) (object_seen s x next.world timer seen object at e follows)) ∙ stale
+    where
+      of_kind : (k : Kind) → IsQueued k
+          → object_fresh (object_after s e.run timer (length seen) k) number ≡ is_fresh (queued_after s e.run timer (base_of k) (length seen)) number
+      of_kind (kinds.Queued base) is = refl
+      of_kind k is = absurd is
 
   -- what was popped off the queue was a queued timer's signal
   popped_queued : (e : Ending) → IsJoined s e → (ts : List Turn) (later : List Turn) → turns_in e.signals ≡ ts ++ later → (p timer number : ℕ)
@@ -214,10 +226,11 @@ module _ {s : Script} {x : WorldOf} {l m : LaneOf} {a : Answer} (next : IsNextCa
 
     -- the signal wasn't pending
     keeps_stale : {mid : WorldPass} → signals.IsQueued x.objects timer
-        → FindsStale x.objects (lane_caller l.pass [] []) (lane_caller mid c.log c.object_log) timer number → SeesEntry mid m.pass timer number
+        → FindsStale x.objects (lane_caller l.pass [] []) (lane_caller mid c.log c.object_log) timer number → SeesStale mid m.pass timer number
         → KeepsCall s l calls.Sigwait (answers.StaleSignal timer number) m
-    keeps_stale {mid} queued stale sees =
+    keeps_stale {mid} queued stale later =
         let looks = stale.looks in
+        let sees = later.entry in
         let by : LooksBy mid = record {
           timers = looks.timers.seen;
           timers_mine = looks.timers.mine;
@@ -233,6 +246,8 @@ module _ {s : Script} {x : WorldOf} {l m : LaneOf} {a : Answer} (next : IsNextCa
         let low = begins_length looks.timers.seen in
         let high = begins_length sees.timers.seen in
         let at = subst (λ cells. StateAfter object_meaning cells timer (seen_of mid.objects timer) looks.reads.state) next.objects looks.reads.at in
+        let now = subst (λ cells. StateAfter object_meaning cells timer (seen_of m.pass.objects timer) later.object)
+        (sees.opening ∙ looks.reads.opening ∙ next.objects) later.at in
         keeps_looks (looks_more by sees) (answers.StaleSignal timer number) first made turned
         (λ e follows joined has kept begun. call_made kept (omega (arith, begun)) (omega (arith, low, high)) tt (refl, kind_there next timer queued)
         (tt, tt) (omega (arith, low, high)) (
@@ -248,7 +263,12 @@ module _ {s : Script} {x : WorldOf} {l m : LaneOf} {a : Answer} (next : IsNextCa
                 (follows_object (sees.objects.seen.each timer) (follows.objects timer)) (sym looks.state)
                 ∙ ap (queued_after s e.run timer (base_of (kind_of s timer))) (sym looks.stamp))) ∙ stale.stale;
           },
-          (stamp, entries_had timer stamp m.pass.timers.known joined follows.timers sees.told, sees.sent),
+          (
+            stamp,
+            entries_had timer stamp m.pass.timers.known joined follows.timers sees.told,
+            sees.sent,
+            stale_at next e timer number (seen_of m.pass.objects timer) later.object (kind_there next timer queued) now (follows.objects timer) later.stale,
+          ),
         ))
 
     -- it was of no queued timer, which no run has
@@ -324,11 +344,11 @@ module _ {s : Script} {x : WorldOf} {l m : LaneOf} {a : Answer} (next : IsNextCa
       (subst (λ j. KeepsCall s l calls.Sigwait (answers.StaleSignal takes.0 j) m) (sym its.1.1)
       (⊎_elim
       (λ seen.
-      let entry : SeesEntry c.mid m.pass takes.0 takes.1 =
-      subst (λ j. SeesEntry c.mid m.pass j takes.1) its.1.0 (subst (SeesEntry c.mid m.pass i) its.1.1 seen.1) in
+      let later : SeesStale c.mid m.pass takes.0 takes.1 =
+      subst (λ j. SeesStale c.mid m.pass j takes.1) its.1.0 (subst (SeesStale c.mid m.pass i) its.1.1 seen.1) in
       let pops = subst (λ u. TakesTurn l.pass.signals.knows u.knows (Popped (record { timer = takes.0; number = takes.1 })))
-      (sym seen.1.signals) takes.2.pops in
-      keeps_stale takes.0 takes.1 pops its.0 its.1.2 entry)
+      (sym seen.1.entry.signals) takes.2.pops in
+      keeps_stale takes.0 takes.1 pops its.0 its.1.2 later)
       (λ alone. absurd (alone.0 (subst (signals.IsQueued x.objects) (sym its.1.0) its.0))) sees)))
       takes.3
 

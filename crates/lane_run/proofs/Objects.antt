@@ -10,7 +10,7 @@ use Rattle.timer_objects.specs.Signals.{TakesNext}
 use Rattle.timer_objects.specs.declared.signals.NextSignal.{NextSignal}
 use Rattle.timer_objects.specs.declared.signals.NextSignal.TheVariants as nexts
 use Rattle.record_text.specs.declared.record.Answer.{Answer}
-use Rattle.lane_world.specs.Called.{CallsObject, CallsSigwait, LaneOf, LeavesClock, LeavesSignals, ReadsClock, SeesIfQueued, SeesSent, lane_caller, next_told, with_done}
+use Rattle.lane_world.specs.Called.{CallsObject, CallsSigwait, LaneOf, LeavesClock, LeavesSignals, ReadsClock, SeesSent, lane_caller, next_told, with_done}
 use Rattle.lane_world.specs.Worlds.{WorldOf}
 use Rattle.lane_world.specs.declared.WorldPass.{WorldPass}
 
@@ -44,12 +44,11 @@ reads_still was clock = record {
 }
 
 -- who sees the entry that sent a signal leaves the clock alone
-seen_clock : (x : WorldOf) (p q : WorldPass) (timer number : ℕ) → SeesIfQueued x p q timer number → LeavesClock p q
-seen_clock x p q timer number sees = ⊎_elim (λ queued. queued.1.clock) (λ alone. ap (λ (r : WorldPass). r.clock) alone.1) sees
-
 sent_clock : (x : WorldOf) (p q : WorldPass) (next : NextSignal) → SeesSent x p q next → LeavesClock p q
-sent_clock x p q (nexts.Spent timer number stamp) sees = seen_clock x p q timer number sees
-sent_clock x p q (nexts.Stale timer number) sees = seen_clock x p q timer number sees
+sent_clock x p q (nexts.Spent timer number stamp) sees =
+    ⊎_elim (λ queued. queued.1.clock) (λ alone. ap (λ (r : WorldPass). r.clock) alone.1) sees
+sent_clock x p q (nexts.Stale timer number) sees =
+    ⊎_elim (λ queued. queued.1.entry.clock) (λ alone. ap (λ (r : WorldPass). r.clock) alone.1) sees
 sent_clock x p q nexts.NoneQueued same = ap (λ (r : WorldPass). r.clock) same
 sent_clock x p q (nexts.Accepted timer number overrun) same = ap (λ (r : WorldPass). r.clock) same
 

@@ -1,10 +1,15 @@
 -- An object that is looked at until an entry of it is seen.
-use Rattle.std.proofs.Common.{◌≡◌, ◌≤◌, ℕ, arith, refl, ◌∙◌}
+use Rattle.std.proofs.Common.{◌≡◌, ◌≤◌, ℕ, false, arith, refl, ◌∙◌}
+use Rattle.counted_row.specs.Views.{StateAfter}
 use Rattle.pass_names.specs.Passes.{Looks}
 use Rattle.pass_names.specs.SharedHistory.{LooksOn}
 use Rattle.pass_names.proofs.Passes.{begins_refl, begins_trans}
+use Rattle.timer_objects.specs.Known.{seen_of}
+use Rattle.timer_objects.specs.Meaning.{object_meaning}
+use Rattle.timer_objects.specs.Signals.{object_fresh}
+use Rattle.timer_objects.specs.declared.object.Object.{Object}
 use Rattle.lane_world.proofs.SeenMore.{begins_same}
-use Rattle.lane_world.specs.Called.{LeavesClock, LeavesSignals, SeesEntry}
+use Rattle.lane_world.specs.Called.{LeavesClock, LeavesSignals, SeesEntry, SeesStale}
 use Rattle.lane_world.specs.Worlds.{ArePassesOf, KeepPasses, WorldOf}
 use Rattle.lane_world.specs.declared.WorldPass.{WorldPass}
 use Rattle.lane_run.proofs.Keeping.{keep_refl, keep_trans}
@@ -70,3 +75,8 @@ module _ {x : WorldOf} {p q r : WorldPass} {timer n : ℕ} (before : HasLooked x
     clock = sees.clock ∙ before.clock;
     signals = sees.signals ∙ before.signals;
   }
+
+  -- law: and where the signal of that number isn't pending
+  pub sees_stale : (number : ℕ) (object : Object) → number ≤ n → StateAfter object_meaning r.objects.knows.opening timer (seen_of r.objects timer) object
+      → object_fresh object number ≡ false → SeesStale p r timer number
+  sees_stale number object few at stale = record { entry = sees_sought number few; object = object; at = at; stale = stale }

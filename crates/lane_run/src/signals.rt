@@ -1,7 +1,10 @@
 //! The next signal of queued timers as a call of a lane.
 ghost use Rattle.std.specs.Prelude.{◌≡◌, ◌<◌, true, false, IfOk, length};
-ghost use Rattle.timer_objects.specs.Signals.{IsQueued};
-ghost use Rattle.lane_world.specs.Called.{CallsSigwait, LeavesLane, ReadsClock, SeesEntry, SeesIfQueued, SeesSent, lane_of, next_told};
+ghost use Rattle.counted_row.specs.Views.{StateAfter};
+ghost use Rattle.timer_objects.specs.Known.{seen_of};
+ghost use Rattle.timer_objects.specs.Meaning.{object_meaning};
+ghost use Rattle.timer_objects.specs.Signals.{IsQueued, object_fresh};
+ghost use Rattle.lane_world.specs.Called.{CallsSigwait, LeavesLane, ReadsClock, SeesEntry, SeesSent, SeesStale, lane_of, next_told};
 ghost use Rattle.lane_world.specs.Worlds.{ArePassesOf, KeepPasses};
 
 use crate::object_calls::{make_logs, note_logs};
@@ -11,7 +14,7 @@ use lane_world::{Lane, WorldPass};
 use record_text::Answer;
 use std::alloc::{AllocError, Global};
 use std::sync::Wait;
-use timer_objects::{Kind, NextSignal};
+use timer_objects::{Kind, NextSignal, Object};
 
 /// Takes the next signal. Where it isn't accepted, the lane then sees the entry that sent it: the record has it.
 pub(crate) fn sigwait<R: Wait>(
@@ -75,20 +78,16 @@ fn see_sent<R: Wait>(rt: &R, world: &World, pass: &mut WorldPass, next: NextSign
 {
     match next {
         NextSignal::NoneQueued | NextSignal::Accepted { .. } => {}
-        NextSignal::Spent { timer, number, .. } => see_if_queued(rt, world, pass, timer, number),
-        NextSignal::Stale { timer, number } => see_if_queued(rt, world, pass, timer, number),
-    }
-}
-
-/// Sees the entry of this number of a queued timer. Where the timer isn't one, it does nothing.
-fn see_if_queued<R: Wait>(rt: &R, world: &World, pass: &mut WorldPass, timer: u32, number: u64)
-    requires pass { ArePassesOf world.now pass.old }
-    ensures pass { ArePassesOf world.now pass.new }
-    ensures keeps { KeepPasses pass.old pass.new }
-    ensures sees { SeesIfQueued world.now pass.old pass.new timer number }
-{
-    if is_queued(world, timer) {
-        see_entry(rt, world, pass, timer, number);
+        NextSignal::Spent { timer, number, .. } => {
+            if is_queued(world, timer) {
+                see_entry(rt, world, pass, timer, number);
+            }
+        }
+        NextSignal::Stale { timer, number } => {
+            if is_queued(world, timer) {
+                see_stale(rt, world, pass, timer, number);
+            }
+        }
     }
 }
 
@@ -110,27 +109,55 @@ fn see_entry<R: Wait>(rt: &R, world: &World, pass: &mut WorldPass, timer: u32, n
     ensures sees { SeesEntry pass.old pass.new timer number }
 {
     for _ in rt.forever() {
-        if entries_of(rt, world, pass, timer) >= number {
+        let (_, stamp) = look_at(rt, world, pass, timer);
+        if stamp >= number {
             return;
         }
     }
     unreachable!()
 }
 
-/// How many entries an object has.
-fn entries_of<R: Wait>(rt: &R, world: &World, pass: &mut WorldPass, timer: u32) -> u64
+/// Looks at an object until it has an entry of this number and the signal of this number isn't pending. A signal that was found stale is so for ever.
+fn see_stale<R: Wait>(rt: &R, world: &World, pass: &mut WorldPass, timer: u32, number: u64)
     requires pass { ArePassesOf world.now pass.old }
     requires within { timer < length world.now.objects.decls }
     ensures pass { ArePassesOf world.now pass.new }
     ensures keeps { KeepPasses pass.old pass.new }
-    ensures sees { SeesEntry pass.old pass.new timer result }
+    ensures sees { SeesStale pass.old pass.new timer number }
 {
-    let (_, stamp) = world.objects.look_at(
+    for _ in rt.forever() {
+        let (object, stamp) = look_at(rt, world, pass, timer);
+        if stamp >= number && !is_pending(&object, number) {
+            return;
+        }
+    }
+    unreachable!()
+}
+
+/// Whether the signal of this number is pending.
+fn is_pending(object: &Object, number: u64) -> bool
+    ensures { result ≡ object_fresh object.now number }
+{
+    match object {
+        Object::Queued(timer) => timer.is_fresh(number),
+        Object::Raw | Object::Posix(_) | Object::Fd(_) | Object::Sleeper(_) => false,
+    }
+}
+
+/// An object as it is, and how many entries it has.
+fn look_at<R: Wait>(rt: &R, world: &World, pass: &mut WorldPass, timer: u32) -> (Object, u64)
+    requires pass { ArePassesOf world.now pass.old }
+    requires within { timer < length world.now.objects.decls }
+    ensures pass { ArePassesOf world.now pass.new }
+    ensures keeps { KeepPasses pass.old pass.new }
+    ensures sees { SeesEntry pass.old pass.new timer result.1 }
+    ensures object { StateAfter object_meaning pass.new.objects.knows.opening timer (seen_of pass.new.objects timer) result.0 }
+{
+    world.objects.look_at(
         rt,
         &world.timers,
         &mut pass.timers,
         &mut pass.objects,
         timer,
-    );
-    stamp
+    )
 }

@@ -55,7 +55,10 @@ use Rattle.timer_objects.specs.declared.answers.Readable.{Readable}
 use Rattle.timer_objects.specs.declared.object.Kind.{Kind}
 use Rattle.timer_objects.specs.declared.object.Kind.TheVariants as over
 use Rattle.timer_objects.specs.Known.{decl_at, seen_of}
-use Rattle.timer_objects.specs.Signals.{IsQueued, TakesNext}
+use Rattle.timer_objects.specs.Signals.{IsQueued, TakesNext, object_fresh}
+use Rattle.timer_objects.specs.Meaning.{object_meaning}
+use Rattle.timer_objects.specs.declared.object.Object.{Object}
+use Rattle.counted_row.specs.Views.{StateAfter}
 use Rattle.timer_objects.specs.Turns.{turns_told}
 use Rattle.timer_objects.specs.declared.signals.NextSignal.{NextSignal}
 use Rattle.timer_objects.specs.declared.signals.NextSignal.TheVariants as nexts
@@ -238,14 +241,21 @@ pub record SeesEntry (p q : WorldPass) (timer number : ℕ) : Type 0 where
   pub clock : LeavesClock p q
   pub signals : LeavesSignals p q
 
--- the entry of a queued timer was seen; where the timer isn't queued, nothing was done
-abbrev pub SeesIfQueued : WorldOf → WorldPass → WorldPass → ℕ → ℕ → Type 0
-SeesIfQueued x p q timer number = (IsQueued x.objects timer × SeesEntry p q timer number) ⊎ ((IsQueued x.objects timer → ⊥) × (q ≡ p))
+-- it had such an entry, and the signal of this number wasn't pending there
+pub record SeesStale (p q : WorldPass) (timer number : ℕ) : Type 0 where
+  pub entry : SeesEntry p q timer number
+  pub object : Object
+  pub at : StateAfter object_meaning q.objects.knows.opening timer (seen_of q.objects timer) object
+  pub stale : object_fresh object number ≡ false
+
+-- this was seen of a queued timer; where the timer isn't queued, nothing was done
+abbrev pub SeesIfQueued : WorldOf → WorldPass → WorldPass → ℕ → Type 0 → Type 0
+SeesIfQueued x p q timer Sees = (IsQueued x.objects timer × Sees) ⊎ ((IsQueued x.objects timer → ⊥) × (q ≡ p))
 
 -- the entry that sent the next signal was seen, where the signal was not accepted; and nothing was done besides
 abbrev pub SeesSent : WorldOf → WorldPass → WorldPass → NextSignal → Type 0
-SeesSent x p q (nexts.Spent timer number stamp) = SeesIfQueued x p q timer number
-SeesSent x p q (nexts.Stale timer number) = SeesIfQueued x p q timer number
+SeesSent x p q (nexts.Spent timer number stamp) = SeesIfQueued x p q timer (SeesEntry p q timer number)
+SeesSent x p q (nexts.Stale timer number) = SeesIfQueued x p q timer (SeesStale p q timer number)
 SeesSent x p q next = q ≡ p
 
 -- ---- bases

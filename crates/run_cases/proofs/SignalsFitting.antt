@@ -102,7 +102,7 @@ signals_fit = fits_by signals_witness (record {
       ) (refl, (tt, tt)) (16, le refl, le refl, point_passes _ _ _ _ _ refl, record { armed = refl; running = refl; moving = refl }))
       (two (right refl refl refl (refl, (refl, tt)) (refl, (refl, tt)) (refl, (refl, tt)) (refl, tt) (refl, tt) (
         record { stamp = 3; moment = 17; from = le refl; to = le refl; had = refl; room = lt refl; stale = refl },
-        (3, refl, le refl),
+        (3, refl, le refl, refl),
       ))
       (two (right refl refl refl (refl, (refl, tt)) (refl, (refl, tt)) (refl, (refl, tt))
       (record { arm = armings.None; ns = 0; start = []; stamp = 2; timely = le refl; arms = refl; done = refl }, tt) (refl, (tt, tt)) refl)

@@ -1,5 +1,5 @@
 -- The records that don't fit by what they say of signals.
-use Rattle.std.proofs.Common.{◌≡◌, ℕ, ◌+◌, zero, suc, true, false, List, [], ◌∷◌, ◌++◌, Some, length, get_or, arith, refl, ap, ◌∙◌, subst}
+use Rattle.std.proofs.Common.{◌≡◌, ◌≤◌, ℕ, ◌+◌, zero, suc, true, false, List, [], ◌∷◌, ◌++◌, Some, length, get_or, arith, refl, ap, ◌∙◌, subst}
 use Rattle.std.specs.List.{AllByRecursion, slice_get}
 use Rattle.std.proofs.lemmas.Bool.{false≢true, true≢false}
 use Rattle.record_text.specs.declared.record.AcceptReply.TheVariants as acceptances
@@ -24,7 +24,7 @@ use Rattle.run_history.proofs.Lists.{all_at}
 use Rattle.fit_laws.specs.Signals.{IsCounted, IsNamedBy, NamedBefore, Names, Sent, SentNoLater}
 use Rattle.fit_laws.proofs.Signals.{found_empty, found_full, signal_named_once, signals_in_turn}
 use Rattle.run_cases.specs.Lines.{accepted_entry, at}
-use Rattle.run_cases.specs.Wrong.{outdated_record, outdated_script, renamed_record, renamed_script, roomy_record, roomy_script, unheard_record, unheard_script, younger_record, younger_script}
+use Rattle.run_cases.specs.Wrong.{outdated_record, outdated_script, pending_record, pending_script, renamed_record, renamed_script, roomy_record, roomy_script, unheard_record, unheard_script, younger_record, younger_script}
 use Rattle.run_cases.proofs.Settimes.{last_is}
 
 -- ---- what no answer names, and what no entry says
@@ -102,6 +102,19 @@ roomy_doesnt_fit fits =
     let full = found_full roomy_script roomy_record fits (at 0 2)
     (0, 2, record { before = 1; count = refl; line = _; there = refl; label = refl; such = tt }) in
     none_waits full.0 full.1 full.3
+
+-- ---- a signal is told as stale beside the expiry run that sends it, and is pending from then on
+
+-- it is pending behind its own entry
+still_pending : (stamp : ℕ) → 2 ≤ stamp → is_fresh (queued_after pending_script pending_record 0 0 stamp) 2 ≡ false → ⊥
+still_pending zero sent stale = absurd (omega (arith, sent))
+still_pending (suc zero) sent stale = absurd (omega (arith, sent))
+still_pending (suc (suc zero)) sent stale = true≢false stale
+still_pending (suc (suc (suc k))) sent stale = true≢false stale
+
+-- law: it does not fit
+pub pending_doesnt_fit : Fits pending_script pending_record → ⊥
+pending_doesnt_fit o = let gone = (o.3.calls 1).1.0.holds.1 in still_pending gone.0 gone.2 gone.3
 
 -- ---- a signal is accepted whose timer was set anew since, and expired again
 

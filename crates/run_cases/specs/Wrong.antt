@@ -380,6 +380,19 @@ younger_record = queued_record (advance_line 0 2 100 ∷ later_write 4 ∷ []) (
 abbrev pub swapped_record : RunRecord
 swapped_record = signals_by 5 (answers.Signal 0 2 0) (answers.StaleSignal 1 2)
 
+-- ---- a signal is told as stale beside the expiry run that sends it, and is pending from then on
+
+-- the script
+abbrev pub pending_script : Script
+pending_script = case_script_in versions.Two 1 2 (kinds.Queued 0 ∷ []) ((by 0 (settime_to 100) ∷ by 0 (calls.Clock (writes.Advance 100)) ∷ [])
+    ∷ (by 0 (hard_expire 0 4) ∷ by 1 calls.Sigwait ∷ []) ∷ [])
+
+-- a record that breaks it
+abbrev pub pending_record : RunRecord
+pending_record = record (object_record (advance_line 0 1 100 ∷ []) (claimed_by 0 100 0 2 1 ∷ [])
+    ((case_object_line 0 0 (set_entry_of 100 0 1 0) ∷ case_object_line 0 2 (counted_entry 1 1) ∷ []) ∷ [])
+    ((answers.Old 0 0 ∷ answers.Clock 1 ∷ answers.Done 1 (0 ∷ []) ∷ []) ∷ (answers.StaleSignal 0 2 ∷ []) ∷ [])) { version = versions.Two }
+
 -- ---- a signal is accepted whose timer was set anew since, and expired again
 
 -- the script

@@ -220,6 +220,12 @@ pub fn no_queue_is_found_full_while_it_has_room()
     ensures { Fits wrong.roomy_script wrong.roomy_record → ⊥ }
 {}
 
+/// No signal is told as stale that is pending from when it was sent, even beside the expiry run that sends it.
+#[tactic(auto, using(crate::proofs::SignalsWrong::pending_doesnt_fit))]
+pub fn no_signal_is_stale_that_stays_pending()
+    ensures { Fits wrong.pending_script wrong.pending_record → ⊥ }
+{}
+
 /// No signal is accepted whose timer was set anew since, though the timer has expired again and that signal is pending.
 #[tactic(auto, using(crate::proofs::SignalsWrong::outdated_doesnt_fit))]
 pub fn no_signal_is_accepted_whose_timer_was_set_since()

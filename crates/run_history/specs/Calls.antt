@@ -41,7 +41,7 @@ use Rattle.run_history.specs.Signals.{IsQueued}
 use Rattle.run_history.specs.Told.{IsOutOfRange}
 use Rattle.run_history.specs.Witnesses.{Evacuation, Fired, Witness, standing_along, timer_along}
 use Rattle.run_history.specs.Truths.{DisarmedFirst, HadEntries, IsDone, MayGo, NothingTold, RefusedBefore, RunsFirst, RunsNone}
-use Rattle.run_history.specs.Truths.{Saw, SawFull, SawFullOn, SawRefusal, SawStale, SawWaiting, StandsAt, WasFresh, WasSent}
+use Rattle.run_history.specs.Truths.{Saw, SawFull, SawFullOn, SawRefusal, SawStale, SawWaiting, StandsAt, WasFresh, WentStale}
 use Rattle.run_history.specs.Deeds.{Anew, Cancels, Deed, Did, Evacuates, Never, Nothing, Rearms, Runs, Shifts, Starts, Where, Writes}
 
 -- a call in the one order: its label, its first and its last moment, and what it did
@@ -199,7 +199,7 @@ call_row s reading calls.Sigwait (answers.Signal timer number overrun) = record 
 }
 call_row s reading calls.Sigwait (answers.StaleSignal timer number) = record {
   did = Where Nothing (IsQueued (kind_of s timer));
-  tells = λ c. SawStale c.w c.first c.last timer (base_of (kind_of s timer)) number × WasSent c.w timer number c.last;
+  tells = λ c. SawStale c.w c.first c.last timer (base_of (kind_of s timer)) number × WentStale c.w timer (base_of (kind_of s timer)) number c.last;
 }
 call_row s reading calls.Sigwait (answers.SpentSignal timer number) = record {
   did = Where Nothing (IsQueued (kind_of s timer));

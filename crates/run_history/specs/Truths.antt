@@ -192,9 +192,10 @@ pub record SawStale (w : Witness) (first last timer base number : ℕ) : Type 0 
   pub room : stamp < w.script.limit
   pub stale : is_fresh (queued_after w.script w.run timer base stamp) number ≡ false
 
--- at this moment the entry that sent the signal of this number was one of the timer's
-abbrev pub WasSent : Witness → ℕ → ℕ → ℕ → Type 0
-WasSent w timer number n = (stamp : ℕ) × HadEntries w timer stamp n × (number ≤ stamp)
+-- at this moment the entry that sent the signal of this number was one of the timer's, and the signal wasn't pending
+abbrev pub WentStale : Witness → ℕ → ℕ → ℕ → ℕ → Type 0
+WentStale w timer base number n =
+    (stamp : ℕ) × HadEntries w timer stamp n × (number ≤ stamp) × (is_fresh (queued_after w.script w.run timer base stamp) number ≡ false)
 
 -- a call whose turn of the timer began behind so many entries found the signal of this number pending
 abbrev pub WasFresh : Witness → ℕ → ℕ → ℕ → List Action → Type 0
