@@ -11,10 +11,11 @@ use Rattle.call_laws.proofs.TimerCalls.{keeps_cancel, keeps_start}
 use Rattle.call_laws.proofs.Turns.{next_begun, turn_plain, turn_read}
 use Rattle.call_laws.proofs.Writing.{keeps_write}
 use Rattle.clock_cell.specs.Views.{writes}
+use Rattle.ktime.specs.Readings.{ClockReading}
 use Rattle.lane_world.proofs.Declared.{declared_over, over_of}
 use Rattle.lane_world.proofs.Kept.{IsNextCall, KeepsCall, KeepsTurn}
 use Rattle.lane_world.proofs.PartLists.{no_notes-joins}
-use Rattle.lane_world.specs.Called.{Called, CalledThen, CallsReading, LaneOf, CallsObject, TakesReading, gettime_told}
+use Rattle.lane_world.specs.Called.{Called, CalledThen, CallsReading, lane_caller, LaneOf, CallsObject, TakesReading, gettime_told}
 use Rattle.lane_world.specs.Worlds.{WorldOf}
 use Rattle.posix_timer.specs.States.{PosixTimer, setting_of}
 use Rattle.record_text.specs.declared.record.Answer.TheVariants as answers
@@ -27,15 +28,17 @@ use Rattle.script_text.specs.declared.script.Call.{Call}
 use Rattle.script_text.specs.declared.script.Kind.TheVariants as kinds
 use Rattle.script_text.specs.declared.script.Kind.{Kind}
 use Rattle.script_text.specs.declared.script.Script.{Script}
-use Rattle.std.proofs.Common.{[], length, sym, subst, ◌≡◌, ℕ, refl, ap, ◌∙◌, true}
+use Rattle.std.proofs.Common.{[], length, sym, subst, ◌≡◌, ℕ, refl, ap, ◌∙◌, true, Some}
 use Rattle.std.proofs.lemmas.Bool.{true≢false}
 use Rattle.timer_fd.specs.States.{is_readable}
-use Rattle.timer_objects.specs.Calls.{Gettimes}
+use Rattle.timer_objects.specs.Calls.{Caller, Gettimes, IsPosixKind, LooksAtObject, posix_in}
+use Rattle.timer_objects.specs.declared.object.Object.TheVariants as objects
+use Rattle.timer_objects.specs.declared.object.Object.{Object}
 use Rattle.timer_objects.specs.declared.answers.Gettime.TheVariants as gettimes
 use Rattle.timer_objects.specs.declared.answers.Gettime.{Gettime}
 use Rattle.timer_objects.specs.declared.object.Kind as object_kind
 use Rattle.timer_objects.specs.declared.object.Kind.TheVariants as over
-use Rattle.call_laws.proofs.ObjectLooks.{fd_looked, keeps_look, posix_found, posix_looked, queued_set}
+use Rattle.call_laws.proofs.ObjectLooks.{fd_looked, keeps_look, posix_found}
 use Rattle.call_laws.proofs.Sigwait.{keeps_sigwait}
 
 -- ---- looks at objects
@@ -68,41 +71,35 @@ keeps_readable {s = s} {l = l} {m = m} {timer = timer} next called =
           ∙ ap (is_readable c.does.0.0) (reading_of_seen e ws follows.clock ∙ sym c.reads.shows) ∙ sym c.does.0.2,
     )))
 
--- law: a lane keeps a gettime of a POSIX timer
-pub keeps_gettime-posix : {s : Script} {x : WorldOf} {l m : LaneOf} {a : Answer} {timer base : ℕ} → IsNextCall s x l (calls.Gettime timer)
-    → kind_of s timer ≡ kinds.Posix base → (g : Gettime)
-    → CallsObject x l m a (λ old new reading.
-    Gettimes x.objects x.timers.about old new timer reading over.Posix g × (a ≡ gettime_told over.Posix reading.stamp g))
+-- the setting of a POSIX timer was told, which is in the object that was looked at
+keeps_setting : {s : Script} {x : WorldOf} {l m : LaneOf} {a : Answer} {timer left interval stamp : ℕ} {Does : Caller → Caller → ClockReading → Type 0}
+    → IsNextCall s x l (calls.Gettime timer) → IsPosix (kind_of s timer) → (c : CallsObject x l m a Does) (object : Object) (t : PosixTimer)
+    → posix_in object ≡ Some t → LooksAtObject (lane_caller l.pass [] []) (lane_caller m.pass c.log c.object_log) timer object stamp
+    → record { left = left; interval = interval } ≡ setting_of t c.reading → a ≡ answers.LeftAt left interval c.reading.stamp stamp
     → KeepsCall s l (calls.Gettime timer) a m
-keeps_gettime-posix next kind (gettimes.Spent stamp) c = absurd c.does.0
-keeps_gettime-posix {s = s} {l = l} {m = m} {timer = timer} next kind (gettimes.Left left interval stamp) c =
+keeps_setting {s = s} {l = l} {m = m} {timer = timer} {left = left} {interval = interval} {stamp = stamp} next kind c object t has looks is_set told =
     let ws = writes m.pass.clock.knows in
-    subst (λ b. KeepsCall s l (calls.Gettime timer) b m) (sym c.does.1)
-    (keeps_look m next (answers.LeftAt left interval c.reading.stamp stamp) refl c.does.0.1 (clock_left c.reads.same) c.signals c.notes
-    (λ e. (refl, (subst IsPosix (sym kind) tt, c.reads.count)))
+    subst (λ b. KeepsCall s l (calls.Gettime timer) b m) (sym told)
+    (keeps_look m next (answers.LeftAt left interval c.reading.stamp stamp) refl looks (clock_left c.reads.same) c.signals c.notes
+    (λ e. (refl, (kind, c.reads.count)))
     (λ e follows point is. (
       point,
-      ap (λ u. setting_of u (reading_at e.run.clock (length ws))) (sym (posix_looked s e.run timer stamp (kind_of s timer) is))
-          ∙ ap (setting_of c.does.0.0) (reading_of_seen e ws follows.clock ∙ sym c.reads.shows) ∙ sym c.does.0.2,
+      ap (λ u. setting_of u (reading_at e.run.clock (length ws))) (sym (posix_found s e.run timer stamp (kind_of s timer) is has))
+          ∙ ap (setting_of t) (reading_of_seen e ws follows.clock ∙ sym c.reads.shows) ∙ sym is_set,
     )))
 
--- law: and of one whose signals are queued
-pub keeps_gettime-queued : {s : Script} {x : WorldOf} {l m : LaneOf} {a : Answer} {timer base : ℕ} → IsNextCall s x l (calls.Gettime timer)
-    → kind_of s timer ≡ kinds.Queued base → (g : Gettime)
-    → CallsObject x l m a (λ old new reading.
-    Gettimes x.objects x.timers.about old new timer reading over.Queued g × (a ≡ gettime_told over.Queued reading.stamp g))
+-- law: a lane keeps a gettime of a POSIX timer, whether its signals are queued or not
+keeps_gettime-posix : {s : Script} {x : WorldOf} {l m : LaneOf} {a : Answer} {timer : ℕ} (k : object_kind.Kind) → IsPosixKind k
+    → IsNextCall s x l (calls.Gettime timer) → IsPosix (kind_of s timer) → (g : Gettime)
+    → CallsObject x l m a (λ old new reading. Gettimes x.objects x.timers.about old new timer reading k g × (a ≡ gettime_told k reading.stamp g))
     → KeepsCall s l (calls.Gettime timer) a m
-keeps_gettime-queued next kind (gettimes.Spent stamp) c = absurd c.does.0
-keeps_gettime-queued {s = s} {l = l} {m = m} {timer = timer} next kind (gettimes.Left left interval stamp) c =
-    let ws = writes m.pass.clock.knows in
-    subst (λ b. KeepsCall s l (calls.Gettime timer) b m) (sym c.does.1)
-    (keeps_look m next (answers.LeftAt left interval c.reading.stamp stamp) refl c.does.0.1 (clock_left c.reads.same) c.signals c.notes
-    (λ e. (refl, (subst IsPosix (sym kind) tt, c.reads.count)))
-    (λ e follows point is. (
-      point,
-      ap (λ u. setting_of u (reading_at e.run.clock (length ws))) (sym (queued_set s e.run timer stamp (kind_of s timer) is))
-          ∙ ap (setting_of c.does.0.0.timer) (reading_of_seen e ws follows.clock ∙ sym c.reads.shows) ∙ sym c.does.0.2,
-    )))
+keeps_gettime-posix over.Posix posix next kind (gettimes.Left left interval stamp) c =
+    keeps_setting next kind c (objects.Posix c.does.0.0) c.does.0.0 refl c.does.0.1 c.does.0.2 c.does.1
+keeps_gettime-posix over.Queued posix next kind (gettimes.Left left interval stamp) c =
+    keeps_setting next kind c (objects.Queued c.does.0.0) c.does.0.0.timer refl c.does.0.1 c.does.0.2 c.does.1
+keeps_gettime-posix over.Posix posix next kind (gettimes.Spent stamp) c = absurd c.does.0
+keeps_gettime-posix over.Queued posix next kind (gettimes.Spent stamp) c = absurd c.does.0
+keeps_gettime-posix k posix next kind g c = absurd posix
 
 -- ---- each call
 
@@ -118,9 +115,9 @@ keeps_gettime {s = s} {x = x} {l = l} {m = m} {a = a} {timer = timer} next calle
 
     by_kind : (k : Kind) → kind_of s timer ≡ k → CallsFor (over_of k) → KeepsCall s l (calls.Gettime timer) a m
     by_kind (kinds.Raw context callback) is c = absurd c.does.0
-    by_kind (kinds.Posix base) is c = keeps_gettime-posix next is called.0 c
+    by_kind (kinds.Posix base) is c = keeps_gettime-posix over.Posix tt next (subst IsPosix (sym is) tt) called.0 c
     by_kind (kinds.Fd base) is c = keeps_gettime-fd next is called.0 c
-    by_kind (kinds.Queued base) is c = keeps_gettime-queued next is called.0 c
+    by_kind (kinds.Queued base) is c = keeps_gettime-posix over.Queued tt next (subst IsPosix (sym is) tt) called.0 c
     by_kind (kinds.Sleeper base) is c = absurd c.does.0
 
 -- law: a call by a reading that was taken is kept by itself

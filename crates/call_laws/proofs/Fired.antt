@@ -32,11 +32,9 @@ use Rattle.timer_objects.specs.Callbacks.{RunsCallback}
 use Rattle.timer_objects.specs.QueuedFirings.{FiresAll, FiresKind, QueuedFiring, queued_firing}
 use Rattle.timer_objects.specs.Signals.{IsSignalPass}
 use Rattle.signal_queue.specs.Rules.{turns}
-use Rattle.signal_queue.specs.Views.{QueueOf}
 use Rattle.signal_queue.specs.declared.signal.Turn as signal_turn
 use Rattle.signal_queue.specs.declared.view.QueueView.{QueueView}
 use Rattle.run_history.specs.Signals.{most_signals, pushed_in}
-use Rattle.std.proofs.lemmas.Option.{same_Some}
 use Rattle.call_laws.proofs.Signals.{pushed-append, TurnsPart, turns_none, turns_then}
 use Rattle.timer_objects.specs.Known.{decl_at, ObjectsPass}
 use Rattle.timer_objects.specs.declared.log.ObjectReceipt.{ObjectReceipt}
@@ -58,7 +56,7 @@ use Rattle.run_history.proofs.Reached.{body_wider, was_wider}
 use Rattle.lane_world.specs.Called.{claimed_in}
 use Rattle.lane_world.proofs.SeenMore.{count_begins, goes_before, begins_same}
 use Rattle.lane_world.specs.Worlds.{callback_of, HasQueue, IsWorldOf, WorldOf}
-use Rattle.lane_world.proofs.Declared.{declared_callback, declared_over, over_of}
+use Rattle.lane_world.proofs.Declared.{declared_callback, declared_over, over_of, room_known}
 use Rattle.pass_names.proofs.Passes.{begins_length}
 use Rattle.call_laws.proofs.Triggered.{queued_kept, trigger_kept}
 use Rattle.std.specs.Prelude.{flat_map}
@@ -163,8 +161,7 @@ module _ (s : Script) (x : WorldOf) (is : IsWorldOf s x) (queue : HasQueue x.obj
       limit = ap (λ y. y.limit) objects ∙ is.limit
 
       room : h.signal_pass.now.knows.room ≡ most_signals
-      room = ap (λ (y : QueueOf). y.room) (same_Some _ queue.queue (sym (subst (λ y. IsSignalPass y h.signal_pass.now) objects h.signals) ∙ queue.has))
-          ∙ queue.room
+      room = room_known x.objects h.signal_pass.now queue (subst (λ y. IsSignalPass y h.signal_pass.now) objects h.signals)
 
       by_kind : (kind : Kind) → kind_of s c.timer ≡ kind → BodyKept s label claim restart w h h'
       by_kind (kinds.Raw y callback) same =

@@ -55,23 +55,12 @@ module _ {s : Script} {x : WorldOf} {l : LaneOf} (m : LaneOf) {call : Call} (nex
       (looks.state ∙ object_seen s x next.world i (seen_of m.pass.objects i) looks.reads.state at e (follows.objects i)
       ∙ ap (λ n. object_after s e.run i n (kind_of s i)) (sym looks.stamp)))
 
--- law: a POSIX timer that was looked at, one whose signals are queued, a descriptor, or a sleeper, is what the record has of that kind
-pub posix_looked : (s : Script) (r : RunRecord) (i n : ℕ) (k : Kind) {t : PosixTimer} → objects.Posix t ≡ object_after s r i n k → t ≡ posix_at s r i k n
-posix_looked s r i n (kinds.Posix base) is = cc
-posix_looked s r i n k is = absurd (cc)
-
+-- law: a queued timer that was looked at, a POSIX timer, whether its signals are queued or not, a descriptor, or a sleeper, is what the record has of that kind
 pub queued_looked : (s : Script) (r : RunRecord) (i n : ℕ) (k : Kind) {t : QueuedState} → objects.Queued t ≡ object_after s r i n k
     → t ≡ queued_after s r i (base_of k) n
 queued_looked s r i n (kinds.Queued base) is = cc
 queued_looked s r i n k is = absurd (cc)
 
--- law: the setting of such a one is the record's of its kind
-pub queued_set : (s : Script) (r : RunRecord) (i n : ℕ) (k : Kind) {t : QueuedState} → objects.Queued t ≡ object_after s r i n k
-    → t.timer ≡ posix_at s r i k n
-queued_set s r i n (kinds.Queued base) is = ap (λ (u : QueuedState). u.timer) (queued_looked s r i n (kinds.Queued base) is)
-queued_set s r i n k is = absurd (cc)
-
--- law: so is the one in an object that was looked at
 pub posix_found : (s : Script) (r : RunRecord) (i n : ℕ) (k : Kind) {object : Object} {t : PosixTimer} → object ≡ object_after s r i n k
     → posix_in object ≡ Some t → t ≡ posix_at s r i k n
 posix_found s r i n (kinds.Posix base) {t = t} is has = same_Some t (posix_after s r i base n) (sym has ∙ ap posix_in is)

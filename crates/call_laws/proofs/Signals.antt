@@ -199,16 +199,16 @@ waiting_last g signal (w ∷ ws) waits =
     ⊎_elim (λ is. inl (inl is)) (λ more. ⊎_elim (λ before. inl (inr before)) inr (waiting_last g signal ws more)) waits
 
 -- law: what was popped had been pushed, where it didn't wait at first
-pub popped_pushed : (waiting : List Signal) (ts : List Turn) (p : ℕ) (signal : Signal) → AreTurns waiting ts → slice_get ts p ≡ Some (Popped signal)
-    → IsWaiting signal waiting ⊎ ((q : ℕ) × (slice_get ts q ≡ Some (Pushed signal)))
-popped_pushed waiting [] p signal legal at = absurd (cc)
-popped_pushed waiting (Pushed g ∷ ts) zero signal legal at = absurd (cc)
-popped_pushed waiting (Pushed g ∷ ts) (suc p) signal legal at =
+pub popped_pushed : (room : ℕ) (waiting : List Signal) (ts : List Turn) (p : ℕ) (signal : Signal) → AreTurns room waiting ts
+    → slice_get ts p ≡ Some (Popped signal) → IsWaiting signal waiting ⊎ ((q : ℕ) × (slice_get ts q ≡ Some (Pushed signal)))
+popped_pushed room waiting [] p signal legal at = absurd (cc)
+popped_pushed room waiting (Pushed g ∷ ts) zero signal legal at = absurd (cc)
+popped_pushed room waiting (Pushed g ∷ ts) (suc p) signal legal at =
     ⊎_elim
     (λ waits. ⊎_elim (λ before. inl before) (λ is. inr (0, ap (λ h. Some (Pushed h)) is)) (waiting_last g signal waiting waits))
-    (λ later. inr (suc later.0, later.1)) (popped_pushed (waiting ++ g ∷ []) ts p signal legal at)
-popped_pushed [] (Popped g ∷ ts) p signal legal at = absurd legal
-popped_pushed (w ∷ waiting) (Popped g ∷ ts) zero signal legal at =
+    (λ later. inr (suc later.0, later.1)) (popped_pushed room (waiting ++ g ∷ []) ts p signal legal.1 at)
+popped_pushed room [] (Popped g ∷ ts) p signal legal at = absurd legal
+popped_pushed room (w ∷ waiting) (Popped g ∷ ts) zero signal legal at =
     let same : g ≡ signal = cc in inl (inl (sym same ∙ legal.0))
-popped_pushed (w ∷ waiting) (Popped g ∷ ts) (suc p) signal legal at =
-    ⊎_elim (λ waits. inl (inr waits)) (λ later. inr (suc later.0, later.1)) (popped_pushed waiting ts p signal legal.1 at)
+popped_pushed room (w ∷ waiting) (Popped g ∷ ts) (suc p) signal legal at =
+    ⊎_elim (λ waits. inl (inr waits)) (λ later. inr (suc later.0, later.1)) (popped_pushed room waiting ts p signal legal.1 at)

@@ -42,7 +42,7 @@ use Rattle.seq_timer.specs.declared.context.Context.TheVariants as contexts
 use Rattle.run_history.specs.Histories.{reading_at}
 use Rattle.run_history.specs.Objects.{queued_after}
 use Rattle.run_history.specs.Runs.{CallLog, Ending, IsJoined, IsOfQueued}
-use Rattle.run_history.specs.Signals.{IsQueued, popped_by, turns_in}
+use Rattle.run_history.specs.Signals.{IsQueued, most_signals, popped_by, turns_in}
 use Rattle.run_history.proofs.Kept.{call_made}
 use Rattle.run_history.proofs.Lists.{all_at, at_left}
 use Rattle.run_history.proofs.ObjectsMade.{signal_made}
@@ -123,7 +123,7 @@ module _ {s : Script} {x : WorldOf} {l : LaneOf} (next : IsNextCall s x l calls.
       let there : slice_get all p ≡ Some (Popped (record { timer = timer; number = number })) =
       ap (λ us. slice_get us p) goes ∙ at_left ts later p _ at in
       ⊎_elim (λ none. absurd none) (λ pushed. all_at (IsOfQueued s) all pushed.0 _ joined.signals.of pushed.1)
-      (popped_pushed [] all p _ joined.signals.legal there)
+      (popped_pushed most_signals [] all p _ joined.signals.legal there)
 
 -- ---- the call
 

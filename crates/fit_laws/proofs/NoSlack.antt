@@ -1,5 +1,5 @@
 -- A record that fits a script without slack has none: no start asks for slack, so each timer's soft expiry is its expiry at all times.
-use Rattle.std.proofs.Common.{◌≡◌, ◌<◌, ℕ, ◌+◌, ◌*◌, zero, suc, nat_eq, Bool, true, false, List, [], ◌∷◌, ◌++◌, Option, Some, None, length, map, arith, refl, sym, ap, ◌∙◌, subst}
+use Rattle.std.proofs.Common.{◌≡◌, ◌<◌, ℕ, ◌+◌, ◌*◌, zero, suc, nat_eq, Bool, true, false, List, [], ◌∷◌, ◌++◌, Option, Some, None, map, arith, refl, sym, ap, ◌∙◌, subst}
 use Rattle.std.specs.List.{AllByRecursion, slice_get}
 use Rattle.std.proofs.lemmas.Option.{same_Some}
 use Rattle.std.specs.Prelude.{filter, flat_map, if◌then◌else◌, unwrap_or}
@@ -55,7 +55,7 @@ use Rattle.fit_laws.specs.EachTimer.{FitsTimers, HasTimers}
 use Rattle.run_history.specs.Fits.{Fits}
 use Rattle.fit_laws.proofs.EachTimer.{fits_for_each_timer}
 use Rattle.run_history.proofs.Labels.{label_itself}
-use Rattle.run_history.proofs.Lists.{all_lists}
+use Rattle.run_history.proofs.Lists.{all_lists, item_at}
 
 -- ---- histories
 
@@ -242,12 +242,6 @@ module _ (Reached : ℕ → ℕ → Type 0) (s : Script) where
 
 -- ---- the record
 
--- what stands at a place of a list
-found : {A : Type 0} (xs : List A) (i : ℕ) → i < length xs → (x : A) × (slice_get xs i ≡ Some x)
-found [] i less = absurd (omega (arith, less))
-found (x ∷ xs) zero less = (x, refl)
-found (x ∷ xs) (suc i) less = found xs i (omega (arith, less))
-
 -- where all lines of each label ask for none, and each line bears such a label, all do
 each_none : (Is : Label → Type 0) (number : ℕ) (lines : List TimerLine)
     → ((c : Label) → Is c → AllByRecursion (λ (x : ℕ × Entry). AsksNone x.1) (own (λ l. l.label) (λ l. l.entry) c number lines))
@@ -278,8 +272,8 @@ timer_none s r has none t =
   where
     own_of : (c : Label) → IsLabel s c → AllByRecursion (λ (x : ℕ × Entry). AsksNone x.1) (own (λ l. l.label) (λ l. l.entry) c 1 (lines_of_timer r t))
     own_of c is =
-        let p = found (calls_of s c.lane) c.call is in
-        let a = found (answers_of r c.lane) c.call (subst (λ n. c.call < n) (sym (has.answered c.lane)) is) in
+        let p = item_at (calls_of s c.lane) c.call is in
+        let a = item_at (answers_of r c.lane) c.call (subst (λ n. c.call < n) (sym (has.answered c.lane)) is) in
         let fits : FitsTimers s r c p.0.call a.0 = has.calls c.lane c.call p.0 a.0 p.1 a.1 in
         subst (λ xs. AllByRecursion (λ (x : ℕ × Entry). AsksNone x.1) xs) (sym (fits.entered t))
         (entered_none t fits.actions (did_none (λ base heir. Unit {0}) s fits.at (call_row s fits.at p.0.call a.0).did fits.fired fits.moved fits.actions

@@ -1,5 +1,5 @@
 -- Lists of signals that differ, and pushes and pops by their places.
-use Rattle.std.proofs.Common.{◌≡◌, ◌<◌, ◌≤◌, ◌⊎◌, ℕ, ◌+◌, zero, suc, true, false, List, [], ◌∷◌, ◌++◌, Some, map, take, drop, arith, refl, sym, ap, ◌∙◌, subst, inl, inr}
+use Rattle.std.proofs.Common.{◌≡◌, ◌<◌, ◌≤◌, ◌⊎◌, ℕ, ◌+◌, zero, suc, true, false, List, [], ◌∷◌, ◌++◌, Some, length, map, take, drop, arith, refl, sym, ap, ◌∙◌, subst, inl, inr}
 use Rattle.std.specs.List.{AllByRecursion, slice_get}
 use Rattle.std.proofs.Math.Logic.{⊎_elim}
 use Rattle.std.proofs.lemmas.List.{take-append-drop}
@@ -9,7 +9,7 @@ use Rattle.signal_queue.specs.declared.signal.Signal.{Signal}
 use Rattle.signal_queue.specs.declared.signal.Turn.{Turn}
 use Rattle.signal_queue.specs.declared.signal.Turn.TheVariants.{Popped, Pushed}
 use Rattle.signal_queue.specs.Turns.{AreTurns, popped, pushed, waiting_after}
-use Rattle.signal_queue.proofs.Turns.{legal_first, pushed-append, whole}
+use Rattle.signal_queue.proofs.Turns.{legal_first, pushed-append, whole, within_room}
 use Rattle.run_history.specs.Actions.{also, own}
 use Rattle.run_history.specs.Order.{is_label}
 use Rattle.run_history.specs.Signals.{SignalMove, turns_in}
@@ -153,9 +153,16 @@ is_popped x [] here = absurd here
 is_popped x (Popped y ∷ ts) here = ⊎_elim (λ (is : Popped x ≡ Popped y). inl cc) (λ more. inr (is_popped x ts more)) here
 is_popped x (Pushed y ∷ ts) here = ⊎_elim (λ (is : Popped x ≡ Pushed y). absurd (cc)) (λ more. is_popped x ts more) here
 
+legal_at : (room n : ℕ) (ts : List Turn) → AreTurns room [] ts → AreTurns room [] (take n ts)
+legal_at room n ts are = legal_first room [] (take n ts) (drop n ts) (subst (AreTurns room []) (sym (take-append-drop n ts)) are)
+
 -- law: what was pushed in the first so many turns is what was popped in them, and what waits then
-pub whole_at : (n : ℕ) (ts : List Turn) → AreTurns [] ts → pushed (take n ts) ≡ popped (take n ts) ++ waiting_after [] (take n ts)
-whole_at n ts are = whole [] (take n ts) (legal_first [] (take n ts) (drop n ts) (subst (AreTurns []) (sym (take-append-drop n ts)) are))
+pub whole_at : (room n : ℕ) (ts : List Turn) → AreTurns room [] ts → pushed (take n ts) ≡ popped (take n ts) ++ waiting_after [] (take n ts)
+whole_at room n ts are = whole room [] (take n ts) (legal_at room n ts are)
+
+-- law: and no more wait than there is room for
+pub within_at : (room n : ℕ) (ts : List Turn) → AreTurns room [] ts → length (waiting_after [] (take n ts)) ≤ room
+within_at room n ts are = within_room room [] (take n ts) (omega arith) (legal_at room n ts are)
 
 -- law: where all pushes differ, so do those of the first so many turns
 pub distinct_first : (n : ℕ) (ts : List Turn) → AreDistinct (pushed ts) → AreDistinct (pushed (take n ts))

@@ -444,7 +444,7 @@ module _ (w : Witness) (f : FitsIn w) where
   pub popped_pushed : (n : ℕ) (x : Signal) → Among x (popped (take n turns)) → HasTurn w.signals n (Pushed x)
   popped_pushed n x here =
       turn_first w.signals n (Pushed x) (pushed_is x (take n turns)
-      (subst (Among x) (sym (whole_at n turns f.signals.legal)) (among_left x (popped (take n turns)) (waiting_after [] (take n turns)) here)))
+      (subst (Among x) (sym (whole_at most_signals n turns f.signals.legal)) (among_left x (popped (take n turns)) (waiting_after [] (take n turns)) here)))
 
   -- law: a signal that is named was sent, by a call that didn't begin only after the one that names it was over
   pub named_sent : (c : Label) (x : Signal) → Names w.run c x → SentNoLater w.script w.run c x
@@ -461,7 +461,7 @@ module _ (w : Witness) (f : FitsIn w) where
       let a = names_pop c x one in
       let b = names_pop d x two in
       popped_once w.signals a.0 b.0 c d x (distinct_left (popped turns) (waiting_after [] turns)
-      (subst AreDistinct (whole [] turns f.signals.legal) all_once)) a.1 b.1
+      (subst AreDistinct (whole most_signals [] turns f.signals.legal) all_once)) a.1 b.1
 
   -- what waits, or is popped, behind these turns
   module _ (c : Label) (n : ℕ) (within : IsWithin w.script c n (signal_labels w.signals)) where
@@ -489,7 +489,7 @@ module _ (w : Witness) (f : FitsIn w) where
     none_left none x sent =
         let empty : waiting_after [] (take n turns) ≡ [] = nil_from_length (waiting_after [] (take n turns)) none in
         let all : pushed (take n turns) ≡ popped (take n turns) =
-        whole_at n turns f.signals.legal ∙ ap (λ xs. popped (take n turns) ++ xs) empty ∙ append-nil (popped (take n turns)) in
+        whole_at most_signals n turns f.signals.legal ∙ ap (λ xs. popped (take n turns) ++ xs) empty ∙ append-nil (popped (take n turns)) in
         let t = turn_first w.signals n (Popped x)
         (popped_is x (take n turns) (subst (Among x) all (sent_early sent.0 x sent.1 sent.2))) in
         (t.call, pop_names t.place t.call x t.at, early_call t.place t.call (Popped x) t.at t.early)
@@ -500,7 +500,7 @@ module _ (w : Witness) (f : FitsIn w) where
       where
         sent_there : (x : Signal) → Among x (waiting_at w.signals n) → SentNoLater w.script w.run c x
         sent_there x here =
-            let t = turn_first w.signals n (Pushed x) (pushed_is x (take n turns) (subst (Among x) (sym (whole_at n turns f.signals.legal))
+            let t = turn_first w.signals n (Pushed x) (pushed_is x (take n turns) (subst (Among x) (sym (whole_at most_signals n turns f.signals.legal))
             (among_right x (popped (take n turns)) (waiting_after [] (take n turns)) here))) in
             (t.call, push_sent t.place t.call x t.at, early_call t.place t.call (Pushed x) t.at t.early)
 
@@ -509,7 +509,7 @@ module _ (w : Witness) (f : FitsIn w) where
             let t = names_pop named.0 x named.1 in
             ⊎_elim
             (λ (less : t.0 < n). not_in_both x (popped (take n turns)) (waiting_after [] (take n turns))
-            (subst AreDistinct (whole_at n turns f.signals.legal) (distinct_first n turns all_once))
+            (subst AreDistinct (whole_at most_signals n turns f.signals.legal) (distinct_first n turns all_once))
             (is_popped x (take n turns) (first_turn w.signals n t.0 named.0 (Popped x) t.1 less)) here)
             (λ (more : n ≤ t.0). true≢false (sym named.2 ∙ late_call t.0 named.0 (Popped x) t.1 more))
             (cases_lt t.0 n)
@@ -517,17 +517,17 @@ module _ (w : Witness) (f : FitsIn w) where
     -- law: no two that wait are the same
     pub waiting_once : AreDistinct (waiting_at w.signals n)
     waiting_once = distinct_right (popped (take n turns)) (waiting_after [] (take n turns))
-        (subst AreDistinct (whole_at n turns f.signals.legal) (distinct_first n turns all_once))
+        (subst AreDistinct (whole_at most_signals n turns f.signals.legal) (distinct_first n turns all_once))
 
   -- law: of two signals that were pushed one after the other the first was popped where the second was, before that
   pub popped_in_turn : (p v : ℕ) (b c : Label) (x y : Signal) → HasTurnAt w.signals p b (Pushed x) → HasTurnAt w.signals v c (Popped y)
       → ((q : ℕ) (d : Label) → HasTurnAt w.signals q d (Pushed y) → p < q) → HasTurn w.signals v (Popped x)
   popped_in_turn p v b c x y push pop later =
       -- the first of those that wait there is the one that is popped
-      let parts = subst (AreTurns []) (split_turns w.signals v c (Popped y) pop) f.signals.legal in
-      let first = first_is y (waiting_after [] (take v turns)) (oldest [] (take v turns) (drop (suc v) turns) y parts) in
+      let parts = subst (AreTurns most_signals []) (split_turns w.signals v c (Popped y) pop) f.signals.legal in
+      let first = first_is y (waiting_after [] (take v turns)) (oldest most_signals [] (take v turns) (drop (suc v) turns) y parts) in
       let all : pushed (take v turns) ≡ popped (take v turns) ++ y ∷ first.0 =
-      whole_at v turns f.signals.legal ∙ ap (λ xs. popped (take v turns) ++ xs) first.1 in
+      whole_at most_signals v turns f.signals.legal ∙ ap (λ xs. popped (take v turns) ++ xs) first.1 in
       -- so it was pushed by then, and the other one before it
       let other = turn_first w.signals v (Pushed y)
       (pushed_is y (take v turns) (subst (Among y) (sym all) (among_right y (popped (take v turns)) (y ∷ first.0) (inl refl)))) in

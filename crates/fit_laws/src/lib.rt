@@ -14,7 +14,7 @@ ghost use Rattle.record_text.specs.declared.record.RunRecord.{RunRecord};
 ghost use Rattle.run_history.specs.Fits.{Fits, FitsIn};
 ghost use Rattle.run_history.specs.Objects.{object_labels};
 ghost use Rattle.run_history.specs.Order.{IsInOrder, IsLabel};
-ghost use Rattle.run_history.specs.Signals.{most_signals};
+ghost use Rattle.run_history.specs.Signals.{most_signals, waiting_at};
 ghost use Rattle.run_history.specs.Truths.{HadEntries};
 ghost use Rattle.run_history.specs.Witnesses.{Witness};
 ghost use Rattle.fit_laws.specs.EachTimer.{HasTimers};
@@ -90,6 +90,11 @@ pub fn a_signal_that_was_sent_before_a_named_one_is_named()
 pub fn a_queue_that_was_found_empty_had_no_signal_that_was_sent_before()
     ensures { (s : Script) (r : RunRecord) → Fits s r → (c : Label) → IsAnswer r c answers.NoneQueued → (x : Signal) → SentBefore s r c x
         → NamedNoLater s r c x }
+{}
+
+/// In a record that fits no more signals wait than may, after however many pushes and pops.
+pub fn no_more_signals_wait_than_may()
+    ensures { (w : Witness) → FitsIn w → (n : ℕ) → length (waiting_at w.signals n) ≤ most_signals }
 {}
 
 /// In a record that fits an expiry whose signal found no room did so beside as many others as may wait: each was sent by a call that didn't begin only after

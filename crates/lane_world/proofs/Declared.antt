@@ -1,8 +1,12 @@
--- What a script's timers are declared as: the objects over them, their bases and their callbacks.
+-- What a script's timers are declared as: the objects over them, their bases and their callbacks; and how many signals may wait.
 use Rattle.std.proofs.Common.{◌≡◌, ℕ, List, map, get_or, refl, ap, ◌∙◌, sym}
+use Rattle.std.proofs.lemmas.Option.{same_Some}
+use Rattle.run_history.specs.Signals.{most_signals}
+use Rattle.signal_queue.specs.Views.{PassOfQueue, QueueOf}
+use Rattle.timer_objects.specs.Signals.{IsSignalPass}
 use Rattle.ktime.specs.declared.clock_id.ClockId.{ClockId}
 use Rattle.ktime.specs.declared.clock_id.ClockId.TheVariants as clocks
-use Rattle.timer_objects.specs.Known.{decl_at}
+use Rattle.timer_objects.specs.Known.{decl_at, ObjectsOf}
 use Rattle.timer_objects.specs.declared.callback.Callback.TheVariants as runs
 use Rattle.timer_objects.specs.declared.object.Decl.{Decl}
 use Rattle.timer_objects.specs.declared.object.Kind as object_kind
@@ -14,7 +18,7 @@ use Rattle.script_text.specs.declared.script.Declaration.{Declaration}
 use Rattle.script_text.specs.declared.script.Kind.{Kind}
 use Rattle.script_text.specs.declared.script.Kind.TheVariants as kinds
 use Rattle.script_text.specs.declared.script.Script.{Script}
-use Rattle.lane_world.specs.Worlds.{callback_of, decl_as, decl_of, IsWorldOf, WorldOf}
+use Rattle.lane_world.specs.Worlds.{callback_of, decl_as, decl_of, HasQueue, IsWorldOf, WorldOf}
 use Rattle.std.proofs.Math.ListN.{get_or-map}
 
 -- the kind of object over a timer of this kind
@@ -57,3 +61,7 @@ module _ (s : Script) (x : WorldOf) (i : ℕ) (is : IsWorldOf s x) where
 pub declared_callback : (ds : List Declaration) (i : ℕ) → get_or (map (λ d. callback_of d.kind) ds) i runs.Once
     ≡ callback_of (get_or (map (λ d. d.kind) ds) i (kinds.Raw contexts.Hard callbacks.Once))
 declared_callback ds i = get_or-map (λ d. callback_of d.kind) ds i none ∙ ap callback_of (sym (get_or-map (λ d. d.kind) ds i none))
+
+-- law: a pass of the objects' queue knows how many signals may wait
+pub room_known : (x : ObjectsOf) (p : PassOfQueue) → HasQueue x → IsSignalPass x p → p.knows.room ≡ most_signals
+room_known x p queue is = ap (λ (y : QueueOf). y.room) (same_Some _ queue.queue (sym is ∙ queue.has)) ∙ queue.room

@@ -406,8 +406,8 @@ module _ (x : WorldOf) (l m : LaneOf) (a : Answer) where
     pub object_log : List ObjectReceipt
     pub next : NextSignal
     pub mid : WorldPass
-    pub takes : TakesNext x.objects x.timers.about (lane_caller l.pass [] [])
-        (lane_caller mid log object_log) l.pass.signals.knows mid.signals.knows reading next
+    pub takes : TakesNext x.objects x.timers.about (lane_caller l.pass [] []) (lane_caller mid log object_log)
+        l.pass.signals.knows mid.signals.knows reading next
     pub clock : LeavesClock l.pass mid
     pub sees : SeesSent x mid m.pass next
     pub notes : m.notes ≡ with_done l.notes l.label log object_log

@@ -11,8 +11,7 @@ use Rattle.base_row.specs.declared.view.Opening.{Opening}
 use Rattle.expire_pass.specs.declared.handler.Restart.{Restart}
 use Rattle.hr_timers.specs.declared.numbers.ClaimNumbers.{ClaimNumbers}
 use Rattle.hr_timers.specs.Known.{KnownOfTimers}
-use Rattle.signal_queue.specs.Views.{KnowsQueue, PassOfQueue}
-use Rattle.timer_objects.specs.Known.{ObjectsPass}
+use Rattle.signal_queue.specs.Views.{KnowsQueue}
 use Rattle.lane_world.specs.Worlds.{WorldOf}
 use Rattle.lane_world.specs.declared.WorldPass.{WorldPass}
 
@@ -29,16 +28,10 @@ pub record RunsGated (x : WorldOf) (p q : WorldPass) (context : Context) (base b
   pub fresh : (before.log.receipts ≡ []) × (before.object_log.receipts ≡ [])
   pub logs : (after.log.receipts ≡ callback_log) × (after.object_log.receipts ≡ object_log)
 
--- passes of objects and of signals keep their names, and what the latter knows stays true
-pub record KeepsNames (p q : ObjectsPass) (s t : PassOfQueue) : Type 0 where
-  pub objects : q.knows.pass.id ≡ p.knows.pass.id
-  pub signals : t.knows.pass.id ≡ s.knows.pass.id
-  pub queue : KnowsQueue s.knows → KnowsQueue t.knows
-
 -- a run with a handler of objects, and what it leaves of it
-pub record RunsWith (o : Opening) (context : Context) (base : ℕ) (reading : ClockReading) (budget : ℕ) (v : KnownOfTimers) (h : QueuedFiring)
-    (log : List Receipt)
-    (w : KnownOfTimers) (h' : QueuedFiring) (log' : List Receipt) (answer : ExpireAnswer) : Type 0 where
+pub record RunsWith (o : Opening) (context : Context) (base : ℕ) (reading : ClockReading) (budget : ℕ)
+    (v : KnownOfTimers) (h : QueuedFiring) (log : List Receipt) (w : KnownOfTimers) (h' : QueuedFiring) (log' : List Receipt)
+    (answer : ExpireAnswer) : Type 0 where
   pub expires : Expires queued_firing o context base reading budget v h log w h' log' answer
   pub leaves : LeavesQueued h h'
   pub queue : KnowsQueue h.signal_pass.now.knows → KnowsQueue h'.signal_pass.now.knows

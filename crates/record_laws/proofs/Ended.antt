@@ -9,6 +9,7 @@ use Rattle.lane_notes.specs.Notes.{NotesOf}
 use Rattle.lane_notes.specs.Records.{record_from}
 use Rattle.lane_notes.specs.Sorted.{IsSortedFrom}
 use Rattle.run_history.specs.Runs.{CallLog, RoundStarts, Ending, IsEnding, IsRun}
+use Rattle.lane_world.proofs.Declared.{room_known}
 use Rattle.lane_world.proofs.Kept.{Follows}
 use Rattle.lane_world.proofs.Left.{AreLastOf, AreLeft, ending_of, AreByRounds}
 use Rattle.lane_world.specs.Worlds.{WorldOf}
@@ -27,6 +28,7 @@ use Rattle.signal_queue.specs.Rules.{turns}
 use Rattle.signal_queue.specs.Turns.{AreTurns}
 use Rattle.std.specs.List.{AllByRecursion}
 use Rattle.run_history.specs.Runs.{IsOfQueued}
+use Rattle.run_history.specs.Signals.{most_signals}
 use Rattle.record_laws.proofs.Signalled.{signals, signals_in_span, signals_long, signals_own, signals_queued, signals_seen}
 use Rattle.run_history.specs.Promises.{HasLog}
 use Rattle.run_history.specs.Histories.{clock_labels}
@@ -86,7 +88,8 @@ module _ {s : Script} {x : WorldOf} {q : WorldPass} {notes sorted : NotesOf} {lo
       };
       writes = clock_accepted last left is;
       signals = record {
-        legal = subst (AreTurns []) (sym (signals_seen last left)) last.of.passes.queue.legal;
+        legal = subst (AreTurns most_signals []) (sym (signals_seen last left))
+            (subst (λ n. AreTurns n [] (turns q.signals.knows)) (room_known x.objects q.signals last.of.world.queue last.of.passes.signals) last.of.passes.queue.legal);
         of = subst (AllByRecursion (IsOfQueued s)) (sym (signals_seen last left)) (signals_queued last left);
         laid = record {
           inside = signals_in_span last left;

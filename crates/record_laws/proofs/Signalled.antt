@@ -1,5 +1,5 @@
 -- The pushes and pops of signals that the last pass of the queue has seen, each under the label of the call that made it.
-use Rattle.std.proofs.Common.{◌≡◌, ◌<◌, ◌≤◌, ℕ, ◌+◌, zero, suc, true, false, nat_eq, filter, Some, List, [], ◌∷◌, length, map, arith, refl, sym, ap, ◌∙◌, subst, inl, inr}
+use Rattle.std.proofs.Common.{◌≡◌, ◌<◌, ◌≤◌, ℕ, ◌+◌, zero, suc, true, false, nat_eq, filter, Some, List, [], ◌∷◌, length, map, arith, refl, sym, ap, ◌∙◌, subst}
 use Rattle.std.specs.List.{AllByRecursion, slice_get}
 use Rattle.std.specs.Prelude.{if◌then◌else◌, ◌==◌}
 use Rattle.std.proofs.Math.Logic.{⊎_elim}
@@ -18,9 +18,9 @@ use Rattle.run_history.specs.Receipts.{Rises}
 use Rattle.run_history.specs.Rounds.{label_at}
 use Rattle.run_history.specs.Runs.{CallLog, IsOfQueued}
 use Rattle.run_history.specs.Signals.{SignalMove, signal_labels, turns_in}
-use Rattle.run_history.proofs.Items.{Among, own_items, lower}
+use Rattle.run_history.proofs.Items.{Among, among_at, at_among, own_items, lower}
 use Rattle.run_history.proofs.Labels.{label_itself, same_label}
-use Rattle.run_history.proofs.Lists.{all_at, each, map_get}
+use Rattle.run_history.proofs.Lists.{all_at, each, item_at, map_get}
 use Rattle.script_text.specs.Scripts.{all_calls}
 use Rattle.script_text.specs.declared.script.LaneCall.{LaneCall}
 use Rattle.script_text.specs.declared.script.Round.{Round}
@@ -89,15 +89,6 @@ turn_counted p zero t (x ∷ xs) at =
     let here : one_if (is_place 0 (p + 1) (turn_place x)) ≡ 1 = ap one_if is in
     omega (arith, here)
 turn_counted p (suc i) t (x ∷ xs) at = let rest = turn_counted p i t xs at in omega (arith, rest)
-
-among_at : (xs : List (ℕ × Turn)) (i : ℕ) (x : ℕ × Turn) → slice_get xs i ≡ Some x → Among x xs
-among_at [] i x at = absurd (cc)
-among_at (y ∷ xs) zero x at = inl (sym (same_Some y x at))
-among_at (y ∷ xs) (suc i) x at = inr (among_at xs i x at)
-
-at_among : (e : ℕ × Turn) (xs : List (ℕ × Turn)) → Among e xs → (i : ℕ) × (slice_get xs i ≡ Some e)
-at_among e [] here = absurd here
-at_among e (x ∷ xs) here = ⊎_elim (λ is. (0, ap Some (sym is))) (λ more. let rest = at_among e xs more in (suc rest.0, rest.1)) here
 
 -- ---- a lane past the script's lanes has no calls
 
@@ -228,7 +219,7 @@ module _ {s : Script} {x : WorldOf} {q : WorldPass} {notes : NotesOf} {logs : La
       let its : HasTurn (logs c) e.0 = record { index = at.0; turn = e.1; there = at.1 } in
       let there = turn_there e.0 c its in
       let less = slice_get_within seen e.0 e.1 there in
-      let m = get_signal e.0 (omega (arith, less, long)) in
+      let m = item_at signals e.0 (omega (arith, less, long)) in
       let of = at_place e.0 m.0 m.1 in
       let label = same_turn e.0 m.0.label c less of.0.1 its in
       record {
@@ -246,14 +237,6 @@ module _ {s : Script} {x : WorldOf} {q : WorldPass} {notes : NotesOf} {logs : La
     where
       from_none : (n : ℕ) → n ≡ 0 + n
       from_none n = omega arith
-
-      item_there : (ms : List SignalMove) (p : ℕ) → p < length ms → (m : SignalMove) × (slice_get ms p ≡ Some m)
-      item_there [] p less = absurd (omega (arith, less))
-      item_there (m ∷ ms) zero less = (m, refl)
-      item_there (m ∷ ms) (suc p) less = item_there ms p (omega (arith, less))
-
-      get_signal : (p : ℕ) → p < length signals → (m : SignalMove) × (slice_get signals p ≡ Some m)
-      get_signal p less = item_there signals p less
 
   -- law: each is of a call of the script, in the call's span
   pub signals_in_span : (n : ℕ) (c : Label) → slice_get (signal_labels signals) n ≡ Some c → InSpan s (λ d. (logs d).signals) c n

@@ -14,7 +14,7 @@ use Rattle.signal_queue.specs.declared.signal.Signal.{Signal}
 use Rattle.signal_queue.specs.declared.signal.Turn.{Turn}
 use Rattle.signal_queue.specs.declared.signal.Turn.TheVariants.{Popped, Pushed}
 use Rattle.signal_queue.specs.Turns.{AreTurns}
-use Rattle.run_history.specs.Signals.{SignalMove, popped_by, pushed_in, signal_labels, turns_in, waiting_at}
+use Rattle.run_history.specs.Signals.{SignalMove, most_signals, popped_by, pushed_in, signal_labels, turns_in, waiting_at}
 use Rattle.run_history.specs.Witnesses.{Trace, Witness, labels}
 use Rattle.run_history.specs.Fits.{HasSignalled, IsSignalOrder, LabelsNeverFall}
 use Rattle.run_history.specs.Traces.{all_entered}
@@ -155,16 +155,18 @@ same_turn (Popped a) (Popped b) e = ap Popped (same_signal a b e)
 same_turn (Pushed a) (Popped b) e = absurd (cc)
 same_turn (Popped a) (Pushed b) e = absurd (cc)
 
--- from these waiting signals on, each pop takes the oldest
+-- from these waiting signals on, each push finds room, and each pop takes the oldest
 abbrev pub are_legal_turns : List Signal → List Turn → Bool
 are_legal_turns waiting [] = true
-are_legal_turns waiting (Pushed s ∷ ts) = are_legal_turns (waiting ++ s ∷ []) ts
+are_legal_turns waiting (Pushed s ∷ ts) = nat_lt (length waiting) most_signals && are_legal_turns (waiting ++ s ∷ []) ts
 are_legal_turns [] (Popped s ∷ ts) = false
 are_legal_turns (w ∷ waiting) (Popped s ∷ ts) = is_signal s w && are_legal_turns waiting ts
 
-pub legal_turns_pass : (waiting : List Signal) (ts : List Turn) → are_legal_turns waiting ts ≡ true → AreTurns waiting ts
+pub legal_turns_pass : (waiting : List Signal) (ts : List Turn) → are_legal_turns waiting ts ≡ true → AreTurns most_signals waiting ts
 legal_turns_pass waiting [] e = tt
-legal_turns_pass waiting (Pushed s ∷ ts) e = legal_turns_pass (waiting ++ s ∷ []) ts e
+legal_turns_pass waiting (Pushed s ∷ ts) e =
+    let parts = and_parts (nat_lt (length waiting) most_signals) (are_legal_turns (waiting ++ s ∷ []) ts) e in
+    (below (length waiting) most_signals parts.0, legal_turns_pass (waiting ++ s ∷ []) ts parts.1)
 legal_turns_pass [] (Popped s ∷ ts) e = absurd (cc)
 legal_turns_pass (w ∷ waiting) (Popped s ∷ ts) e =
     let parts = and_parts (is_signal s w) (are_legal_turns waiting ts) e in (same_signal s w parts.0, legal_turns_pass waiting ts parts.1)

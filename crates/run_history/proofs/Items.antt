@@ -15,6 +15,16 @@ abbrev pub Among : {X : Type 0} → X → List X → Type 0
 Among e [] = ⊥
 Among e (x ∷ xs) = (e ≡ x) ⊎ Among e xs
 
+-- what stands at a place is one of them, and one of them stands at a place
+pub among_at : {X : Type 0} (xs : List X) (i : ℕ) (x : X) → slice_get xs i ≡ Some x → Among x xs
+among_at [] i x at = absurd (cc)
+among_at (y ∷ xs) zero x at = inl (sym (same_Some y x at))
+among_at (y ∷ xs) (suc i) x at = inr (among_at xs i x at)
+
+pub at_among : {X : Type 0} (e : X) (xs : List X) → Among e xs → (i : ℕ) × (slice_get xs i ≡ Some e)
+at_among e [] here = absurd here
+at_among e (x ∷ xs) here = ⊎_elim (λ is. (0, ap Some (sym is))) (λ more. let rest = at_among e xs more in (suc rest.0, rest.1)) here
+
 -- numbered things with rising numbers, none below this one
 abbrev pub RiseIn : {A : Type 0} → ℕ → List (ℕ × A) → Type 0
 RiseIn k [] = Unit

@@ -1,5 +1,5 @@
 -- From the receipts of all calls, sorted by list and number, to the order: each call's moves are its receipts.
-use Rattle.std.proofs.Common.{◌≡◌, ◌<◌, ◌≤◌, ℕ, ◌+◌, zero, suc, true, false, List, [], ◌∷◌, ◌++◌, Some, length, map, take, get_or, arith, refl, sym, ap, ◌∙◌, subst, inl, inr}
+use Rattle.std.proofs.Common.{◌≡◌, ◌<◌, ◌≤◌, ℕ, ◌+◌, zero, suc, true, false, List, [], ◌∷◌, ◌++◌, Some, length, map, take, get_or, arith, refl, sym, ap, ◌∙◌, subst}
 use Rattle.std.specs.List.{AllByRecursion, slice_get}
 use Rattle.std.proofs.Math.Logic.{⊎_elim}
 use Rattle.std.proofs.lemmas.Bool.{cases_lt}
@@ -11,9 +11,9 @@ use Rattle.record_text.specs.declared.record.RunRecord.{RunRecord}
 use Rattle.run_history.specs.Order.{is_label}
 use Rattle.run_history.specs.Witnesses.{Move, Owner, Shown, ShownLine, is_owner, lines_at, owner_of, owner_of_entry}
 use Rattle.run_history.specs.Receipts.{AreAll, at_place, count, IsMade, move_at, move_of, no_line, PlacedEntry, Rises, shape, weave}
-use Rattle.run_history.proofs.Items.{Among, own_items, RiseIn, StandsIn}
+use Rattle.run_history.proofs.Items.{Among, among_at, at_among, own_items, RiseIn, StandsIn}
 use Rattle.run_history.proofs.Labels.{label_itself, same_label}
-use Rattle.run_history.proofs.Lists.{all_at}
+use Rattle.run_history.proofs.Lists.{all_at, at_map, map_get}
 use Rattle.run_history.proofs.Owners.{and_one, count_cons, count_none, owner_is}
 
 -- ---- moves of an order, by place
@@ -91,15 +91,10 @@ rise_places : (k : ℕ) (xs : List PlacedEntry) → Rises k (map (λ x. x.place)
 rise_places k [] rise = tt
 rise_places k (x ∷ xs) rise = (rise.0, rise_places (x.place + 1) xs rise.1)
 
-among_at : (xs : List PlacedEntry) (i : ℕ) (x : PlacedEntry) → slice_get xs i ≡ Some x → Among (at_place x) (map at_place xs)
-among_at [] i x at = absurd (cc)
-among_at (y ∷ xs) zero x at = inl (ap at_place (sym (same_Some y x at)))
-among_at (y ∷ xs) (suc i) x at = inr (among_at xs i x at)
-
-pub at_among : (e : ℕ × (ℕ × Shown)) (xs : List PlacedEntry) → Among e (map at_place xs) → (i : ℕ) × (x : PlacedEntry) × (slice_get xs i ≡ Some x)
+pub placed_among : (e : ℕ × (ℕ × Shown)) (xs : List PlacedEntry) → Among e (map at_place xs) → (i : ℕ) × (x : PlacedEntry) × (slice_get xs i ≡ Some x)
     × (e ≡ at_place x)
-at_among e [] here = absurd here
-at_among e (x ∷ xs) here = ⊎_elim (λ is. (0, x, refl, is)) (λ more. let r = at_among e xs more in (suc r.0, r.1, r.2, r.3)) here
+placed_among e xs here =
+    let at = at_among e (map at_place xs) here in let of = map_get at_place xs at.0 e at.1 in (at.0, of.0, of.1, sym of.2)
 
 -- a receipt's move stands at its place, under the call's label
 abbrev Stands : RunRecord → List SystemEntry → Label → PlacedEntry → Type 0
@@ -151,7 +146,8 @@ module _ (r : RunRecord) (order : List SystemEntry) (notes : Label → List Plac
       let same : note.place ≡ p =
       same_place order note.place p o made.step s.0 made.there s.1 owner refl
       (less_one (count o (take note.place order)) n note.number number (sym noted.number)) in
-      subst (λ e. Among e (map at_place (notes c))) (shown note m p (each_stands noted.index note its) same there) (among_at (notes c) noted.index note its)
+      subst (λ e. Among e (map at_place (notes c))) (shown note m p (each_stands noted.index note its) same there)
+      (among_at (map at_place (notes c)) noted.index (at_place note) (at_map at_place (notes c) noted.index note its))
     where
       within : (n l k : ℕ) {m : ℕ} → l ≡ k → n + 1 ≤ m → m ≡ k → n < l
       within n l k e le f = omega (arith, e, le, f)
@@ -168,5 +164,5 @@ module _ (r : RunRecord) (order : List SystemEntry) (notes : Label → List Plac
   -- law: the receipts are all of the call's entries along the order
   pub are_all : AreAll c (weave r [] order) (notes c)
   are_all = own_items (λ m. m.label) shape c 0 (weave r [] order) (map at_place (notes c)) (rise_places 0 (notes c) (all.rise c))
-      (λ e here. let a = at_among e (notes c) here in
+      (λ e here. let a = placed_among e (notes c) here in
       subst (StandsIn Move (ℕ × Shown) (λ m. m.label) shape c 0 (weave r [] order)) (sym a.3) (each_stands a.0 a.1 a.2)) is_among

@@ -24,6 +24,12 @@ all_at P [] p x all is = absurd (cc)
 all_at P (y ∷ xs) zero x all is = subst P (same_Some y x is) all.0
 all_at P (y ∷ xs) (suc p) x all is = all_at P xs p x all.1 is
 
+-- what stands at a place of a list
+pub item_at : {X : Type 0} (xs : List X) (i : ℕ) → i < length xs → (x : X) × (slice_get xs i ≡ Some x)
+item_at [] i less = absurd (omega (arith, less))
+item_at (x ∷ xs) zero less = (x, refl)
+item_at (x ∷ xs) (suc i) less = item_at xs i (omega (arith, less))
+
 pub at_map : {X Y : Type 0} (f : X → Y) (xs : List X) (p : ℕ) (x : X) → slice_get xs p ≡ Some x → slice_get (map f xs) p ≡ Some (f x)
 at_map f xs p x is = slice_get-map f xs p ∙ ap (option_map f) is
 

@@ -15,7 +15,7 @@ use Rattle.run_history.specs.Runs.{clock_spans, witness_of, Ending, IsEnding, Is
 use Rattle.run_history.specs.Signals.{signal_labels}
 use Rattle.run_history.proofs.Filed.{receipts_from}
 use Rattle.run_history.proofs.Labels.{label_itself}
-use Rattle.run_history.proofs.Laid.{are_all, AreReceipts, at_among, is_among}
+use Rattle.run_history.proofs.Laid.{are_all, AreReceipts, is_among, placed_among}
 use Rattle.run_history.proofs.Lists.{all_at, map_get}
 use Rattle.run_history.proofs.OwnHistories.{own_history}
 use Rattle.run_history.proofs.Rounds.{in_order, labels_from}
@@ -44,7 +44,7 @@ module _ (s : Script) (e : Ending) (ends : IsEnding s e) where
       inside = λ p x at.
           let m = map_get (λ (m : Move). m.label) (weave e.run [] e.order) p x at in
           let own : is_label x m.0.label ≡ true = ap (is_label x) m.2 ∙ label_itself x in
-          let note = at_among (0 + p, shape m.0) (notes_in e x) (is_among e.run e.order (notes_in e) receipts x p m.0 m.1 own) in
+          let note = placed_among (0 + p, shape m.0) (notes_in e x) (is_among e.run e.order (notes_in e) receipts x p m.0 m.1 own) in
           let here = all_at (λ y. IsLabel s x × ((e.logs x).moves.0 ≤ y.place) × (y.place < (e.logs x).moves.1)) (notes_in e x) note.0 note.1 (ends.inside x)
           note.2 in
           let place : 0 + p ≡ note.1.place = ap (λ (y : ℕ × (ℕ × Shown)). y.0) note.3 in

@@ -13,7 +13,7 @@ use Rattle.run_history.specs.Histories.{answers_of, AreWrites, clock_labels, lin
 use Rattle.run_history.specs.Objects.{IsLegalObject, lines_of_object}
 use Rattle.script_text.specs.Declarations.{kind_of}
 use Rattle.run_history.specs.Actions.{own, wrote}
-use Rattle.run_history.specs.Signals.{SignalMove, popped_by, pushed_in, signal_labels, turns_in}
+use Rattle.run_history.specs.Signals.{SignalMove, most_signals, popped_by, pushed_in, signal_labels, turns_in}
 use Rattle.signal_queue.specs.Turns.{AreTurns}
 use Rattle.run_history.specs.Witnesses.{Move, Trace, Witness, IsOneHistory, labels, witness_with, writes_along}
 use Rattle.run_history.specs.Traces.{HasTraced}
@@ -94,9 +94,9 @@ pub record AreSkipsUnder (s : Script) (labels : List Label) : Type 0 where
   pub calls : AllByRecursion (IsLabel s) labels
   pub in_order : LabelsNeverFall labels
 
--- the pushes and pops of signals are one history of a queue, in which rounds follow one another, and a lane's calls keep their order
+-- the pushes and pops of signals are one history of a queue with its room, in which rounds follow one another, and a lane's calls keep their order
 pub record IsSignalOrder (s : Script) (signals : List SignalMove) : Type 0 where
-  pub legal : AreTurns [] (turns_in signals)
+  pub legal : AreTurns most_signals [] (turns_in signals)
   pub calls : AllByRecursion (IsLabel s) (signal_labels signals)
   pub order : IsInOrder s (signal_labels signals)
 

@@ -15,7 +15,7 @@ use Rattle.run_history.specs.Witnesses.{Witness, entries_in, IsOneHistory, label
 use Rattle.run_history.specs.Fits.{AreSkipsUnder, FitsLane, unseen}
 use Rattle.run_history.specs.Receipts.{AreAll, AreFiled, Filed, PlacedEntry, ShowsEntry, weave}
 use Rattle.run_history.specs.Rounds.{IsLaid, IsLedger, Spans}
-use Rattle.run_history.specs.Signals.{IsQueued, SignalMove, signal_labels, turns_in}
+use Rattle.run_history.specs.Signals.{IsQueued, most_signals, SignalMove, signal_labels, turns_in}
 use Rattle.signal_queue.specs.declared.signal.Turn.{Turn}
 use Rattle.signal_queue.specs.declared.signal.Turn.TheVariants.{Popped, Pushed}
 use Rattle.signal_queue.specs.Turns.{AreTurns}
@@ -71,7 +71,7 @@ IsOfQueued s (Popped signal) = Unit
 
 -- the queue's table: its pushes and pops are one history, each in the span of its call, and only queued timers' signals are pushed
 pub record AreSignals (s : Script) (e : Ending) : Type 0 where
-  pub legal : AreTurns [] (turns_in e.signals)
+  pub legal : AreTurns most_signals [] (turns_in e.signals)
   pub of : AllByRecursion (IsOfQueued s) (turns_in e.signals)
   pub laid : IsLaid s (signal_labels e.signals) (signal_spans e)
 

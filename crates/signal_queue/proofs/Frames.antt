@@ -43,11 +43,28 @@ alone f views one i j v u apart at at_u on on_u =
     let two = total_two (λ (w : QueueView). one_if (f w)) views j i u v apart at_u at in
     omega (arith, one, two, ap one_if on, ap one_if on_u)
 
+-- whoever isn't gone knows that there is so much room
+abbrev KnowsRoom : ℕ → QueueView → Type 0
+KnowsRoom room v = v.pass.id.live ≡ true → v.room ≡ room
+
+-- all views of a list know it
+abbrev AllKnowRoom : ℕ → List QueueView → Type 0
+AllKnowRoom room views = (j : ℕ) (v : QueueView) → get_elem? views j ≡ some v → KnowsRoom room v
+
+-- and still do where one is other than before
+rooms_set : (room : ℕ) (views : List QueueView) (id : ℕ) (v : QueueView) → KnowsRoom room v
+    → ((j : ℕ) (u : QueueView) → j ≢ id → get_elem? views j ≡ some u → KnowsRoom room u) → AllKnowRoom room (set views id v)
+rooms_set room views id v here others j u e on =
+    ⊎_elim (λ t. subst (KnowsRoom room) t.1 here on) (λ t. others j u t.0 t.1 on) (at_set views id j v u e)
+
 module _ (items : List Signal) (views : List QueueView) (inv : QueueInvariant items views) where
+  rooms_kept : (id : ℕ) (v : QueueView) → KnowsRoom inv.room v → AllKnowRoom inv.room (set views id v)
+  rooms_kept id v here = rooms_set inv.room views id v here (λ j u apart at_u. inv.rooms j u at_u)
+
   -- One pass is other than before, and something may have been written.
   module _ (id : ℕ) (v v' : QueueView) (items' : List Signal) (log : List Turn) (at : get_elem? views id ≡ some v)
-      (grows : Begins inv.log log) (shows : items' ≡ waiting_after [] log) (legal : AreTurns [] log)
-      (agrees : QueueAgrees log v') (same_id : queue_pass_id v' ≡ queue_pass_id v)
+      (grows : Begins inv.log log) (shows : items' ≡ waiting_after [] log) (legal : AreTurns inv.room [] log)
+      (agrees : QueueAgrees log v') (same_id : queue_pass_id v' ≡ queue_pass_id v) (same_room : v'.room ≡ v.room)
       (places : (i k : ℕ) → queue_places i k v' + one_if (within k (length (entries i (inv.log ∷ [])))) ≡ queue_places i k v + one_if
       (within k (length (entries i (log ∷ [])))))
       (same_push : v'.pushes ≡ v.pushes) (same_pop : v'.pops ≡ v.pops)
@@ -58,8 +75,10 @@ module _ (items : List Signal) (views : List QueueView) (inv : QueueInvariant it
     turned = (
       record {
         log = log;
+        room = inv.room;
         shows = shows;
         legal = legal;
+        rooms = rooms_kept id v' (λ on. same_room ∙ inv.rooms id v at (ap (λ n. n.live) (sym same_id) ∙ on));
         each_view = λ j u e. ⊎_elim (λ t. subst (λ w. QueueAgrees log w) t.1 agrees)
             (λ t. agrees_on inv.log log u grows (no_push j u t.0 t.1) (no_pop j u t.0 t.1) (inv.each_view j u t.1)) (at_set views id j v' u e);
         tree = subst (λ ls. IsPassTree ls) (sym (map_kept queue_pass_id views id v v' at same_id)) inv.tree;
@@ -71,8 +90,10 @@ module _ (items : List Signal) (views : List QueueView) (inv : QueueInvariant it
       refl,
     )
 
-  -- One pass is other than before, and one came.
+  -- One pass is other than before, and one came; with the first pass the room may be told.
   module _ (id : ℕ) (v v' w : QueueView) (at : get_elem? views id ≡ some v) (agrees : QueueAgrees inv.log v') (agrees_new : QueueAgrees inv.log w)
+      (room : ℕ) (legal : AreTurns room [] inv.log) (knows : KnowsRoom room v') (knows_new : KnowsRoom room w)
+      (others : (j : ℕ) (u : QueueView) → j ≢ id → get_elem? views j ≡ some u → KnowsRoom room u)
       (tree : IsPassTree (map queue_pass_id (set views id v' ++ w ∷ [])))
       (places : (i k : ℕ) → queue_places i k v' + queue_places i k w ≡ queue_places i k v)
       (one_push : pushers v' + pushers w ≡ pushers v) (one_pop : poppers v' + poppers w ≡ poppers v)
@@ -80,8 +101,10 @@ module _ (items : List Signal) (views : List QueueView) (inv : QueueInvariant it
     pub grown : QueueInvariant items (slice_set views id v' ++ w ∷ [])
     grown = record {
       log = inv.log;
+      room = room;
       shows = inv.shows;
-      legal = inv.legal;
+      legal = legal;
+      rooms = λ j u e. ⊎_elim (λ t. rooms_set room views id v' knows others j u t) (λ t. subst (KnowsRoom room) t knows_new) (at_snoc (set views id v') w u j e);
       each_view = λ j u e. ⊎_elim
           (λ t. ⊎_elim (λ h. subst (λ x. QueueAgrees inv.log x) h.1 agrees) (λ h. inv.each_view j u h.1) (at_set views id j v' u t))
           (λ t. subst (λ x. QueueAgrees inv.log x) t agrees_new)
@@ -101,7 +124,7 @@ module _ (items : List Signal) (views : List QueueView) (inv : QueueInvariant it
 
   -- One pass has taken in another.
   module _ (id other : ℕ) (v v' w w' : QueueView) (at : get_elem? views id ≡ some v) (at_other : get_elem? (set views id v') other ≡ some w)
-      (agrees : QueueAgrees inv.log v') (agrees_left : QueueAgrees inv.log w')
+      (agrees : QueueAgrees inv.log v') (agrees_left : QueueAgrees inv.log w') (knows : KnowsRoom inv.room v') (knows_left : KnowsRoom inv.room w')
       (tree : IsPassTree (map queue_pass_id (set (set views id v') other w')))
       (places : (i k : ℕ) → queue_places i k v' + queue_places i k w' ≡ queue_places i k v + queue_places i k w)
       (one_push : pushers v' + pushers w' ≡ pushers v + pushers w) (one_pop : poppers v' + poppers w' ≡ poppers v + poppers w)
@@ -109,8 +132,10 @@ module _ (items : List Signal) (views : List QueueView) (inv : QueueInvariant it
     pub merged : QueueInvariant items (slice_set (slice_set views id v') other w')
     merged = record {
       log = inv.log;
+      room = inv.room;
       shows = inv.shows;
       legal = inv.legal;
+      rooms = rooms_set inv.room (set views id v') other w' knows_left (λ j u apart at_u. rooms_kept id v' knows j u at_u);
       each_view = λ j u e. ⊎_elim
           (λ t. subst (λ x. QueueAgrees inv.log x) t.1 agrees_left)
           (λ t. ⊎_elim (λ h. subst (λ x. QueueAgrees inv.log x) h.1 agrees) (λ h. inv.each_view j u h.1) (at_set views id j v' u t.1))

@@ -14,11 +14,16 @@ use Rattle.signal_queue.specs.Rules.{QueueInvariant, queue_pass_id, queue_places
 
 module _ {items : List Signal} {views : List QueueView} (inv : QueueInvariant items views) (id : ℕ) (v : QueueView) (at : get_elem? views id ≡ some v)
     (live : v.pass.id.live ≡ true) where
+  -- where a pass is the last one, no other is there
+  pub alone_last : IsLast v.pass.id → (j : ℕ) (u : QueueView) → get_elem? views j ≡ some u → u.pass.id.live ≡ true → j ≡ id
+  alone_last last j u at_u on =
+      last_alone (map queue_pass_id views) inv.tree id j (queue_pass_id v) (queue_pass_id u)
+      (at_map queue_pass_id views id v at) live last (at_map queue_pass_id views j u at_u) on
+
   pub all_of_last : IsLast v.pass.id → turns v ≡ inv.log
   all_of_last last =
       let one = inv.all_seen in
-      let here : one.0 ≡ id = last_alone (map queue_pass_id views) inv.tree id one.0 (queue_pass_id v) (queue_pass_id one.1)
-      (at_map queue_pass_id views id v at) live last (at_map queue_pass_id views one.0 one.1 one.2) one.3.live in
+      let here : one.0 ≡ id = alone_last last one.0 one.1 one.2 one.3.live in
       let same : one.1 ≡ v = some-injective one.1 v (sym one.2 ∙ ap (λ j. get_elem? views j) here ∙ at) in
       ap turns (sym same) ∙ one.3.all
 

@@ -2,7 +2,6 @@
 use Rattle.std.proofs.Common.{◌≡◌, ◌≤◌, Bool, true, false, if◌then◌else◌, List, [], ◌∷◌, ◌++◌, length, refl, ap, sym, ◌∙◌, arith}
 use Rattle.std.specs.Prelude.{nat_lt}
 use Rattle.std.proofs.lemmas.Bool.Decides.{nat_tests}
-use Rattle.signal_queue.specs.Turns.{AreTurns}
 use Rattle.signal_queue.specs.declared.signal.Turn.{Turn}
 use Rattle.pass_names.specs.Passes.{Begins}
 use Rattle.pass_names.proofs.Passes.{begins_length, begins_nil, begins_refl, begins_whole}
@@ -14,9 +13,6 @@ longer_is P xs ys a b = elim (nat_lt (length xs) (length ys)) as (λ t. P (if t 
 
 pub longer_begins : (xs ys log : List Turn) → Begins xs log → Begins ys log → Begins (longer xs ys) log
 longer_begins xs ys log a b = longer_is (λ ws. Begins ws log) xs ys a b
-
-pub longer_legal : (xs ys : List Turn) → AreTurns [] xs → AreTurns [] ys → AreTurns [] (longer xs ys)
-longer_legal xs ys a b = longer_is (AreTurns []) xs ys a b
 
 -- of two lists that begin one list, the shorter begins the other
 shorter : (xs ys r s : List Turn) → xs ++ r ≡ ys ++ s → length xs ≤ length ys → Begins xs ys

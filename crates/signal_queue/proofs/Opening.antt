@@ -1,5 +1,5 @@
--- The rule holds of a new clock: nothing was written.
-use Rattle.std.proofs.Common.{◌≡◌, ℕ, zero, suc, [], ◌∷◌, length, refl, sym, subst, arith}
+-- The rule holds of a new queue: nothing was pushed.
+use Rattle.std.proofs.Common.{◌≡◌, ℕ, zero, suc, true, [], ◌∷◌, length, refl, ap, sym, subst, arith}
 use Rattle.std.proofs.lemmas.Bool.Decides.{nat_tests}
 use Rattle.std.proofs.lemmas.List.Elements.{All-nil}
 use mathlib.Core.Option.{some, some-injective, some-ne-none}
@@ -23,11 +23,17 @@ agrees_first zero v e =
     (record { seen = goes_refl ([] ∷ []); heard = All-nil (λ ws. Begins ws []); gone = λ off. refl; pushes = λ on. (refl, omega arith); pops = λ on. refl })
 agrees_first (suc j) v e = absurd (some-ne-none v (sym e))
 
+knows_first : (j : ℕ) (v : QueueView) → get_elem? (first_queue_view ∷ []) j ≡ some v → v.pass.id.live ≡ true → v.room ≡ 0
+knows_first zero v e on = ap (λ u. u.room) (sym (some-injective first_queue_view v e))
+knows_first (suc j) v e on = absurd (some-ne-none v (sym e))
+
 pub opens : QueueInvariant [] (first_queue_view ∷ [])
 opens = record {
   log = [];
+  room = 0;
   shows = refl;
   legal = tt;
+  rooms = knows_first;
   each_view = agrees_first;
   tree = first_tree;
   tally = λ i k. omega (arith, no_write i k);

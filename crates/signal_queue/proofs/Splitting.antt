@@ -9,7 +9,7 @@ use lib.ListN.{get_elem?}
 use Rattle.crossbeam_queue.specs.Fifo.{Forks, Merges}
 use Rattle.atomic_table.proofs.Lists.{at_map, set_else}
 use Rattle.pass_names.specs.Counts.{one_if, count}
-use Rattle.pass_names.specs.Names.{AnswersFor, IsPassTree, gone_pass_id}
+use Rattle.pass_names.specs.Names.{AnswersFor, IsLast, IsPassTree, gone_pass_id}
 use Rattle.pass_names.specs.Passes.{Begins, is_place}
 use Rattle.pass_names.proofs.Counts.{map_kept, total-append}
 use Rattle.pass_names.proofs.Names.{gone_tree, joins_tree, splits_tree}
@@ -17,10 +17,11 @@ use Rattle.pass_names.proofs.Passes.{goes_nil}
 use Rattle.signal_queue.specs.declared.signal.Turn.{Turn}
 use Rattle.signal_queue.specs.declared.view.QueueView.{QueueView}
 use Rattle.signal_queue.specs.Turns.{AreTurns, pushed, waiting_after}
-use Rattle.signal_queue.specs.Views.{end_queue_view, gone_queue_view, joined_queue_view, lent_queue_view, new_queue_view, opened_end, opened_view, rid_queue_view, split_queue_view}
+use Rattle.signal_queue.specs.Views.{end_queue_view, first_queue_view, gone_queue_view, joined_queue_view, lent_queue_view, new_queue_view, opened_end, opened_view, rid_queue_view, split_queue_view}
 use Rattle.signal_queue.specs.Rules.{queue_pass_id, turns, QueueAgrees, QueueInvariant}
 use Rattle.signal_queue.proofs.Turns.{fewer_wait, legal_begin, popped_between, pushed_between}
 use Rattle.signal_queue.proofs.Frames.{goes_one, grown, merged}
+use Rattle.signal_queue.proofs.Lasting.{all_of_last, alone_last}
 use Rattle.signal_queue.proofs.Longer.{all_first, all_second, goes_on, longer_begins}
 
 -- nothing is left of a pass that is gone
@@ -47,6 +48,7 @@ splits id v live items views inv at =
       pushes = λ on. absurd (true≢false (sym on));
       pops = λ on. absurd (true≢false (sym on));
     })
+    inv.room inv.legal (inv.rooms id v at) (λ on. inv.rooms id v at live) (λ j u apart at_u. inv.rooms j u at_u)
     (subst IsPassTree
     (sym (map-append queue_pass_id (set views id v') (w ∷ []) ∙ ap (λ ls. ls ++ queue_pass_id w ∷ []) (map-set queue_pass_id views id v')))
     (splits_tree (map queue_pass_id views) inv.tree id (queue_pass_id v) (at_map queue_pass_id views id v at) live))
@@ -74,7 +76,7 @@ joins id other v w live live_w answers v_push w_push v_pop w_pop items views inv
       pushes = λ on. absurd (true≢false (sym on));
       pops = λ on. absurd (true≢false (sym on));
     })
-    (agrees_gone inv.log)
+    (agrees_gone inv.log) (λ on. inv.rooms id v at live) (λ on. absurd (true≢false (sym on)))
     (subst IsPassTree
     (sym (map-set queue_pass_id (set views id j) other gone_queue_view ∙ ap (λ ls. set ls other gone_pass_id) (map-set queue_pass_id views id j)))
     (joins_tree (map queue_pass_id views) inv.tree id other (queue_pass_id v) (queue_pass_id w)
@@ -87,11 +89,11 @@ joins id other v w live live_w answers v_push w_push v_pop w_pop items views inv
 -- ---- ends
 
 -- what who may push knows goes over to a longer beginning
-pushes_on : {xs ys log : List Turn} (room : ℕ) → Begins xs ys → Begins ys log → AreTurns [] log
-    → (pushed log ≡ pushed xs) × (length (waiting_after [] xs) ≤ room) → (pushed log ≡ pushed ys) × (length (waiting_after [] ys) ≤ room)
-pushes_on room a b legal told =
+pushes_on : {xs ys log : List Turn} (room most : ℕ) → Begins xs ys → Begins ys log → AreTurns room [] log
+    → (pushed log ≡ pushed xs) × (length (waiting_after [] xs) ≤ most) → (pushed log ≡ pushed ys) × (length (waiting_after [] ys) ≤ most)
+pushes_on room most a b legal told =
     let all = pushed_between a b told.0 in
-    (all, omega (arith, fewer_wait a (legal_begin b legal) (sym all ∙ told.0), told.1))
+    (all, omega (arith, fewer_wait room a (legal_begin room b legal) (sym all ∙ told.0), told.1))
 
 or_cases : (a b : Bool) → (a || b) ≡ true → (a ≡ true) ⊎ (b ≡ true)
 or_cases true b e = inl refl
@@ -122,12 +124,12 @@ lends id other v w live off none room push pop items views inv at apart at_other
       heard = All-cons P (turns v) (turns w ∷ v.heard ++ w.heard) mine
           (All-cons P (turns w) (v.heard ++ w.heard) theirs (All-append P v.heard w.heard agrees.heard heard.heard));
       gone = λ e. absurd (true≢false (sym live ∙ e));
-      pushes = λ may. ⊎_elim (λ t. pushes_on v.room both.0 on inv.legal (agrees.pushes t))
-          (λ t. pushes_on v.room both.1 on inv.legal
+      pushes = λ may. ⊎_elim (λ t. pushes_on inv.room v.room both.0 on inv.legal (agrees.pushes t))
+          (λ t. pushes_on inv.room v.room both.1 on inv.legal
           (let told = heard.pushes t in (told.0, subst (λ n. length (waiting_after [] (turns w)) ≤ n) room told.1))) (or_cases v.pushes w.pushes may);
       pops = λ may. ⊎_elim (λ t. popped_between both.0 on (agrees.pops t)) (λ t. popped_between both.1 on (heard.pops t)) (or_cases v.pops w.pops may);
     })
-    (agrees_gone inv.log)
+    (agrees_gone inv.log) (λ on. inv.rooms id v at live) (λ on. absurd (true≢false (sym on)))
     (subst IsPassTree
     (sym (map_kept queue_pass_id (set views id l) other w gone_queue_view at_other (sym off) ∙ map_kept queue_pass_id views id v l at refl)) inv.tree)
     (λ i k. omega (arith, ap (count (is_place i k)) none))
@@ -155,14 +157,19 @@ gives id v items views inv at =
       pushes = agrees.pushes;
       pops = agrees.pops;
     })
+    inv.room inv.legal (inv.rooms id v at) (λ on. absurd (true≢false (sym on))) (λ j u apart at_u. inv.rooms j u at_u)
     (subst IsPassTree (sym (map-append queue_pass_id (set views id v') (w ∷ []) ∙ ap (λ ls. ls ++ gone_pass_id ∷ []) (map_kept queue_pass_id views id v v' at refl)))
     (gone_tree (map queue_pass_id views) inv.tree))
     (λ i k. omega arith) (omega arith) (omega arith) (λ h. record { live = h.live; all = h.all })
 
 -- the first pass learns how many signals may wait, and gives the end of pops away
-pub opens_ends : (id most : ℕ) (v : QueueView) → v.room ≡ 0 → Forks QueueInvariant id v (opened_view most v) (opened_end most v)
-opens_ends id most v small items views inv at =
+pub opens_ends : (id most : ℕ) (v : QueueView) → v ≡ first_queue_view → Forks QueueInvariant id v (opened_view most v) (opened_end most v)
+opens_ends id most v first items views inv at =
     let agrees = inv.each_view id v at in
+    let live : v.pass.id.live ≡ true = ap (λ u. u.pass.id.live) first in
+    let last : IsLast v.pass.id = subst (λ u. IsLast u.pass.id) (sym first) (record { first = refl; alone = refl }) in
+    let none : inv.log ≡ [] = sym (all_of_last inv id v at live last) ∙ ap turns first in
+    let small : v.room ≡ 0 = ap (λ u. u.room) first in
     let v' = opened_view most v in
     let w = opened_end most v in
     grown items views inv id v v' w at
@@ -180,6 +187,8 @@ opens_ends id most v small items views inv at =
       pushes = λ on. absurd (true≢false (sym on));
       pops = agrees.pops;
     })
+    most (subst (AreTurns most []) (sym none) tt) (λ on. refl) (λ on. absurd (true≢false (sym on)))
+    (λ j u apart at_u on. absurd (apart (alone_last inv id v at live last j u at_u on)))
     (subst IsPassTree (sym (map-append queue_pass_id (set views id v') (w ∷ []) ∙ ap (λ ls. ls ++ gone_pass_id ∷ []) (map_kept queue_pass_id views id v v' at refl)))
     (gone_tree (map queue_pass_id views) inv.tree))
     (λ i k. omega arith) (omega arith) (omega arith) (λ h. record { live = h.live; all = h.all })

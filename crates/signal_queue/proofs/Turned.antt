@@ -12,6 +12,7 @@ use Rattle.signal_queue.specs.declared.signals.Push.TheVariants.{Full, Queued}
 use Rattle.signal_queue.specs.Calls.{FindsEmpty, FindsFull, MakesTurn, PopsLent, PopsSignal, PushesLent, PushesSignal, Shown}
 use Rattle.signal_queue.specs.declared.view.QueueView.{QueueView}
 use Rattle.signal_queue.specs.Rules.{turns, QueueAgrees}
+use Rattle.signal_queue.specs.Turns.{AreTurns}
 use Rattle.signal_queue.specs.Views.{IsEndView, IsRestingView, joined_queue_view, lent_queue_view, longer, rid_queue_view}
 use Rattle.signal_queue.proofs.Turns.{full_is_seen, legal_begin, none_is_seen}
 use Rattle.signal_queue.proofs.Frames.{goes_one}
@@ -89,7 +90,8 @@ module _ {v e : QueueView} {most : ℕ} {pushing popping : Bool} (rests : IsRest
         live = rests.live;
         known = record {
           one = refl;
-          legal = legal_begin (agrees.seen.each 0) inv.legal;
+          legal = subst (λ n. AreTurns n [] all) (sym (inv.rooms shown.1 lent shown.3 rests.live))
+              (legal_begin inv.room (agrees.seen.each 0) inv.legal);
           all_entries = each_of_last inv shown.1 lent shown.3 rests.live refl;
         };
         heard = All-cons P (turns v) (turns e ∷ v.heard ++ e.heard) both.0 (All-cons P (turns e) (v.heard ++ e.heard) both.1
@@ -106,7 +108,7 @@ module _ {v e : QueueView} {most : ℕ} {pushing popping : Bool} (rests : IsRest
       let told = agrees.pushes may in
       record {
         looks = looks shown;
-        full = full_is_seen n (agrees.seen.each 0) inv.legal told.0 (omega (arith, told.1, room)) (ap length (sym inv.shows) ∙ held.1);
+        full = full_is_seen inv.room n (agrees.seen.each 0) inv.legal told.0 (omega (arith, told.1, room)) (ap length (sym inv.shows) ∙ held.1);
       }
 
   pub finds_empty : lent.pops ≡ true → Held 0 (Shown lent) → FindsEmpty v (rid_queue_view lent)
@@ -116,7 +118,7 @@ module _ {v e : QueueView} {most : ℕ} {pushing popping : Bool} (rests : IsRest
       let agrees = inv.each_view shown.1 lent shown.3 in
       record {
         looks = looks shown;
-        none = none_is_nil _ (none_is_seen (agrees.seen.each 0) inv.legal (agrees.pops may) (ap length (sym inv.shows) ∙ held.1));
+        none = none_is_nil _ (none_is_seen inv.room (agrees.seen.each 0) inv.legal (agrees.pops may) (ap length (sym inv.shows) ∙ held.1));
       }
 
   or_right : (a b : Bool) → b ≡ true → (a || b) ≡ true
@@ -183,7 +185,8 @@ module _ {v w : QueueView} (rests : IsRestingView v) (others : IsRestingView w) 
         live = rests.live;
         known = record {
           one = refl;
-          legal = legal_begin (agrees.seen.each 0) shown.2.legal;
+          legal = subst (λ n. AreTurns n [] all) (sym (shown.2.rooms shown.1 joined shown.3 rests.live))
+              (legal_begin shown.2.room (agrees.seen.each 0) shown.2.legal);
           all_entries = each_of_last shown.2 shown.1 joined shown.3 rests.live refl;
         };
         heard = All-cons P (turns v) (turns w ∷ v.heard ++ w.heard) both_joined.0 (All-cons P (turns w) (v.heard ++ w.heard) both_joined.1

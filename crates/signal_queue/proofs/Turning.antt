@@ -39,7 +39,7 @@ module _ (id : ℕ) (v : QueueView) (live : v.pass.id.live ≡ true) where
 
   -- a turn that leads from the history to these signals
   makes : (t : Turn) (items items' : List Signal) (views : List QueueView) (inv : QueueInvariant items views) → get_elem? views id ≡ some v
-      → AreTurns [] (inv.log ++ t ∷ []) → items' ≡ waiting_after [] (inv.log ++ t ∷ [])
+      → AreTurns inv.room [] (inv.log ++ t ∷ []) → items' ≡ waiting_after [] (inv.log ++ t ∷ [])
       → (v.pushes ≡ true → length items' ≤ v.room)
       → ((j : ℕ) (u : QueueView) → j ≢ id → get_elem? views j ≡ some u → u.pushes ≡ true → pushed (inv.log ++ t ∷ []) ≡ pushed inv.log)
       → ((j : ℕ) (u : QueueView) → j ≢ id → get_elem? views j ≡ some u → u.pops ≡ true → popped (inv.log ++ t ∷ []) ≡ popped inv.log)
@@ -56,7 +56,7 @@ module _ (id : ℕ) (v : QueueView) (live : v.pass.id.live ≡ true) where
         gone = λ off. absurd (true≢false (sym live ∙ off));
         pushes = λ on. (refl, subst (λ l. length l ≤ v.room) shows (few on));
         pops = λ on. refl;
-      }) refl
+      }) refl refl
       (one_place t inv.log) refl refl no_push no_pop (record { live = live; all = refl }) in (
         w,
         next.0,
@@ -70,7 +70,7 @@ module _ (id : ℕ) (v : QueueView) (live : v.pass.id.live ≡ true) where
             id = refl;
           };
           live = live;
-          known = record { one = refl; legal = legal; all_entries = each_of_last next.0 id w (set_there views id v w at) live refl };
+          known = record { one = refl; legal = subst (λ n. AreTurns n [] log) (sym (inv.rooms id v at live)) legal; all_entries = each_of_last next.0 id w (set_there views id v w at) live refl };
           heard = agrees.heard;
           none = refl;
           room = refl;
@@ -82,7 +82,8 @@ module _ (id : ℕ) (v : QueueView) (live : v.pass.id.live ≡ true) where
 
   pub pushes : (n : ℕ) (s : Signal) → v.pushes ≡ true → v.room ≡ n → Pushes QueueInvariant n id v s (MakesTurn (Pushed s) v)
   pushes n s may same items views room inv at =
-      makes (Pushed s) items (items ++ s ∷ []) views inv at (legal_push [] inv.log s inv.legal)
+      makes (Pushed s) items (items ++ s ∷ []) views inv at
+      (legal_push inv.room [] inv.log s inv.legal (omega (arith, room, same, inv.rooms id v at live, ap length inv.shows)))
       (ap (λ l. l ++ s ∷ []) inv.shows ∙ sym (waits_push [] inv.log s))
       (λ on. omega (arith, room, same, length-append items (s ∷ [])))
       (λ j u apart at_u on. absurd (alone (λ x. x.pushes) views inv.one_pusher id j v u apart at at_u may on))
@@ -90,7 +91,7 @@ module _ (id : ℕ) (v : QueueView) (live : v.pass.id.live ≡ true) where
 
   pub pops : v.pops ≡ true → v.pushes ≡ false → Pops QueueInvariant id v (λ s w. MakesTurn (Popped s) v w)
   pops may off s items views inv at =
-      makes (Popped s) (s ∷ items) items views inv at (legal_pop [] inv.log s items inv.legal (sym inv.shows))
+      makes (Popped s) (s ∷ items) items views inv at (legal_pop inv.room [] inv.log s items inv.legal (sym inv.shows))
       (sym (waits_pop [] inv.log s items (sym inv.shows)))
       (λ on. absurd (true≢false (sym on ∙ off)))
       (λ j u apart at_u on. pushed-append inv.log (Popped s ∷ []) ∙ append-nil (pushed inv.log))

@@ -52,8 +52,11 @@ pub record HasSeenAll (log : List Turn) (v : QueueView) : Type 0 where
 -- There is one history, which all passes have seen beginnings of, and the signals in the ring are those that wait after it.
 pub record QueueInvariant (items : List Signal) (views : List QueueView) : Type 0 where
   pub log : List Turn
+  pub room : ℕ
   pub shows : items ≡ waiting_after [] log
-  pub legal : AreTurns [] log
+  pub legal : AreTurns room [] log
+  -- each pass that isn't gone knows how many signals may wait
+  pub rooms : (j : ℕ) (v : QueueView) → get_elem? views j ≡ some v → v.pass.id.live ≡ true → v.room ≡ room
   pub each_view : (j : ℕ) (v : QueueView) → get_elem? views j ≡ some v → QueueAgrees log v
   pub tree : IsPassTree (map queue_pass_id views)
   -- each turn is one pass's own, once

@@ -1,15 +1,15 @@
 -- The history of a queue of signals: a list of pushes and pops.
-use Rattle.std.specs.Prelude.{◌≡◌, List, [], ◌∷◌, ◌++◌, drop}
+use Rattle.std.specs.Prelude.{◌≡◌, ◌<◌, ℕ, List, [], ◌∷◌, ◌++◌, length, drop}
 use Rattle.signal_queue.specs.declared.signal.Signal.{Signal}
 use Rattle.signal_queue.specs.declared.signal.Turn.{Turn}
 use Rattle.signal_queue.specs.declared.signal.Turn.TheVariants.{Pushed, Popped}
 
--- from these waiting signals on, oldest first, each pop takes the oldest signal that was not yet popped
-abbrev pub AreTurns : List Signal → List Turn → Type 0
-AreTurns waiting [] = Unit
-AreTurns waiting (Pushed s ∷ turns) = AreTurns (waiting ++ s ∷ []) turns
-AreTurns [] (Popped s ∷ turns) = ⊥
-AreTurns (w ∷ waiting) (Popped s ∷ turns) = (s ≡ w) × AreTurns waiting turns
+-- where so many may wait, and from these waiting signals on, oldest first: each push finds room, and each pop takes the oldest signal that was not yet popped
+abbrev pub AreTurns : ℕ → List Signal → List Turn → Type 0
+AreTurns room waiting [] = Unit
+AreTurns room waiting (Pushed s ∷ turns) = (length waiting < room) × AreTurns room (waiting ++ s ∷ []) turns
+AreTurns room [] (Popped s ∷ turns) = ⊥
+AreTurns room (w ∷ waiting) (Popped s ∷ turns) = (s ≡ w) × AreTurns room waiting turns
 
 -- the signals that wait after the turns, oldest first
 abbrev pub waiting_after : List Signal → List Turn → List Signal

@@ -23,10 +23,10 @@ pub record IsPassOfQueue (q : QueueOf) (p : PassOfQueue) : Type 0 where
   pub queue : p.queue ≡ q.id
   pub room : p.knows.room ≡ q.room
 
--- What is known of what a pass knows: it has seen one history, which is legal; and the last pass has each turn of it among its own, once.
+-- What is known of what a pass knows: it has seen one history, which is legal with the queue's room; and the last pass has each turn of it among its own, once.
 pub record KnowsQueue (v : QueueView) : Type 0 where
   pub one : v.pass.seen ≡ turns v ∷ []
-  pub legal : AreTurns [] (turns v)
+  pub legal : AreTurns v.room [] (turns v)
   pub all_entries : IsLast v.pass.id → HasEach v.pass.seen v.pass.mine
 
 -- what a pass is like between calls: it has no end, and what it was told of begins what it has seen

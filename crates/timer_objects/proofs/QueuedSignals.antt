@@ -104,7 +104,7 @@ module _ (x : ObjectsOf) (o : Opening) (old new : Caller) (id number : ℕ) (rea
 pub takes_oldest : (s t : QueueView) (signal : Signal) → TakesTurn s t (Popped signal) → KnowsQueue t → TakesOldest s t signal.timer signal.number
 takes_oldest s t signal taken known = record {
   pops = taken;
-  oldest = oldest [] taken.before [] signal (subst (AreTurns []) taken.last known.legal);
+  oldest = oldest t.room [] taken.before [] signal (subst (AreTurns t.room []) taken.last known.legal);
   known = known;
 }
 

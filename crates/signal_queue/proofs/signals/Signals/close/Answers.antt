@@ -9,4 +9,4 @@ pub returns-clause-popped : goal.returns-clause-popped
 returns-clause-popped c =
     let known = c.into_seat.ensures.rests.0.known in
     subst (λ v. Begins (popped (turns v)) (pushed (turns v))) c.into_seat.ensures.knows
-    (record { rest = waiting_after [] (turns c.into_seat.result.me.0.client); whole = whole [] (turns c.into_seat.result.me.0.client) known.legal })
+    (record { rest = waiting_after [] (turns c.into_seat.result.me.0.client); whole = whole _ [] (turns c.into_seat.result.me.0.client) known.legal })
