@@ -142,7 +142,7 @@ ordered s (l ∷ ls) zero (suc q) x y order at_p at_q less =
 ordered s (l ∷ ls) (suc p) (suc q) x y order at_p at_q less = ordered s ls p q x y order.1 at_p at_q (omega (arith, less))
 
 -- the place of an own entry is within the call's bounds
-within_at : (s : Script) (c : Label) (ls : List Label) (p : ℕ) → IsInOrder s ls → slice_get ls p ≡ Some c → IsWithin s c p ls
+pub within_at : (s : Script) (c : Label) (ls : List Label) (p : ℕ) → IsInOrder s ls → slice_get ls p ≡ Some c → IsWithin s c p ls
 within_at s c ls p order there = record {
   small = omega (arith, slice_get_within ls p c there);
   before = each_take (λ x. is_before s c x ≡ false) p ls (λ q x at less. ordered s ls q p x c order at there less);

@@ -1,5 +1,5 @@
 -- Lists of signals that differ, and pushes and pops by their places.
-use Rattle.std.proofs.Common.{◌≡◌, ◌<◌, ◌≤◌, ◌⊎◌, ℕ, ◌+◌, zero, suc, true, false, List, [], ◌∷◌, ◌++◌, Some, length, map, take, drop, arith, refl, sym, ap, ◌∙◌, subst, inl, inr}
+use Rattle.std.proofs.Common.{◌≡◌, ◌<◌, ◌≤◌, ◌⊎◌, ℕ, ◌+◌, zero, suc, true, false, List, [], ◌∷◌, ◌++◌, Some, length, map, take, drop, arith, refl, sym, ap, ◌∙◌, subst, inl, inr, length-append}
 use Rattle.std.specs.List.{AllByRecursion, slice_get}
 use Rattle.std.proofs.Math.Logic.{⊎_elim}
 use Rattle.std.proofs.lemmas.List.{take-append-drop}
@@ -9,7 +9,7 @@ use Rattle.signal_queue.specs.declared.signal.Signal.{Signal}
 use Rattle.signal_queue.specs.declared.signal.Turn.{Turn}
 use Rattle.signal_queue.specs.declared.signal.Turn.TheVariants.{Popped, Pushed}
 use Rattle.signal_queue.specs.Turns.{AreTurns, popped, pushed, waiting_after}
-use Rattle.signal_queue.proofs.Turns.{legal_first, pushed-append, whole, within_room}
+use Rattle.signal_queue.proofs.Turns.{legal_first, pushed-append, whole}
 use Rattle.run_history.specs.Actions.{also, own}
 use Rattle.run_history.specs.Order.{is_label}
 use Rattle.run_history.specs.Signals.{SignalMove, turns_in}
@@ -31,6 +31,18 @@ pub among_either : {X : Type 0} (x : X) (xs ys : List X) → Among x (xs ++ ys) 
 among_either x [] ys here = inr here
 among_either x (y ∷ xs) ys here =
     ⊎_elim (λ is. inl (inl is)) (λ more. ⊎_elim (λ left. inl (inr left)) inr (among_either x xs ys more)) here
+
+-- what holds of all items holds of each
+pub among_all : {X : Type 0} (P : X → Type 0) (xs : List X) (x : X) → AllByRecursion P xs → Among x xs → P x
+among_all P [] x all here = absurd here
+among_all P (y ∷ xs) x all here = ⊎_elim (λ (is : x ≡ y). subst P (sym is) all.0) (λ more. among_all P xs x all.1 more) here
+
+-- an item, with what stands before it and behind it
+split_among : {X : Type 0} (x : X) (xs : List X) → Among x xs → (before : List X) × (after : List X) × (xs ≡ before ++ x ∷ after)
+split_among x [] here = absurd here
+split_among x (y ∷ xs) here = ⊎_elim
+    (λ (is : x ≡ y). ([], xs, ap (λ z. z ∷ xs) (sym is)))
+    (λ more. let rest = split_among x xs more in (y ∷ rest.0, rest.1, ap (λ zs. y ∷ zs) rest.2)) here
 
 -- what holds of the first so many items holds at their places
 pub at_early : {X : Type 0} (P : X → Type 0) (n p : ℕ) (xs : List X) (x : X) → AllByRecursion P (take n xs) → slice_get xs p ≡ Some x → p < n → P x
@@ -117,6 +129,17 @@ not_in_both x (y ∷ xs) ys are left right = ⊎_elim
     (λ (is : x ≡ y). none_among y (xs ++ ys) are.0 (subst (λ z. Among z (xs ++ ys)) is (among_right x xs ys right)))
     (λ more. not_in_both x xs ys are.1 more right) left
 
+-- signals that differ are no more than those among which they all are
+pub few_among : (xs ys : List Signal) → AreDistinct xs → ((x : Signal) → Among x xs → Among x ys) → length xs ≤ length ys
+few_among [] ys are each = omega arith
+few_among (x ∷ xs) ys are each =
+    let at = split_among x ys (each x (inl refl)) in
+    let rest = few_among xs (at.0 ++ at.1) are.1 (λ z here. ⊎_elim
+    (λ left. among_left z at.0 at.1 left)
+    (λ right. ⊎_elim (λ (is : z ≡ x). absurd (none_among x xs are.0 (subst (λ y. Among y xs) is here))) (λ more. among_right z at.0 at.1 more) right)
+    (among_either z at.0 (x ∷ at.1) (subst (Among z) at.2 (each z (inr here))))) in
+    omega (arith, rest, ap length at.2, length-append at.0 (x ∷ at.1), length-append at.0 at.1)
+
 -- where a signal stands once, the same stand before it
 pub same_before : (y : Signal) (xs after us rest : List Signal) → AreDistinct (xs ++ y ∷ after) → xs ++ y ∷ after ≡ us ++ y ∷ rest → xs ≡ us
 same_before y [] after [] rest are same = refl
@@ -153,16 +176,18 @@ is_popped x [] here = absurd here
 is_popped x (Popped y ∷ ts) here = ⊎_elim (λ (is : Popped x ≡ Popped y). inl cc) (λ more. inr (is_popped x ts more)) here
 is_popped x (Pushed y ∷ ts) here = ⊎_elim (λ (is : Popped x ≡ Pushed y). absurd (cc)) (λ more. is_popped x ts more) here
 
-legal_at : (room n : ℕ) (ts : List Turn) → AreTurns room [] ts → AreTurns room [] (take n ts)
-legal_at room n ts are = legal_first room [] (take n ts) (drop n ts) (subst (AreTurns room []) (sym (take-append-drop n ts)) are)
-
 -- law: what was pushed in the first so many turns is what was popped in them, and what waits then
 pub whole_at : (room n : ℕ) (ts : List Turn) → AreTurns room [] ts → pushed (take n ts) ≡ popped (take n ts) ++ waiting_after [] (take n ts)
-whole_at room n ts are = whole room [] (take n ts) (legal_at room n ts are)
+whole_at room n ts are =
+    whole room [] (take n ts) (legal_first room [] (take n ts) (drop n ts) (subst (AreTurns room []) (sym (take-append-drop n ts)) are))
 
--- law: and no more wait than there is room for
-pub within_at : (room n : ℕ) (ts : List Turn) → AreTurns room [] ts → length (waiting_after [] (take n ts)) ≤ room
-within_at room n ts are = within_room room [] (take n ts) (omega arith) (legal_at room n ts are)
+-- law: a push finds room
+pub room_found : (room : ℕ) (waiting : List Signal) (before after : List Turn) (s : Signal) → AreTurns room waiting (before ++ Pushed s ∷ after)
+    → length (waiting_after waiting before) < room
+room_found room waiting [] after s are = are.0
+room_found room waiting (Pushed t ∷ before) after s are = room_found room (waiting ++ t ∷ []) before after s are.1
+room_found room [] (Popped t ∷ before) after s are = absurd are
+room_found room (w ∷ waiting) (Popped t ∷ before) after s are = room_found room waiting before after s are.1
 
 -- law: where all pushes differ, so do those of the first so many turns
 pub distinct_first : (n : ℕ) (ts : List Turn) → AreDistinct (pushed ts) → AreDistinct (pushed (take n ts))

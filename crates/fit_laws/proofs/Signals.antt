@@ -38,8 +38,8 @@ use Rattle.run_history.proofs.Labels.{label_itself, same_label}
 use Rattle.run_history.proofs.Lists.{all_at, at_map}
 use Rattle.fit_laws.specs.Signals.{AreDistinct, FoundFull, IsAnswer, IsCounted, IsNamedBy, IsOverflow, NamedBefore, NamedNoLater, Names, Sent, SentBefore, SentNoLater}
 use Rattle.fit_laws.proofs.ObjectOrder.{objects_called}
-use Rattle.fit_laws.proofs.EachTimer.{not_before_itself, ordered, true_at}
-use Rattle.fit_laws.proofs.SignalLists.{HasTurn, HasTurnAt, among_either, among_left, among_numbered, among_right, among_things, at_early, at_late, distinct_first, distinct_left, distinct_right, each_among, first_turn, is_popped, is_pushed, none_among, none_from, not_in_both, one_later, own_line, popped_is, popped_once, pushed_is, same_before, split_first, split_turns, turn_among, turn_first, whole_at}
+use Rattle.fit_laws.proofs.EachTimer.{not_before_itself, ordered, true_at, within_at}
+use Rattle.fit_laws.proofs.SignalLists.{HasTurn, HasTurnAt, among_all, among_either, among_left, among_numbered, among_right, among_things, at_early, at_late, distinct_first, distinct_left, distinct_right, each_among, few_among, first_turn, is_popped, is_pushed, none_among, none_from, not_in_both, one_later, own_line, popped_is, popped_once, pushed_is, room_found, same_before, split_first, split_turns, turn_among, turn_first, whole_at}
 
 -- a push's or pop's call, and it by itself; the same of an object's line
 abbrev label_of : SignalMove → Label
@@ -494,6 +494,18 @@ module _ (w : Witness) (f : FitsIn w) where
         (popped_is x (take n turns) (subst (Among x) all (sent_early sent.0 x sent.1 sent.2))) in
         (t.call, pop_names t.place t.call x t.at, early_call t.place t.call (Popped x) t.at t.early)
 
+    -- law: a signal that was sent before, and isn't named by then, waits
+    pub left_waits : (x : Signal) → SentBefore w.script w.run c x × (NamedNoLater w.script w.run c x → ⊥) → Among x (waiting_at w.signals n)
+    left_waits x left =
+        let sent = left.0 in
+        ⊎_elim
+        (λ gone.
+        let t = turn_first w.signals n (Popped x) (popped_is x (take n turns) gone) in
+        absurd (left.1 (t.call, pop_names t.place t.call x t.at, early_call t.place t.call (Popped x) t.at t.early)))
+        (λ waits. waits)
+        (among_either x (popped (take n turns)) (waiting_after [] (take n turns))
+        (subst (Among x) (whole_at most_signals n turns f.signals.legal) (sent_early sent.0 x sent.1 sent.2)))
+
     -- law: each signal that waits was sent, and isn't named before
     pub waiting_sent : AllByRecursion (λ x. SentNoLater w.script w.run c x × (NamedBefore w.script w.run c x → ⊥)) (waiting_at w.signals n)
     waiting_sent = each_among _ (waiting_at w.signals n) (λ x here. (sent_there x here, λ named. not_named x here named))
@@ -518,6 +530,18 @@ module _ (w : Witness) (f : FitsIn w) where
     pub waiting_once : AreDistinct (waiting_at w.signals n)
     waiting_once = distinct_right (popped (take n turns)) (waiting_after [] (take n turns))
         (subst AreDistinct (whole_at most_signals n turns f.signals.legal) (distinct_first n turns all_once))
+
+  -- law: a signal that was sent found room beside those that were sent before and not named by then
+  pub sent_with_room : (c : Label) (y : Signal) → Sent w.script w.run c y → (xs : List Signal) → AreDistinct xs
+      → AllByRecursion (λ x. SentBefore w.script w.run c x × (NamedNoLater w.script w.run c x → ⊥)) xs → length xs < most_signals
+  sent_with_room c y sent xs are left =
+      let push = sent_push c y sent in
+      let n = push.0 in
+      let within = within_at w.script c (signal_labels w.signals) n f.signals.order (label_there n c (Pushed y) push.1) in
+      let room = room_found most_signals [] (take n turns) (drop (suc n) turns) y
+      (subst (AreTurns most_signals []) (split_turns w.signals n c (Pushed y) push.1) f.signals.legal) in
+      let few = few_among xs (waiting_at w.signals n) are (λ x here. left_waits c n within x (among_all _ xs x left here)) in
+      omega (arith, room, few)
 
   -- law: of two signals that were pushed one after the other the first was popped where the second was, before that
   pub popped_in_turn : (p v : ℕ) (b c : Label) (x y : Signal) → HasTurnAt w.signals p b (Pushed x) → HasTurnAt w.signals v c (Popped y)
@@ -619,6 +643,11 @@ found_empty s r (moves, signals, traces, fits) c at =
     let t = traces c in
     let saw = none_told w c t.first t.last t.at a.call t.fired t.moved t.actions a.fits.does a.fits.holds in
     none_left w fits c saw.number saw.within saw.waiting
+
+-- law: a signal that was sent found room
+pub found_room : (s : Script) (r : RunRecord) → Fits s r → (c : Label) (y : Signal) → Sent s r c y → (xs : List Signal) → AreDistinct xs
+    → AllByRecursion (λ x. SentBefore s r c x × (NamedNoLater s r c x → ⊥)) xs → length xs < most_signals
+found_room s r (moves, signals, traces, fits) = sent_with_room (witness_with s r moves signals traces) fits
 
 -- law: where no room is found, as many wait as may
 pub found_full : (s : Script) (r : RunRecord) → Fits s r → (c : Label) → FoundFull r c → (xs : List Signal) × (length xs ≡ most_signals) × AreDistinct xs

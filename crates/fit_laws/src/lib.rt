@@ -14,7 +14,7 @@ ghost use Rattle.record_text.specs.declared.record.RunRecord.{RunRecord};
 ghost use Rattle.run_history.specs.Fits.{Fits, FitsIn};
 ghost use Rattle.run_history.specs.Objects.{object_labels};
 ghost use Rattle.run_history.specs.Order.{IsInOrder, IsLabel};
-ghost use Rattle.run_history.specs.Signals.{most_signals, waiting_at};
+ghost use Rattle.run_history.specs.Signals.{most_signals};
 ghost use Rattle.run_history.specs.Truths.{HadEntries};
 ghost use Rattle.run_history.specs.Witnesses.{Witness};
 ghost use Rattle.fit_laws.specs.EachTimer.{HasTimers};
@@ -92,9 +92,11 @@ pub fn a_queue_that_was_found_empty_had_no_signal_that_was_sent_before()
         → NamedNoLater s r c x }
 {}
 
-/// In a record that fits no more signals wait than may, after however many pushes and pops.
-pub fn no_more_signals_wait_than_may()
-    ensures { (w : Witness) → FitsIn w → (n : ℕ) → length (waiting_at w.signals n) ≤ most_signals }
+/// In a record that fits an expiry that counted found room for its signal: of the signals that were sent by calls that were over before, fewer than may wait are
+/// not named by a call that didn't begin only after this one was over.
+pub fn a_signal_that_was_sent_found_room()
+    ensures { (s : Script) (r : RunRecord) → Fits s r → (c : Label) (y : Signal) → Sent s r c y → (xs : List Signal) → AreDistinct xs
+        → AllByRecursion (λ x. SentBefore s r c x × (NamedNoLater s r c x → ⊥)) xs → length xs < most_signals }
 {}
 
 /// In a record that fits an expiry whose signal found no room did so beside as many others as may wait: each was sent by a call that didn't begin only after

@@ -37,10 +37,10 @@ at_place P (xs ∷ table) all zero k x at = all_at P xs k x all.0 at
 at_place P (xs ∷ table) all (suc i) k x at = at_place P table all.1 i k x at
 
 -- an answer that names no such signal
-abbrev NamesNot : Signal → Answer → Type 0
+abbrev pub NamesNot : Signal → Answer → Type 0
 NamesNot x answer = IsNamedBy answer x → ⊥
 
-unnamed : (r : RunRecord) (x : Signal) → AllByRecursion (AllByRecursion (NamesNot x)) r.answers → (c : Label) → Names r c x → ⊥
+pub unnamed : (r : RunRecord) (x : Signal) → AllByRecursion (AllByRecursion (NamesNot x)) r.answers → (c : Label) → Names r c x → ⊥
 unnamed r x none c named = at_place (NamesNot x) r.answers none c.lane c.call named.0 named.1 named.2
 
 -- a line whose entry is no expiry that counted
@@ -51,7 +51,7 @@ unsent : (s : Script) (r : RunRecord) → AllByRecursion (AllByRecursion CountsN
 unsent s r none c x sent = at_place CountsNot r.objects none x.timer sent.made.before sent.made.line sent.made.there sent.made.such
 
 -- the signal of the second entry of a timer
-abbrev signal_of : ℕ → Signal
+abbrev pub signal_of : ℕ → Signal
 signal_of timer = record { timer = timer; number = 2 }
 
 -- ---- a call is told that no signal waits, and one does

@@ -226,6 +226,12 @@ pub fn no_signal_is_stale_that_stays_pending()
     ensures { Fits wrong.pending_script wrong.pending_record → ⊥ }
 {}
 
+/// No signal is sent while as many wait as may: an expiry then finds no room.
+#[tactic(auto, using(crate::proofs::CrowdedQueue::crowded_doesnt_fit))]
+pub fn no_signal_is_sent_where_as_many_wait_as_may()
+    ensures { Fits wrong.crowded_script wrong.crowded_record → ⊥ }
+{}
+
 /// No signal is accepted whose timer was set anew since, though the timer has expired again and that signal is pending.
 #[tactic(auto, using(crate::proofs::SignalsWrong::outdated_doesnt_fit))]
 pub fn no_signal_is_accepted_whose_timer_was_set_since()

@@ -1,0 +1,116 @@
+-- The record in which 65 signals wait doesn't fit.
+use Rattle.std.proofs.Common.{◌≡◌, ◌≤◌, ◌<◌, ℕ, ◌+◌, zero, suc, true, if◌then◌else◌, nat_lt, List, [], ◌∷◌, ◌++◌, get_or, map, replicate, arith, refl, sym, ap, ◌∙◌, subst}
+use Rattle.std.specs.List.{AllByRecursion, slice_get}
+use Rattle.std.proofs.lemmas.Bool.Decides.{nat_tests}
+use Rattle.record_text.specs.declared.record.Answer.{Answer}
+use Rattle.record_text.specs.declared.record.Answer.TheVariants as answers
+use Rattle.record_text.specs.declared.record.ObjectLine.{ObjectLine}
+use Rattle.ktime.specs.declared.clock_id.ClockId.TheVariants as clocks
+use Rattle.seq_timer.specs.declared.context.Context.TheVariants as contexts
+use Rattle.script_text.specs.declared.script.Callback.TheVariants as callbacks
+use Rattle.script_text.specs.declared.script.Declaration.{Declaration}
+use Rattle.script_text.specs.declared.script.Kind.{Kind}
+use Rattle.script_text.specs.declared.script.Kind.TheVariants as kinds
+use Rattle.script_text.specs.Declarations.{kind_of}
+use Rattle.signal_queue.specs.declared.signal.Signal.{Signal}
+use Rattle.run_history.specs.Fits.{Fits}
+use Rattle.run_history.specs.Objects.{lines_of_object}
+use Rattle.run_history.specs.Signals.{IsQueued}
+use Rattle.fit_laws.specs.Signals.{AreDistinct, NamedNoLater, Sent, SentBefore}
+use Rattle.fit_laws.proofs.Signals.{found_room}
+use Rattle.run_cases.specs.Lines.{at, case_object_line, counted_entry}
+use Rattle.run_cases.specs.Wrong.{crowded_lines, crowded_record, crowded_run, crowded_script, numbers_from}
+use Rattle.run_cases.proofs.SignalsWrong.{NamesNot, signal_of, unnamed}
+
+-- ---- what is made of numbers
+
+plus : (k : ℕ) → k ≡ k + 0
+plus k = omega arith
+
+shift : (k i : ℕ) → k + 1 + i ≡ k + suc i
+shift k i = omega arith
+
+-- what stands at a place is made of its number
+numbered : {X : Type 0} (f : ℕ → X) (d : X) (k n i : ℕ) → i < n → get_or (map f (numbers_from k n)) i d ≡ f (k + i)
+numbered f d k zero i less = absurd (omega (arith, less))
+numbered f d k (suc n) zero less = ap f (plus k)
+numbered f d k (suc n) (suc i) less = numbered f d (k + 1) n i (omega (arith, less)) ∙ ap f (shift k i)
+
+replicated : {X Y Z : Type 0} (g : Y → Z) (f : X → Y) (x : X) (d : Z) (n i : ℕ) → i < n → get_or (map g (map f (replicate n x))) i d ≡ g (f x)
+replicated g f x d zero i less = absurd (omega (arith, less))
+replicated g f x d (suc n) zero less = refl
+replicated g f x d (suc n) (suc i) less = replicated g f x d n i (omega (arith, less))
+
+-- ---- the signals
+
+later_differ : (k j n : ℕ) → k < j → AllByRecursion (λ y. y ≡ signal_of k → ⊥) (map signal_of (numbers_from j n))
+later_differ k j zero less = tt
+later_differ k j (suc n) less =
+    (λ is. absurd (omega (arith, ap (λ (x : Signal). x.timer) is, less)), later_differ k (j + 1) n (omega (arith, less)))
+
+differ : (k n : ℕ) → AreDistinct (map signal_of (numbers_from k n))
+differ k zero = tt
+differ k (suc n) = (later_differ k (k + 1) n (omega arith), differ (k + 1) n)
+
+-- each was sent by the run by which its timer expired
+sent : (i : ℕ) → i < 65 → Sent crowded_script crowded_record (at 0 (crowded_run i)) (signal_of i)
+sent i less = record {
+  queued = subst IsQueued (sym kind) tt;
+  made = record {
+    before = 1;
+    count = refl;
+    line = case_object_line 0 (crowded_run i) (counted_entry 1 1);
+    there = ap (λ (ls : List ObjectLine). slice_get ls 1) lines;
+    label = refl;
+    such = tt;
+  };
+}
+  where
+    kind : kind_of crowded_script i ≡ kinds.Queued 0
+    kind = replicated (λ (d : Declaration). d.kind) (λ (kind : Kind). record { clock = clocks.Monotonic; kind = kind }) (kinds.Queued 0)
+        (kinds.Raw contexts.Hard callbacks.Once) 65 i less
+
+    lines : lines_of_object crowded_record i ≡ crowded_lines i
+    lines = numbered crowded_lines [] 0 65 i less ∙ ap crowded_lines (none i)
+      where
+        none : (n : ℕ) → 0 + n ≡ n
+        none n = omega arith
+
+-- no answer names one
+old_answers : (x : Signal) (k n : ℕ) (rest : List Answer) → AllByRecursion (NamesNot x) rest
+    → AllByRecursion (NamesNot x) (map (λ timer. answers.Old 0 0) (numbers_from k n) ++ rest)
+old_answers x k zero rest all = all
+old_answers x k (suc n) rest all = (λ e. e, old_answers x (k + 1) n rest all)
+
+first_run : (i : ℕ) → i < 64 → crowded_run i ≡ 66
+first_run i less = ap (λ b. if b then 66 else 67) (below i less)
+  where
+    below : (i : ℕ) → i < 64 → nat_lt i 64 ≡ true
+    below i less = grind (arith, nat_tests, less)
+
+-- the signals of the first run are left where the second one begins
+Left : Signal → Type 0
+Left x = SentBefore crowded_script crowded_record (at 0 67) x × (NamedNoLater crowded_script crowded_record (at 0 67) x → ⊥)
+
+left_one : (i : ℕ) → i < 64 → Left (signal_of i)
+unfolding Left
+left_one i less = (
+  (at 0 66, subst (λ n. Sent crowded_script crowded_record (at 0 n) (signal_of i)) (first_run i less) (sent i (omega (arith, less))), refl),
+  λ named. unnamed crowded_record (signal_of i) (
+    old_answers (signal_of i) 0 65
+        (answers.Clock 1 ∷ answers.More 1 (numbers_from 0 64) ∷ answers.Done 1 (64 ∷ []) ∷ []) (λ e. e, (λ e. e, (λ e. e, tt))),
+    tt,
+  ) named.0 named.1,
+)
+
+left_all : (k n : ℕ) → k + n ≤ 64 → AllByRecursion Left (map signal_of (numbers_from k n))
+left_all k zero few = tt
+left_all k (suc n) few = (left_one k (omega (arith, few)), left_all (k + 1) n (omega (arith, few)))
+
+-- law: it does not fit
+pub crowded_doesnt_fit : Fits crowded_script crowded_record → ⊥
+unfolding Left
+crowded_doesnt_fit fits =
+    let room = found_room crowded_script crowded_record fits (at 0 67) (signal_of 64) (sent 64 (omega arith)) (map signal_of (numbers_from 0 64))
+    (differ 0 64) (left_all 0 64 (omega arith)) in
+    absurd (omega (arith, room))
