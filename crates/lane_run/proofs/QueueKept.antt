@@ -1,5 +1,6 @@
 -- What a pass of signals knows stays true in an expiry run that was lent it.
-use Rattle.std.proofs.Common.{ℕ, List, sym, subst, inl, inr}
+use Rattle.std.proofs.Common.{ℕ, List, sym, subst}
+use Rattle.std.proofs.Math.Logic.{⊎_elim}
 use Rattle.std.specs.Prelude.{Bool, true, false}
 use Rattle.ktime.specs.Readings.{ClockReading}
 use Rattle.seq_timer.specs.declared.context.Context.{Context}
@@ -17,7 +18,7 @@ use Rattle.timer_objects.specs.declared.object.Kind.{Kind}
 use Rattle.timer_objects.specs.declared.object.Kind.TheVariants as kinds
 use Rattle.timer_objects.specs.Known.{decl_at}
 use Rattle.timer_objects.specs.QueuedFirings.{FiresKind, QueuedFiring, queued_firing}
-use Rattle.timer_objects.specs.Signals.{FiresQueued, IsSentBy}
+use Rattle.timer_objects.specs.Signals.{IsSentBy}
 
 -- what the pass of signals knows stays true from the one handler to the other
 abbrev pub KnowsStill : QueuedFiring → QueuedFiring → Type 0
@@ -28,15 +29,11 @@ knows_sent true s t id number sent knows = sent.2
 knows_sent false s t id number same knows = subst KnowsQueue (sym same) knows
 
 module _ (o : Opening) (h h' : QueuedFiring) (v w : KnownOfTimers) (c : ClaimNumbers) (reading : ClockReading) (restart : Restart) where
-  knows_queued : FiresQueued h.objects.now h.objects_pass.now h'.objects_pass.now h.object_log.receipts h'.object_log.receipts v w
-      h.signal_pass.now.knows h'.signal_pass.now.knows c.timer c.generation reading → KnowsStill h h'
-  knows_queued (inl sends) knows = knows_sent _ h.signal_pass.now.knows h'.signal_pass.now.knows c.timer _ sends.sent knows
-  knows_queued (inr (inl over)) knows = over.full.1
-  knows_queued (inr (inr skips)) knows = subst KnowsQueue (sym skips.none) knows
-
   knows_kind : (kind : Kind) → FiresKind o h h' v w c reading restart kind → KnowsStill h h'
   knows_kind kinds.Raw by knows = subst (λ (p : PassOfQueue). KnowsQueue p.knows) (sym by.3) knows
-  knows_kind kinds.Queued by knows = knows_queued by.0 knows
+  knows_kind kinds.Queued by knows = ⊎_elim
+      (λ sends. knows_sent _ h.signal_pass.now.knows h'.signal_pass.now.knows c.timer _ sends.sent knows)
+      (λ none. ⊎_elim (λ over. over.full.1) (λ skips. subst KnowsQueue (sym skips.none) knows) none) by.0
   knows_kind kind by knows = subst (λ (p : PassOfQueue). KnowsQueue p.knows) (sym by.4) knows
 
 -- law: so it does in a run
