@@ -92,8 +92,8 @@ pub fn a_queue_that_was_found_empty_had_no_signal_that_was_sent_before()
         → NamedNoLater s r c x }
 {}
 
-/// In a record that fits an expiry that counted found room for its signal: of the signals that were sent by calls that were over before, fewer than may wait are
-/// not named by a call that didn't begin only after this one was over.
+/// In a record that fits an expiry that counted found room for its signal. Take signals that were all sent by calls that were over before it. If each of them is
+/// left, or named only by calls that began after the expiry's call was over, there are fewer of them than may wait.
 pub fn a_signal_that_was_sent_found_room()
     ensures { (s : Script) (r : RunRecord) → Fits s r → (c : Label) (y : Signal) → Sent s r c y → (xs : List Signal) → AreDistinct xs
         → AllByRecursion (λ x. SentBefore s r c x × (NamedNoLater s r c x → ⊥)) xs → length xs < most_signals }

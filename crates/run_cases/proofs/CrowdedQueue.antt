@@ -1,6 +1,6 @@
 -- The record in which 65 signals wait doesn't fit.
 use Rattle.std.proofs.Common.{◌≡◌, ◌≤◌, ◌<◌, ℕ, ◌+◌, zero, suc, true, if◌then◌else◌, nat_lt, List, [], ◌∷◌, ◌++◌, get_or, map, replicate, arith, refl, sym, ap, ◌∙◌, subst}
-use Rattle.std.specs.List.{AllByRecursion, slice_get}
+use Rattle.std.specs.List.{AllByRecursion, range_with_len, slice_get}
 use Rattle.std.proofs.lemmas.Bool.Decides.{nat_tests}
 use Rattle.record_text.specs.declared.record.Answer.{Answer}
 use Rattle.record_text.specs.declared.record.Answer.TheVariants as answers
@@ -19,7 +19,7 @@ use Rattle.run_history.specs.Signals.{IsQueued}
 use Rattle.fit_laws.specs.Signals.{AreDistinct, NamedNoLater, Sent, SentBefore}
 use Rattle.fit_laws.proofs.Signals.{found_room}
 use Rattle.run_cases.specs.Lines.{at, case_object_line, counted_entry}
-use Rattle.run_cases.specs.Wrong.{crowded_lines, crowded_record, crowded_run, crowded_script, numbers_from}
+use Rattle.run_cases.specs.Wrong.{crowded_lines, crowded_record, crowded_run, crowded_script}
 use Rattle.run_cases.proofs.SignalsWrong.{NamesNot, signal_of, unnamed}
 
 -- ---- what is made of numbers
@@ -31,7 +31,7 @@ shift : (k i : ℕ) → k + 1 + i ≡ k + suc i
 shift k i = omega arith
 
 -- what stands at a place is made of its number
-numbered : {X : Type 0} (f : ℕ → X) (d : X) (k n i : ℕ) → i < n → get_or (map f (numbers_from k n)) i d ≡ f (k + i)
+numbered : {X : Type 0} (f : ℕ → X) (d : X) (k n i : ℕ) → i < n → get_or (map f (range_with_len k n)) i d ≡ f (k + i)
 numbered f d k zero i less = absurd (omega (arith, less))
 numbered f d k (suc n) zero less = ap f (plus k)
 numbered f d k (suc n) (suc i) less = numbered f d (k + 1) n i (omega (arith, less)) ∙ ap f (shift k i)
@@ -43,12 +43,12 @@ replicated g f x d (suc n) (suc i) less = replicated g f x d n i (omega (arith, 
 
 -- ---- the signals
 
-later_differ : (k j n : ℕ) → k < j → AllByRecursion (λ y. y ≡ signal_of k → ⊥) (map signal_of (numbers_from j n))
+later_differ : (k j n : ℕ) → k < j → AllByRecursion (λ y. y ≡ signal_of k → ⊥) (map signal_of (range_with_len j n))
 later_differ k j zero less = tt
 later_differ k j (suc n) less =
     (λ is. absurd (omega (arith, ap (λ (x : Signal). x.timer) is, less)), later_differ k (j + 1) n (omega (arith, less)))
 
-differ : (k n : ℕ) → AreDistinct (map signal_of (numbers_from k n))
+differ : (k n : ℕ) → AreDistinct (map signal_of (range_with_len k n))
 differ k zero = tt
 differ k (suc n) = (later_differ k (k + 1) n (omega arith), differ (k + 1) n)
 
@@ -78,7 +78,7 @@ sent i less = record {
 
 -- no answer names one
 old_answers : (x : Signal) (k n : ℕ) (rest : List Answer) → AllByRecursion (NamesNot x) rest
-    → AllByRecursion (NamesNot x) (map (λ timer. answers.Old 0 0) (numbers_from k n) ++ rest)
+    → AllByRecursion (NamesNot x) (map (λ timer. answers.Old 0 0) (range_with_len k n) ++ rest)
 old_answers x k zero rest all = all
 old_answers x k (suc n) rest all = (λ e. e, old_answers x (k + 1) n rest all)
 
@@ -98,12 +98,12 @@ left_one i less = (
   (at 0 66, subst (λ n. Sent crowded_script crowded_record (at 0 n) (signal_of i)) (first_run i less) (sent i (omega (arith, less))), refl),
   λ named. unnamed crowded_record (signal_of i) (
     old_answers (signal_of i) 0 65
-        (answers.Clock 1 ∷ answers.More 1 (numbers_from 0 64) ∷ answers.Done 1 (64 ∷ []) ∷ []) (λ e. e, (λ e. e, (λ e. e, tt))),
+        (answers.Clock 1 ∷ answers.More 1 (range_with_len 0 64) ∷ answers.Done 1 (64 ∷ []) ∷ []) (λ e. e, (λ e. e, (λ e. e, tt))),
     tt,
   ) named.0 named.1,
 )
 
-left_all : (k n : ℕ) → k + n ≤ 64 → AllByRecursion Left (map signal_of (numbers_from k n))
+left_all : (k n : ℕ) → k + n ≤ 64 → AllByRecursion Left (map signal_of (range_with_len k n))
 left_all k zero few = tt
 left_all k (suc n) few = (left_one k (omega (arith, few)), left_all (k + 1) n (omega (arith, few)))
 
@@ -111,6 +111,6 @@ left_all k (suc n) few = (left_one k (omega (arith, few)), left_all (k + 1) n (o
 pub crowded_doesnt_fit : Fits crowded_script crowded_record → ⊥
 unfolding Left
 crowded_doesnt_fit fits =
-    let room = found_room crowded_script crowded_record fits (at 0 67) (signal_of 64) (sent 64 (omega arith)) (map signal_of (numbers_from 0 64))
+    let room = found_room crowded_script crowded_record fits (at 0 67) (signal_of 64) (sent 64 (omega arith)) (map signal_of (range_with_len 0 64))
     (differ 0 64) (left_all 0 64 (omega arith)) in
     absurd (omega (arith, room))

@@ -1,4 +1,5 @@
 -- Scripts, each with a record that doesn't fit it, though each timer's lines by themselves are a history in all but one of them.
+use Rattle.std.specs.List.{range_with_len}
 use Rattle.std.specs.Prelude.{ℕ, zero, suc, ◌+◌, nat_lt, if◌then◌else◌, true, false, List, [], ◌∷◌, ◌++◌, map}
 use Rattle.ktime.specs.declared.mode.Mode.TheVariants as modes
 use Rattle.clock_model.specs.declared.write.Write.TheVariants as writes
@@ -396,14 +397,9 @@ pending_record = record (object_record (advance_line 0 1 100 ∷ []) (claimed_by
 
 -- ---- of 65 timers that expire, with no signal taken, the last one's expiry counts too: its signal finds room
 
--- so many numbers from one on
-abbrev pub numbers_from : ℕ → ℕ → List ℕ
-numbers_from start zero = []
-numbers_from start (suc n) = start ∷ numbers_from (start + 1) n
-
 -- the script
 abbrev pub crowded_script : Script
-crowded_script = queued_script 65 (map (λ timer. settime_of timer 100) (numbers_from 0 65)
+crowded_script = queued_script 65 (map (λ timer. settime_of timer 100) (range_with_len 0 65)
     ++ calls.Clock (writes.Advance 100) ∷ hard_expire 0 64 ∷ hard_expire 0 4 ∷ [])
 
 -- the run by which a timer expires
@@ -417,9 +413,9 @@ crowded_lines timer = case_object_line 0 timer (set_entry_of 100 0 1 0) ∷ case
 -- a record that breaks it
 abbrev pub crowded_record : RunRecord
 crowded_record = queued_record (advance_line 0 65 100 ∷ [])
-    (map (λ timer. claimed_by timer 100 0 (crowded_run timer) 1) (numbers_from 0 65)) (map crowded_lines (numbers_from 0 65))
-    (map (λ timer. answers.Old 0 0) (numbers_from 0 65)
-    ++ answers.Clock 1 ∷ answers.More 1 (numbers_from 0 64) ∷ answers.Done 1 (64 ∷ []) ∷ [])
+    (map (λ timer. claimed_by timer 100 0 (crowded_run timer) 1) (range_with_len 0 65)) (map crowded_lines (range_with_len 0 65))
+    (map (λ timer. answers.Old 0 0) (range_with_len 0 65)
+    ++ answers.Clock 1 ∷ answers.More 1 (range_with_len 0 64) ∷ answers.Done 1 (64 ∷ []) ∷ [])
 
 -- ---- a signal is accepted whose timer was set anew since, and expired again
 
