@@ -7,7 +7,7 @@ top=$(cd "$(dirname "$0")/.." && pwd)
 program=${1:-$top/crates/hrt_app/out/hrt_app}
 echo "$(nproc) processors, load $(cut -d' ' -f1 /proc/loadavg)"
 python3 - "$program" "${ROUNDS:-21}" <<'PY'
-import statistics, subprocess, sys, time
+import os, statistics, subprocess, sys, time
 
 program, rounds = sys.argv[1], int(sys.argv[2])
 BASES, CALLS = 8, 8192
@@ -63,4 +63,10 @@ for name, each in times.items():
     print(f"{BASES * CALLS} calls, {name:5} lane{'s' if name == 'eight' else ' '}: {middle:.1f} ms (middle half {low:.1f} to {high:.1f})")
 print(f"eight beside one: {statistics.median(times['eight']) / statistics.median(times['one']):.2f}")
 print(f"4096 rounds of 8 lanes: {statistics.median([taken(many_rounds()) for _ in range(3)]):.0f} ms")
+busy = [subprocess.Popen(["sh", "-c", "while :; do :; done"]) for _ in range(2 * os.cpu_count())]
+try:
+    print(f"beside {len(busy)} busy loops: {statistics.median([taken(many_rounds()) for _ in range(3)]):.0f} ms")
+finally:
+    for loop in busy:
+        loop.kill()
 PY

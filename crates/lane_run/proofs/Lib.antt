@@ -11,4 +11,5 @@ pub mod Taking
 pub mod Splitting
 pub mod Ranges
 pub mod RunFits
+pub mod Crewing
 pub mod Greatest

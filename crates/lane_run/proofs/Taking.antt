@@ -3,9 +3,11 @@ use Rattle.std.proofs.Common.{length, length-append, get_or, ℕ, ◌≡◌, ◌
 use Rattle.std.specs.Prelude.{All, Some}
 use Rattle.std.proofs.lemmas.List.Elements.{All-cons, All-pop}
 use Rattle.lane_run.proofs.Mains.{main_takes}
+use mathlib.Core.Logic.{dite}
+use native.Mathlib.Decide.{ℕ_discrete}
 use Rattle.std.proofs.Math.ListN.{get_or-append}
 use Rattle.std.proofs.Math.Seq.{get_or-append_seam}
-use Rattle.std.proofs.lemmas.List.{append-nil, append_assoc}
+use Rattle.std.proofs.lemmas.List.{append-nil, append_assoc, get_or_default}
 use Rattle.script_text.specs.declared.script.Round.{Round}
 use Rattle.lane_world.specs.declared.Lane.{Lane}
 use Rattle.lane_world.specs.declared.WorldPass.{WorldPass}
@@ -54,23 +56,61 @@ takes_one {x} {lanes = lanes} {m = m} {n = n} lane so_far pop pass takes count q
       };
     }
 
--- ---- lanes beside the first
+-- ---- lists whose elements go with those of another list
+
+module _ {A B : Type 0} (R : A → B → Type 0) where
+  -- what holds of each element and that of the same handoff holds of the last ones, and of those before
+  pub beside_pop : (xs : List A) (ys : List B) (x : A) (y : B) {old : List A} {new : List B} → old ≡ xs ++ x ∷ [] → new ≡ ys ++ y ∷ [] → length new ≡ length old
+      → ((k : ℕ) (d : A) (e : B) → k < length old → R (get_or old k d) (get_or new k e))
+      → R x y × (length ys ≡ length xs) × ((k : ℕ) (d : A) (e : B) → k < length xs → R (get_or xs k d) (get_or ys k e))
+  beside_pop xs ys x y {old} {new} was is many each =
+      let before : length old ≡ length xs + 1 = ap length was ∙ length-append xs (x ∷ []) in
+      let after : length new ≡ length ys + 1 = ap length is ∙ length-append ys (y ∷ []) in
+      let same : length ys ≡ length xs = omega (arith, before, after, many) in
+      let one : get_or old (length xs) x ≡ x = ap (λ zs. get_or zs (length xs) x) was ∙ get_or-append_seam xs x [] x in
+      let two : get_or new (length xs) y ≡ y = ap (λ zs. get_or zs (length xs) y) is ∙ ap (λ n. get_or (ys ++ y ∷ []) n y) (sym same) ∙ get_or-append_seam ys y [] y in (
+        subst (R x) two (subst (λ z. R z (get_or new (length xs) y)) one (each (length xs) x y (omega (arith, before)))),
+        same,
+        λ k d e h. subst (R (get_or xs k d)) (ap (λ zs. get_or zs k e) is ∙ get_or-append ys (y ∷ []) e k (omega (arith, h, same)))
+            (subst (λ z. R z (get_or new k e)) (ap (λ zs. get_or zs k d) was ∙ get_or-append xs (x ∷ []) d k h) (each k d e (omega (arith, h, before)))),
+      )
+
+  -- and the other way round
+  pub beside_push : (xs : List A) (ys : List B) (x : A) (y : B) {old : List A} {new : List B} → old ≡ xs ++ x ∷ [] → new ≡ ys ++ y ∷ [] → length ys ≡ length xs
+      → ((k : ℕ) (d : A) (e : B) → k < length xs → R (get_or xs k d) (get_or ys k e)) → R x y
+      → (length new ≡ length old) × ((k : ℕ) (d : A) (e : B) → k < length old → R (get_or old k d) (get_or new k e))
+  beside_push xs ys x y {old} {new} was is same each last =
+      let before : length old ≡ length xs + 1 = ap length was ∙ length-append xs (x ∷ []) in
+      let after : length new ≡ length ys + 1 = ap length is ∙ length-append ys (y ∷ []) in (
+        omega (arith, before, after, same),
+        λ k d e h. dite (ℕ_discrete k (length xs))
+            (λ at. subst (λ n. R (get_or old n d) (get_or new n e)) (sym at)
+            (subst (λ z. R z (get_or new (length xs) e)) (sym (ap (λ zs. get_or zs (length xs) d) was ∙ get_or-append_seam xs x [] d))
+            (subst (R x) (sym (ap (λ zs. get_or zs (length xs) e) is ∙ ap (λ n. get_or (ys ++ y ∷ []) n e) (sym same) ∙ get_or-append_seam ys y [] e)) last)))
+            (λ off. let within : k < length xs = omega (arith, h, before, off) in
+            subst (λ z. R z (get_or new k e)) (sym (ap (λ zs. get_or zs k d) was ∙ get_or-append xs (x ∷ []) d k within))
+            (subst (R (get_or xs k d)) (sym (ap (λ zs. get_or zs k e) is ∙ get_or-append ys (y ∷ []) e k (omega (arith, within, same)))) (each k d e within))),
+      )
+
+-- ---- lanes beside others
 
 -- law: what holds of each lane of two lists holds of their last ones, and of those before
 pub ran_apart : (R : Lane → Lane → Type 0) (xs ys : List Lane) (x y : Lane) {old new : List Lane} → old ≡ xs ++ x ∷ [] → new ≡ ys ++ y ∷ []
     → length new ≡ length old → ((k : ℕ) (d : Lane) → k < length old → R (get_or old k d) (get_or new k d))
     → R x y × (length ys ≡ length xs) × ((k : ℕ) (d : Lane) → k < length xs → R (get_or xs k d) (get_or ys k d))
 ran_apart R xs ys x y {old} {new} was is many ran =
-    let before : length old ≡ length xs + 1 = ap length was ∙ length-append xs (x ∷ []) in
-    let after : length new ≡ length ys + 1 = ap length is ∙ length-append ys (y ∷ []) in
-    let same : length ys ≡ length xs = omega (arith, before, after, many) in
-    let one : get_or old (length xs) x ≡ x = ap (λ zs. get_or zs (length xs) x) was ∙ get_or-append_seam xs x [] x in
-    let two : get_or new (length xs) x ≡ y = ap (λ zs. get_or zs (length xs) x) is ∙ ap (λ n. get_or (ys ++ y ∷ []) n x) (sym same) ∙ get_or-append_seam ys y [] x in (
-      subst (R x) two (subst (λ z. R z (get_or new (length xs) x)) one (ran (length xs) x (omega (arith, before)))),
-      same,
-      λ k d h. subst (R (get_or xs k d)) (ap (λ zs. get_or zs k d) is ∙ get_or-append ys (y ∷ []) d k (omega (arith, h, same)))
-          (subst (λ z. R z (get_or new k d)) (ap (λ zs. get_or zs k d) was ∙ get_or-append xs (x ∷ []) d k h) (ran k d (omega (arith, h, before)))),
-    )
+    let apart = beside_pop R xs ys x y was is many
+    (λ k d e h. subst (R (get_or old k d)) (get_or_default new k d e (omega (arith, h, many))) (ran k d h)) in
+    (apart.0, apart.1, λ k d h. apart.2 k d d h)
+
+-- law: and the other way round
+pub ran_beside : (R : Lane → Lane → Type 0) (xs ys : List Lane) (x y : Lane) {old new : List Lane} → old ≡ xs ++ x ∷ [] → new ≡ ys ++ y ∷ []
+    → length ys ≡ length xs → ((k : ℕ) (d : Lane) → k < length xs → R (get_or xs k d) (get_or ys k d)) → R x y
+    → (length new ≡ length old) × ((k : ℕ) (d : Lane) → k < length old → R (get_or old k d) (get_or new k d))
+ran_beside R xs ys x y was is same each last =
+    let beside = beside_push R xs ys x y was is same
+    (λ k d e h. subst (R (get_or xs k d)) (get_or_default ys k d e (omega (arith, h, same))) (each k d h)) last in
+    (beside.0, λ k d h. beside.1 k d d h)
 
 -- ---- rounds
 

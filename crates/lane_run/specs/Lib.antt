@@ -1,2 +1,3 @@
 pub use Rattle.lane_world.specs.Worlds
 pub use Rattle.lane_world.specs.Runs
+pub mod Crews

@@ -8,6 +8,7 @@ pub use running::run;
 pub use world::World;
 
 mod base_calls;
+mod crew;
 mod expiring;
 mod gate;
 mod lane;

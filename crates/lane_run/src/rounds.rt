@@ -1,14 +1,15 @@
 //! A round: its lanes get passes of their own, run beside each other, and are taken in again.
-ghost use Rattle.std.specs.Prelude.{◌≡◌, ◌≤◌, ◌<◌, ◌-◌, ℕ, [], ◌++◌, false, All, OnOk, get_or, length, map, vec_capacity, vec_len};
+ghost use Rattle.std.specs.Prelude.{◌≡◌, ◌≤◌, ◌<◌, ◌+◌, ◌-◌, ℕ, [], ◌++◌, false, All, OnOk, get_or, length, map, option_to_list, vec_capacity, vec_len};
 ghost use Rattle.std.specs.List.{AllByRecursion};
 ghost use Rattle.lane_notes.specs.Notes.{no_notes};
 ghost use Rattle.lane_world.specs.declared.Lane.{Lane};
 ghost use Rattle.lane_world.specs.Rounds.{BeginsRound, CanRun, HasSplit, IsLaneOf, IsMain, MakesRound, RunsLane, TakesInLanes, TakesInPass, as_index, calling_from, has_calls, with_lane, with_left};
 ghost use Rattle.lane_world.specs.Called.{CanCall};
 ghost use Rattle.lane_world.specs.Worlds.{AnswerFor, ArePassesOf};
+ghost use Rattle.lane_run.specs.Crews.{AreIdle, IsRoundOf};
 
+use crate::crew::{Ground, LaneHandoff, LaneRound, LaneSeat, run_lane};
 use crate::gate::Gate;
-use crate::lane::make_calls;
 use crate::world::World;
 use lane_notes::Notes;
 use lane_world::{Lane, WorldPass};
@@ -43,12 +44,21 @@ pub(crate) fn make_round<R: Threads + Wait + Sync, G: Gate>(
     world: &World,
     main: WorldPass,
     gate: &G,
+    ground: &Ground,
+    number: usize,
     round: &Round,
+    handoffs: &Vec<LaneHandoff>,
+    givers: &mut Vec<LaneSeat>,
     left: &mut Left,
 ) -> (WorldPass, Result<(), AllocError>)
+    requires ground { ground.now.world.value ≡ world.now }
+    requires here { IsRoundOf ground.now number round.now }
+    requires givers { AreIdle ground.now handoffs.now.items givers.old.items }
     requires main { IsMain world.now main [] }
     requires calls { AllByRecursion (λ c. CanCall world.now c.lane c.call) round.now.calls }
     requires few { (0 < length left.old.answers) × (length left.old.answers ≤ 64) }
+    ensures givers { AreIdle ground.now handoffs.now.items givers.new.items }
+    ensures givers_many { length givers.new.items ≡ length givers.old.items }
     ensures main { IsMain world.now result.0 [] }
     ensures lanes { length left.new.answers ≡ length left.old.answers }
     ensures round { OnOk result.1 (MakesRound world.now round.now main left.old result.0 left.new) }
@@ -61,7 +71,9 @@ pub(crate) fn make_round<R: Threads + Wait + Sync, G: Gate>(
     let mut main = main;
     split_lanes(alloc, world, &mut main, round, left, &mut lanes);
     let first = new_lane(alloc, label_of(0, left.answers[0].as_slice()), main);
-    let first = run_lanes(rt, alloc, world, gate, round, first, &mut lanes);
+    let first = share_lanes(
+        rt, alloc, world, gate, ground, number, round, handoffs, givers, first, &mut lanes,
+    );
     take_in_all(rt, world, first, lanes, left)
 }
 
@@ -124,6 +136,76 @@ fn has_calls(round: &Round, lane: u32) -> bool
     round.calls.as_slice().iter().any(|line| line.lane == lane)
 }
 
+/// Runs the lanes, each by a worker while there is one for it and the others on threads of this round, and gives the first one back.
+fn share_lanes<R: Threads + Wait + Sync, G: Gate>(
+    rt: &R,
+    alloc: Global,
+    world: &World,
+    gate: &G,
+    ground: &Ground,
+    number: usize,
+    round: &Round,
+    handoffs: &Vec<LaneHandoff>,
+    givers: &mut Vec<LaneSeat>,
+    first: Lane,
+    lanes: &mut Vec<Lane>,
+) -> Lane
+    requires ground { ground.now.world.value ≡ world.now }
+    requires here { IsRoundOf ground.now number round.now }
+    requires givers { AreIdle ground.now handoffs.now.items givers.old.items }
+    requires calls { AllByRecursion (λ c. CanCall world.now c.lane c.call) round.now.calls }
+    requires first { CanRun world.now first }
+    requires lanes { All (λ l. CanRun world.now l) lanes.old.items }
+    requires room { vec_len lanes.old < vec_capacity lanes.old }
+    ensures givers { AreIdle ground.now handoffs.now.items givers.new.items }
+    ensures givers_many { length givers.new.items ≡ length givers.old.items }
+    ensures givers_room { (vec_len givers.new ≡ vec_len givers.old) × (vec_capacity givers.new ≡ vec_capacity givers.old) }
+    ensures room { vec_capacity lanes.new ≡ vec_capacity lanes.old }
+    ensures first { RunsLane world.now round.now first result }
+    ensures as_many { length lanes.new.items ≡ length lanes.old.items }
+    ensures ran { (k : ℕ) (d : Lane) → k < length lanes.old.items → RunsLane world.now round.now (get_or lanes.old.items k d) (get_or lanes.new.items k d) }
+{
+    let Some(mut giver) = givers.pop() else {
+        return run_lanes(rt, alloc, world, gate, round, first, lanes);
+    };
+    let handoff = &handoffs[givers.len()];
+    let first = match pop_for(rt, handoff, lanes) {
+        None => share_lanes(
+            rt, alloc, world, gate, ground, number, round, handoffs, givers, first, lanes,
+        ),
+        Some(lane) => {
+            handoff.give(
+                &mut giver,
+                LaneRound {
+                    lane,
+                    round: number,
+                },
+            );
+            let first = share_lanes(
+                rt, alloc, world, gate, ground, number, round, handoffs, givers, first, lanes,
+            );
+            let LaneRound { lane, round: _ } = handoff.take_back(rt, &mut giver);
+            lanes.push_reserved(lane);
+            first
+        }
+    };
+    givers.push_reserved(giver);
+    first
+}
+
+/// The last lane, where there is a worker for it.
+fn pop_for<R: Wait>(rt: &R, handoff: &LaneHandoff, lanes: &mut Vec<Lane>) -> Option<Lane>
+    ensures items { lanes.old.items ≡ lanes.new.items ++ option_to_list result }
+    ensures len { vec_len lanes.new + length (option_to_list result) ≡ vec_len lanes.old }
+    ensures capacity { vec_capacity lanes.new ≡ vec_capacity lanes.old }
+{
+    if !lanes.is_empty() && handoff.has_worker(rt) {
+        lanes.pop()
+    } else {
+        None
+    }
+}
+
 /// Runs the lanes, and gives the first one back. One lane alone runs on this thread.
 fn run_lanes<R: Threads + Wait + Sync, G: Gate>(
     rt: &R,
@@ -138,6 +220,7 @@ fn run_lanes<R: Threads + Wait + Sync, G: Gate>(
     requires first { CanRun world.now first }
     requires lanes { All (λ l. CanRun world.now l) lanes.old.items }
     requires room { vec_len lanes.old < vec_capacity lanes.old }
+    ensures room { vec_capacity lanes.new ≡ vec_capacity lanes.old }
     ensures first { RunsLane world.now round.now first result }
     ensures as_many { length lanes.new.items ≡ length lanes.old.items }
     ensures ran { (k : ℕ) (d : Lane) → k < length lanes.old.items → RunsLane world.now round.now (get_or lanes.old.items k d) (get_or lanes.new.items k d) }
@@ -161,6 +244,7 @@ fn run_all<R: Threads + Wait + Sync, G: Gate>(
 )
     requires calls { AllByRecursion (λ c. CanCall world.now c.lane c.call) round.now.calls }
     requires lanes { All (λ l. CanRun world.now l) lanes.old.items }
+    ensures room { vec_capacity lanes.new ≡ vec_capacity lanes.old }
     ensures as_many { length lanes.new.items ≡ length lanes.old.items }
     ensures ran { (k : ℕ) (d : Lane) → k < length lanes.old.items → RunsLane world.now round.now (get_or lanes.old.items k d) (get_or lanes.new.items k d) }
 {
@@ -174,22 +258,6 @@ fn run_all<R: Threads + Wait + Sync, G: Gate>(
             requires calls { AllByRecursion (λ c. CanCall world.now c.lane c.call) round.now.calls }
         { run_lane(rt, alloc, world, gate, round, lane) },
     );
-}
-
-/// Runs one lane.
-fn run_lane<R: Wait, G: Gate>(
-    rt: &R,
-    alloc: Global,
-    world: &World,
-    gate: &G,
-    round: &Round,
-    lane: &mut Lane,
-)
-    requires lane { CanRun world.now lane.old }
-    requires calls { AllByRecursion (λ c. CanCall world.now c.lane c.call) round.now.calls }
-    ensures ran { RunsLane world.now round.now lane.old lane.new }
-{
-    make_calls(rt, alloc, world, gate, round, lane);
 }
 
 /// Takes all lanes' passes into those of the first lane, with what they leave. It fails where one wants memory, or there is none for what they leave.

@@ -12,10 +12,10 @@ use Rattle.lane_run.proofs.rounds.make_round.Goals as goal
 pub take_in_all-requires-clause-main : goal.take_in_all-requires-clause-main
 take_in_all-requires-clause-main g c =
     let same = c.new_lane-first.ensures.fields.1 in
-    let ran = c.run_lanes-first.ensures.first in
-    main_ran c.split_lanes.new.lanes.items c.run_lanes-first.new.lanes.items ran.pass
-    (subst (λ (p : WorldPass). KeepPasses p c.run_lanes-first.result.pass) same ran.keeps) c.run_lanes-first.ensures.as_many
-    (λ k d h. (c.run_lanes-first.ensures.ran k d h).keeps) c.split_lanes.ensures.main
+    let ran = c.share_lanes-first.ensures.first in
+    main_ran c.split_lanes.new.lanes.items c.share_lanes-first.new.lanes.items ran.pass
+    (subst (λ (p : WorldPass). KeepPasses p c.share_lanes-first.result.pass) same ran.keeps) c.share_lanes-first.ensures.as_many
+    (λ k d h. (c.share_lanes-first.ensures.ran k d h).keeps) c.split_lanes.ensures.main
 
 pub returns-clause-round : goal.returns-clause-round
 returns-clause-round g c =
@@ -25,12 +25,12 @@ returns-clause-round g c =
     let label : c.label_of.result ≡ record { lane = 0; call = as_index (length (get_or left.answers 0 [])) } =
     c.label_of.ensures ∙ ap (λ (xs : List Answer). record { lane = 0; call = as_index (length xs) }) (c.as_slice.ensures ∙ c.index.ensures
     ∙ ap (λ (l : LeftOf). get_or l.answers 0 c.index.result.now) c.left.view_is ∙ get_or_default left.answers 0 c.index.result.now [] c.requires.few.0) in
-    let ended = c.run_lanes-first.new.lanes.items in
-    let many = c.run_lanes-first.ensures.as_many in
-    let first_ran = c.run_lanes-first.ensures.first in
+    let ended = c.share_lanes-first.new.lanes.items in
+    let many = c.share_lanes-first.ensures.as_many in
+    let first_ran = c.share_lanes-first.ensures.first in
     on_both c.take_in_all.result.1 c.take_in_all.ensures.memory c.take_in_all.ensures.taken (λ quiet taken. record {
       first = first;
-      after = c.run_lanes-first.result;
+      after = c.share_lanes-first.result;
       leads = record {
         label = c.new_lane-first.ensures.fields.0 ∙ label;
         of = subst (ArePassesOf c.args.world.now) (sym same) c.split_lanes.ensures.main.pass;
@@ -45,6 +45,6 @@ returns-clause-round g c =
       begins = c.split_lanes.ensures.begins;
       of = c.split_lanes.ensures.lanes;
       as_many = many;
-      made = λ k d h. (c.run_lanes-first.ensures.ran k d h).made (quiet.1 k d (subst (λ n. k < n) (sym many) h));
+      made = λ k d h. (c.share_lanes-first.ensures.ran k d h).made (quiet.1 k d (subst (λ n. k < n) (sym many) h));
       taken = taken;
     })
