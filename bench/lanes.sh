@@ -1,7 +1,7 @@
 #!/usr/bin/env bash
 # Runs one script of 65536 calls on 8 bases twice: all calls in one lane, and each base's calls in a lane of its own, in one round. The
-# two run in turn, ROUNDS times each (21 if it isn't set). Then 4096 rounds of 8 lanes with a call each, and 512 such rounds beside two busy
-# loops a processor. It prints the medians. The program is the one that is handed in (default: the proved one that `rt run` left in
+# two run in turn, ROUNDS times each (21 if it isn't set). Then 4096 rounds of 8 lanes with a call each, by themselves and beside two busy loops a
+# processor. It prints the medians. The program is the one that is handed in (default: the proved one that `rt run` left in
 # crates/hrt_app/out). Outside the gate.
 set -eu
 top=$(cd "$(dirname "$0")/.." && pwd)
@@ -63,10 +63,11 @@ for name, each in times.items():
     low, middle, high = statistics.quantiles(each, n=4)
     print(f"{BASES * CALLS} calls, {name:5} lane{'s' if name == 'eight' else ' '}: {middle:.1f} ms (middle half {low:.1f} to {high:.1f})")
 print(f"eight beside one: {statistics.median(times['eight']) / statistics.median(times['one']):.2f}")
-print(f"4096 rounds of 8 lanes: {statistics.median([taken(many_rounds(4096)) for _ in range(3)]):.0f} ms")
+rounds_of_eight = many_rounds(4096)
+print(f"4096 rounds of 8 lanes: {statistics.median([taken(rounds_of_eight) for _ in range(3)]):.0f} ms")
 busy = [subprocess.Popen(["sh", "-c", "while :; do :; done"]) for _ in range(2 * os.cpu_count())]
 try:
-    print(f"512 of them beside {len(busy)} busy loops: {statistics.median([taken(many_rounds(512)) for _ in range(3)]):.0f} ms")
+    print(f"the same beside {len(busy)} busy loops: {statistics.median([taken(rounds_of_eight) for _ in range(3)]):.0f} ms")
 finally:
     for loop in busy:
         loop.kill()

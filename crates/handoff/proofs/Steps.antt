@@ -1,31 +1,31 @@
 -- Each step of a seat keeps the rule of its handoff.
-use Rattle.std.proofs.Common.{◌≡◌, ◌≢◌, ℕ, zero, suc, List, [], ◌∷◌, refl, sym, ◌∙◌, ap, subst}
-use Rattle.std.specs.Prelude.{Bool, MatchBool, true, false, Option, None, Some, ◌++◌, get_or, slice_index, slice_set}
+use Rattle.std.proofs.Common.{◌≡◌, ◌≢◌, ◌<◌, ℕ, zero, suc, List, [], ◌∷◌, refl, sym, ◌∙◌, ap, arith, subst}
+use Rattle.std.specs.Prelude.{⊤, Bool, MatchBool, true, false, Option, None, Some, ◌++◌, get_or, slice_index, slice_set}
 use mathlib.Core.Option.{none, some, some-injective, some-ne-none}
 use lib.ListN.{get_elem?}
 use Rattle.atomic_table.specs.Table.{Act, Allows, Me, Splits, State, Valid, carried_after, gives, keeps, opening, step, stepped, takes}
 use Rattle.handoff.specs.declared.rule.Part.{Part}
 use Rattle.handoff.specs.declared.rule.Part.TheVariants.{First, Alone, Idle, Gave, Ended, Ready, Works, Dismissed}
 use Rattle.handoff.specs.declared.rule.View.{View}
-use Rattle.atomic_table.specs.declared.shared.Seat.{Seat}
-use Rattle.handoff.specs.Seated.{HasGiven, IsGiver, HandoffOf}
+use Rattle.atomic_table.specs.Seated.{TableId}
+use Rattle.handoff.specs.Seated.{Has, HasGiven, HandoffOf, SeatOf}
 use Rattle.handoff.specs.Handoffs.{BeginsGiving, EndsGiving, GivesValue, IsHandoff, LooksForWork, MayStand, ReturnsValue, Stand, TakesValue, LooksForEnd, fresh, alone, idle, given, taken, returned, ended, dismissed, knows, state_at}
 
 module _ {T : Type 0} where
   -- what lies in a slot is one thing
-  pub same_slot : (k : ℕ) (x y : Option T) (xs ys : List (ℕ × Option T)) → (k, x) ∷ xs ≡ (k, y) ∷ ys → x ≡ y
+  same_slot : (k : ℕ) (x y : Option T) (xs ys : List (ℕ × Option T)) → (k, x) ∷ xs ≡ (k, y) ∷ ys → x ≡ y
   same_slot k x y xs ys e = ap (λ (l : List (ℕ × Option T)). (get_or {A = ℕ × Option T} l 0 (k, x)).1) e
 
-  pub same_value : (v w : T) → Some v ≡ Some w → v ≡ w
+  same_value : (v w : T) → Some v ≡ Some w → v ≡ w
   same_value v w e = cc
 
-  pub same_given : (v w : T) → Gave v ≡ Gave w → v ≡ w
+  same_given : (v w : T) → Gave v ≡ Gave w → v ≡ w
   same_given v w e = cc
 
-  pub same_work : (v w : T) → Works v ≡ Works w → v ≡ w
+  same_work : (v w : T) → Works v ≡ Works w → v ≡ w
   same_work v w e = cc
 
-  -- what the giver does
+  -- what the first seat does
   abbrev giving : Stand T → Part T
   giving fresh = First
   giving alone = Alone
@@ -36,10 +36,10 @@ module _ {T : Type 0} where
   giving ended = Ended
   giving dismissed = Ended
 
-  -- what the worker does, where there is one
+  -- what the worker does; where there is none yet, any part of a worker will do
   abbrev working : Stand T → Part T
-  working fresh = First
-  working alone = Alone
+  working fresh = Dismissed
+  working alone = Dismissed
   working idle = Ready
   working (given v) = Ready
   working (taken v) = Works v
@@ -47,58 +47,66 @@ module _ {T : Type 0} where
   working ended = Ready
   working dismissed = Dismissed
 
-  not_ready : (x : Stand T) → giving x ≢ Ready
-  not_ready fresh e = absurd (cc)
-  not_ready alone e = absurd (cc)
-  not_ready idle e = absurd (cc)
-  not_ready (given v) e = absurd (cc)
-  not_ready (taken v) e = absurd (cc)
-  not_ready (returned v w) e = absurd (cc)
-  not_ready ended e = absurd (cc)
-  not_ready dismissed e = absurd (cc)
+  -- the parts of the first seat, which is the giver's
+  abbrev IsGiversPart : Part T → Type 0
+  IsGiversPart First = ⊤
+  IsGiversPart Alone = ⊤
+  IsGiversPart Idle = ⊤
+  IsGiversPart (Gave v) = ⊤
+  IsGiversPart Ended = ⊤
+  IsGiversPart p = ⊥
 
-  not_at_work : (u : T) (x : Stand T) → giving x ≢ Works u
-  not_at_work u fresh e = absurd (cc)
-  not_at_work u alone e = absurd (cc)
-  not_at_work u idle e = absurd (cc)
-  not_at_work u (given v) e = absurd (cc)
-  not_at_work u (taken v) e = absurd (cc)
-  not_at_work u (returned v w) e = absurd (cc)
-  not_at_work u ended e = absurd (cc)
-  not_at_work u dismissed e = absurd (cc)
+  -- the parts of the worker's seat
+  abbrev IsWorkersPart : Part T → Type 0
+  IsWorkersPart Ready = ⊤
+  IsWorkersPart (Works v) = ⊤
+  IsWorkersPart Dismissed = ⊤
+  IsWorkersPart p = ⊥
+
+  -- neither does what the other may: by each stand
+  working_not_givers : (x : Stand T) → IsGiversPart (working x) → ⊥
+  working_not_givers fresh may = may
+  working_not_givers x may = may
+
+  giving_not_workers : (x : Stand T) → IsWorkersPart (giving x) → ⊥
+  giving_not_workers fresh may = may
+  giving_not_workers x may = may
 
 module _ {T K : Type 0} (key : K) where
   part_is : (p q : Part T) → some (knows key p) ≡ some (knows key q) → p ≡ q
   part_is p q e = ap (λ (v : View T K). v.part) (some-injective (knows key p) (knows key q) e)
 
-  -- the first seat is the giver's
-  first_gives : (x : Stand T) (p : Part T) → get_elem? (state_at key x).views 0 ≡ some (knows key p) → giving x ≡ p
-  first_gives fresh p e = part_is First p e
-  first_gives alone p e = part_is Alone p e
-  first_gives idle p e = part_is Idle p e
-  first_gives (given v) p e = part_is (Gave v) p e
-  first_gives (taken v) p e = part_is (Gave v) p e
-  first_gives (returned v w) p e = part_is (Gave v) p e
-  first_gives ended p e = part_is Ended p e
-  first_gives dismissed p e = part_is Ended p e
+  first_of : (a b p : Part T) (id : ℕ) → b ≢ p → get_elem? (knows key a ∷ knows key b ∷ []) id ≡ some (knows key p) → (id ≡ 0) × (a ≡ p)
+  first_of a b p zero other e = (refl, part_is a p e)
+  first_of a b p (suc zero) other e = absurd (other (part_is b p e))
+  first_of a b p (suc (suc id)) other e = absurd (some-ne-none (knows key p) (sym e))
+
+  only_one : (a p : Part T) (id : ℕ) → get_elem? (knows key a ∷ []) id ≡ some (knows key p) → (id ≡ 0) × (a ≡ p)
+  only_one a p zero e = (refl, part_is a p e)
+  only_one a p (suc id) e = absurd (some-ne-none (knows key p) (sym e))
 
   second_of : (a b p : Part T) (id : ℕ) → a ≢ p → get_elem? (knows key a ∷ knows key b ∷ []) id ≡ some (knows key p) → (id ≡ 1) × (b ≡ p)
   second_of a b p zero other e = absurd (other (part_is a p e))
   second_of a b p (suc zero) other e = (refl, part_is b p e)
   second_of a b p (suc (suc id)) other e = absurd (some-ne-none (knows key p) (sym e))
 
-  -- a seat that doesn't do what the first one does is the worker's
-  second_works : (x : Stand T) (p : Part T) (id : ℕ) → giving x ≢ p → get_elem? (state_at key x).views id ≡ some (knows key p) → (id ≡ 1) × (working x ≡ p)
-  second_works fresh p zero other e = absurd (other (part_is First p e))
-  second_works fresh p (suc id) other e = absurd (some-ne-none (knows key p) (sym e))
-  second_works alone p zero other e = absurd (other (part_is Alone p e))
-  second_works alone p (suc id) other e = absurd (some-ne-none (knows key p) (sym e))
-  second_works idle p id other e = second_of Idle Ready p id other e
-  second_works (given v) p id other e = second_of (Gave v) Ready p id other e
-  second_works (taken v) p id other e = second_of (Gave v) (Works v) p id other e
-  second_works (returned v w) p id other e = second_of (Gave v) Ready p id other e
-  second_works ended p id other e = second_of Ended Ready p id other e
-  second_works dismissed p id other e = second_of Ended Dismissed p id other e
+  first_in : (x : Stand T) (p : Part T) (id : ℕ) → working x ≢ p → get_elem? (state_at key x).views id ≡ some (knows key p) → (id ≡ 0) × (giving x ≡ p)
+  first_in fresh p id other e = only_one First p id e
+  first_in alone p id other e = only_one Alone p id e
+  first_in x p id other e = first_of (giving x) (working x) p id other e
+
+  second_in : (x : Stand T) (p : Part T) (id : ℕ) → giving x ≢ p → get_elem? (state_at key x).views id ≡ some (knows key p) → (id ≡ 1) × (working x ≡ p)
+  second_in fresh p id other e = absurd (other (only_one First p id e).1)
+  second_in alone p id other e = absurd (other (only_one Alone p id e).1)
+  second_in x p id other e = second_of (giving x) (working x) p id other e
+
+  -- a seat with a part of the giver's is the first
+  giver_at : (x : Stand T) (p : Part T) (id : ℕ) → IsGiversPart p → get_elem? (state_at key x).views id ≡ some (knows key p) → (id ≡ 0) × (giving x ≡ p)
+  giver_at x p id is at = first_in x p id (λ e. working_not_givers x (subst IsGiversPart (sym e) is)) at
+
+  -- a seat with a part of the worker's is the second
+  worker_at : (x : Stand T) (p : Part T) (id : ℕ) → IsWorkersPart p → get_elem? (state_at key x).views id ≡ some (knows key p) → (id ≡ 1) × (working x ≡ p)
+  worker_at x p id is at = second_in x p id (λ e. giving_not_workers x (subst IsWorkersPart (sym e) is)) at
 
 module _ {T K : Type 0} (can : K → T → Type 0) (done : K → T → T → Type 0) (key : K) where
   abbrev Keeps : State (Option T) (View T K) → Type 0
@@ -109,16 +117,28 @@ module _ {T K : Type 0} (can : K → T → Type 0) (done : K → T → T → Typ
   Goes id me f then s = (w : View T K) × (a : Act (Option T)) × Valid s.homes me.1 a × Keeps (stepped s 0 (f (slice_index s.words 0)) id me.1 w a)
       × then (slice_index s.words 0) (w, carried_after me.1 a)
 
-  -- a step is allowed where it goes however the handoff may stand
+  -- a step is allowed where it can be made of each stand in which the handoff may be
   allowed : (slots id : ℕ) (me : Me (Option T) (View T K)) (f : ℕ → ℕ) (then : ℕ → Me (Option T) (View T K) → Type 0)
       → ((x : Stand T) → MayStand (can key) (done key) x → get_elem? (state_at key x).views id ≡ some me.0 → Goes id me f then (state_at key x))
       → Allows Keeps slots id me 0 f then
   allowed slots id me f then each s handoff many at small =
       subst (Goes id me f then) (sym handoff.is) (each handoff.stand handoff.may (subst (λ (t : State (Option T) (View T K)). get_elem? t.views id ≡ some me.0) handoff.is at))
 
-  -- what holds of a seat's number and of what it has
-  pub at_seat : (Q : ℕ → Me (Option T) (View T K) → Type 0) {i j : ℕ} {m n : Me (Option T) (View T K)} → i ≡ j → m ≡ n → Q j n → Q i m
-  at_seat Q {i} {j} {m} {n} seat has q = subst (λ (k : ℕ). Q k m) (sym seat) (subst (Q j) (sym has) q)
+  -- the same of a seat whose part is one of the giver's
+  allowed_giver : (slots id : ℕ) (p : Part T) (has : List (ℕ × Option T)) (f : ℕ → ℕ) (then : ℕ → Me (Option T) (View T K) → Type 0) → IsGiversPart p
+      → ((x : Stand T) → MayStand (can key) (done key) x → giving x ≡ p → Goes 0 (knows key p, has) f then (state_at key x))
+      → Allows Keeps slots id (knows key p, has) 0 f then
+  allowed_giver slots id p has f then is each = allowed slots id (knows key p, has) f then
+      (λ x may at. let first = giver_at key x p id is at in
+      subst (λ (n : ℕ). Goes n (knows key p, has) f then (state_at key x)) (sym first.0) (each x may first.1))
+
+  -- and of the worker's
+  allowed_worker : (slots id : ℕ) (p : Part T) (has : List (ℕ × Option T)) (f : ℕ → ℕ) (then : ℕ → Me (Option T) (View T K) → Type 0) → IsWorkersPart p
+      → ((x : Stand T) → MayStand (can key) (done key) x → working x ≡ p → Goes 1 (knows key p, has) f then (state_at key x))
+      → Allows Keeps slots id (knows key p, has) 0 f then
+  allowed_worker slots id p has f then is each = allowed slots id (knows key p, has) f then
+      (λ x may at. let second = worker_at key x p id is at in
+      subst (λ (n : ℕ). Goes n (knows key p, has) f then (state_at key x)) (sym second.0) (each x may second.1))
 
   -- ---- a new handoff
 
@@ -130,21 +150,23 @@ module _ {T K : Type 0} (can : K → T → Type 0) (done : K → T → T → Typ
   begins_standing slots fresh e = (knows key Alone, takes 0 None, refl, record { stand = alone; is = refl; may = tt }, refl)
   begins_standing slots x e = absurd (cc)
 
-  pub begins : (slots : ℕ) → Allows Keeps slots 0 (knows key First, []) 0 (λ n. 0) (λ n m. BeginsGiving (step slots 0 0 0 none) (knows key First, []) 0 m)
-  begins slots = allowed slots 0 (knows key First, []) (λ n. 0) (λ n m. BeginsGiving (step slots 0 0 0 none) (knows key First, []) 0 m)
-      (λ x may at. begins_standing slots x (first_gives key x First at))
+  pub begins : (slots id : ℕ) → Allows Keeps slots id (knows key First, []) 0 (λ n. 0) (λ n m. BeginsGiving (step slots 0 0 0 none) (knows key First, []) 0 m)
+  begins slots id = allowed_giver slots id First [] (λ n. 0) (λ n m. BeginsGiving (step slots 0 0 0 none) (knows key First, []) 0 m) tt
+      (λ x may e. begins_standing slots x e)
 
-  abbrev Parted : State (Option T) (View T K) → Type 0
-  Parted s = Keeps (record { words = s.words; homes = s.homes; views = slice_set s.views 0 (knows key Idle) ++ knows key Ready ∷ [] })
+  abbrev Parted : ℕ → State (Option T) (View T K) → Type 0
+  Parted id s = Keeps (record { words = s.words; homes = s.homes; views = slice_set s.views id (knows key Idle) ++ knows key Ready ∷ [] })
 
-  parts_standing : (x : Stand T) → giving x ≡ Alone → Parted (state_at key x)
+  parts_standing : (x : Stand T) → giving x ≡ Alone → Parted 0 (state_at key x)
   parts_standing alone e = record { stand = idle; is = refl; may = tt }
   parts_standing x e = absurd (cc)
 
-  pub parts : Splits Keeps 0 (knows key Alone) (knows key Idle) (knows key Ready)
-  parts s handoff at = subst Parted (sym handoff.is)
-      (parts_standing handoff.stand (first_gives key handoff.stand Alone
-      (subst (λ (t : State (Option T) (View T K)). get_elem? t.views 0 ≡ some (knows key Alone)) handoff.is at)))
+  pub parts : (id : ℕ) → Splits Keeps id (knows key Alone) (knows key Idle) (knows key Ready)
+  parts id s handoff at =
+      let x = handoff.stand in
+      let seen = subst (λ (t : State (Option T) (View T K)). get_elem? t.views id ≡ some (knows key Alone)) handoff.is at in
+      let first = giver_at key x Alone id tt seen in
+      subst (Parted id) (sym handoff.is) (subst (λ (n : ℕ). Parted n (state_at key x)) (sym first.0) (parts_standing x first.1))
 
   -- ---- the giver
 
@@ -162,10 +184,10 @@ module _ {T K : Type 0} (can : K → T → Type 0) (done : K → T → T → Typ
   )
   gives_standing slots v may x e = absurd (cc)
 
-  pub gives_value : (slots : ℕ) (v : T) → can key v
-      → Allows Keeps slots 0 (filled v) 0 (λ n. 1) (λ n m. GivesValue (step slots 0 1 0 none) (filled v) 1 m)
-  gives_value slots v may = allowed slots 0 (filled v) (λ n. 1) (λ n m. GivesValue (step slots 0 1 0 none) (filled v) 1 m)
-      (λ x fits at. gives_standing slots v may x (first_gives key x Idle at))
+  pub gives_value : (slots id : ℕ) (v : T) → can key v
+      → Allows Keeps slots id (filled v) 0 (λ n. 1) (λ n m. GivesValue (step slots 0 1 0 none) (filled v) 1 m)
+  gives_value slots id v may = allowed_giver slots id Idle ((0, Some v) ∷ []) (λ n. 1) (λ n m. GivesValue (step slots 0 1 0 none) (filled v) 1 m) tt
+      (λ x fits e. gives_standing slots v may x e)
 
   abbrev waiting : T → Me (Option T) (View T K)
   waiting v = (knows key (Gave v), [])
@@ -196,10 +218,9 @@ module _ {T K : Type 0} (can : K → T → Type 0) (done : K → T → T → Typ
       subst (λ (x : T). Takes slots v (state_at key (returned x w))) (sym same) (takes_standing slots v w (subst (λ (x : T). done key x w) same may))
   takes_any slots v x may e = absurd (cc)
 
-  pub takes_value : (slots : ℕ) (v : T)
-      → Allows Keeps slots 0 (waiting v) 0 (λ n. n) (TakesValue done (step slots 0 0 0 none) (waiting v))
-  takes_value slots v = allowed slots 0 (waiting v) (λ n. n) (TakesValue done (step slots 0 0 0 none) (waiting v))
-      (λ x may at. takes_any slots v x may (first_gives key x (Gave v) at))
+  pub takes_value : (slots id : ℕ) (v : T)
+      → Allows Keeps slots id (waiting v) 0 (λ n. n) (TakesValue done (step slots 0 0 0 none) (waiting v))
+  takes_value slots id v = allowed_giver slots id (Gave v) [] (λ n. n) (TakesValue done (step slots 0 0 0 none) (waiting v)) tt (takes_any slots v)
 
   abbrev emptied : Me (Option T) (View T K)
   emptied = (knows key Idle, (0, None) ∷ [])
@@ -209,9 +230,9 @@ module _ {T K : Type 0} (can : K → T → Type 0) (done : K → T → T → Typ
   ends_standing slots idle e = (knows key Ended, gives, tt, record { stand = ended; is = refl; may = tt }, refl)
   ends_standing slots x e = absurd (cc)
 
-  pub ends : (slots : ℕ) → Allows Keeps slots 0 emptied 0 (λ n. 2) (λ n m. EndsGiving (step slots 0 2 0 none) emptied 2 m)
-  ends slots = allowed slots 0 emptied (λ n. 2) (λ n m. EndsGiving (step slots 0 2 0 none) emptied 2 m)
-      (λ x may at. ends_standing slots x (first_gives key x Idle at))
+  pub ends : (slots id : ℕ) → Allows Keeps slots id emptied 0 (λ n. 2) (λ n m. EndsGiving (step slots 0 2 0 none) emptied 2 m)
+  ends slots id = allowed_giver slots id Idle ((0, None) ∷ []) (λ n. 2) (λ n m. EndsGiving (step slots 0 2 0 none) emptied 2 m) tt
+      (λ x may e. ends_standing slots x e)
 
   empty_standing : (x : Stand T) → giving x ≡ Ended → get_elem? (state_at key x).homes 0 ≡ some (some None)
   empty_standing ended e = refl
@@ -219,9 +240,12 @@ module _ {T K : Type 0} (can : K → T → Type 0) (done : K → T → T → Typ
   empty_standing x e = absurd (cc)
 
   -- where the giver has ended, the slot is empty
-  pub slot_empty : (s : State (Option T) (View T K)) → Keeps s → get_elem? s.views 0 ≡ some (knows key Ended) → get_elem? s.homes 0 ≡ some (some None)
-  slot_empty s handoff at = subst (λ (t : State (Option T) (View T K)). get_elem? t.homes 0 ≡ some (some None)) (sym handoff.is)
-      (empty_standing handoff.stand (first_gives key handoff.stand Ended (subst (λ (t : State (Option T) (View T K)). get_elem? t.views 0 ≡ some (knows key Ended)) handoff.is at)))
+  pub slot_empty : (s : State (Option T) (View T K)) (id : ℕ) → Keeps s → get_elem? s.views id ≡ some (knows key Ended) → get_elem? s.homes 0 ≡ some (some None)
+  slot_empty s id handoff at =
+      let x = handoff.stand in
+      let seen = subst (λ (t : State (Option T) (View T K)). get_elem? t.views id ≡ some (knows key Ended)) handoff.is at in
+      subst (λ (t : State (Option T) (View T K)). get_elem? t.homes 0 ≡ some (some None)) (sym handoff.is)
+      (empty_standing x (giver_at key x Ended id tt seen).1)
 
   -- ---- the worker
 
@@ -239,10 +263,7 @@ module _ {T K : Type 0} (can : K → T → Type 0) (done : K → T → T → Typ
   looks_standing slots x may e = absurd (cc)
 
   pub looks : (slots id : ℕ) → Allows Keeps slots id ready 0 (λ n. n) (LooksForWork can (step slots 0 0 0 none) ready)
-  looks slots id = allowed slots id ready (λ n. n) (LooksForWork can (step slots 0 0 0 none) ready)
-      (λ x may at. let second = second_works key x Ready id (not_ready x) at in
-      subst (λ (n : ℕ). Goes n ready (λ n. n) (LooksForWork can (step slots 0 0 0 none) ready) (state_at key x)) (sym second.0)
-      (looks_standing slots x may second.1))
+  looks slots id = allowed_worker slots id Ready [] (λ n. n) (LooksForWork can (step slots 0 0 0 none) ready) tt (looks_standing slots)
 
   abbrev SeenEnd : ℕ → State (Option T) (View T K) → Type 0
   SeenEnd slots = Goes 1 ready (λ n. n) (LooksForEnd (step slots 0 0 0 none) ready)
@@ -255,10 +276,7 @@ module _ {T K : Type 0} (can : K → T → Type 0) (done : K → T → T → Typ
   sees_standing slots x may e = absurd (cc)
 
   pub sees_end : (slots id : ℕ) → Allows Keeps slots id ready 0 (λ n. n) (LooksForEnd (step slots 0 0 0 none) ready)
-  sees_end slots id = allowed slots id ready (λ n. n) (LooksForEnd (step slots 0 0 0 none) ready)
-      (λ x may at. let second = second_works key x Ready id (not_ready x) at in
-      subst (λ (n : ℕ). Goes n ready (λ n. n) (LooksForEnd (step slots 0 0 0 none) ready) (state_at key x)) (sym second.0)
-      (sees_standing slots x may second.1))
+  sees_end slots id = allowed_worker slots id Ready [] (λ n. n) (LooksForEnd (step slots 0 0 0 none) ready) tt (sees_standing slots)
 
   abbrev worked : T → T → Me (Option T) (View T K)
   worked v w = (knows key (Works v), (0, Some w) ∷ [])
@@ -275,31 +293,37 @@ module _ {T K : Type 0} (can : K → T → Type 0) (done : K → T → T → Typ
 
   pub returns_value : (slots id : ℕ) (v w : T) → done key v w
       → Allows Keeps slots id (worked v w) 0 (λ n. 0) (λ n m. ReturnsValue (step slots 0 0 0 none) (worked v w) 0 m)
-  returns_value slots id v w did = allowed slots id (worked v w) (λ n. 0) (λ n m. ReturnsValue (step slots 0 0 0 none) (worked v w) 0 m)
-      (λ x may at. let second = second_works key x (Works v) id (not_at_work v x) at in
-      subst (λ (n : ℕ). Goes n (worked v w) (λ n. 0) (λ n m. ReturnsValue (step slots 0 0 0 none) (worked v w) 0 m) (state_at key x)) (sym second.0)
-      (returns_any slots v w did x second.1))
+  returns_value slots id v w did = allowed_worker slots id (Works v) ((0, Some w) ∷ []) (λ n. 0)
+      (λ n m. ReturnsValue (step slots 0 0 0 none) (worked v w) 0 m) tt (λ x may e. returns_any slots v w did x e)
+
+-- ---- a seat, by what it has
+
+module _ {T K : Type 0} (can : K → T → Type 0) (done : K → T → T → Type 0) {id : TableId} {key : K} {handoff : HandoffOf K}
+    (view : record { id = id; key = key } ≡ handoff) (words : id.words ≡ 1) where
+  -- what a step on the word asks of a seat: its table, that the table has a word, and that the rule allows the step
+  pub may_step : {p : Part T} {has : List (ℕ × Option T)} (seat : SeatOf T K) (f : ℕ → ℕ) (then : ℕ → Me (Option T) (View T K) → ℕ → Me (Option T) (View T K) → Type 0)
+      → Has handoff p has seat → Allows (IsHandoff (can handoff.key) (done handoff.key) handoff.key) handoff.id.slots seat.id (knows handoff.key p, has) 0 f
+      (then handoff.id.slots (knows handoff.key p, has))
+      → (seat.table_id ≡ id) × (0 < id.words) × Allows (IsHandoff (can key) (done key) key) id.slots seat.id seat.me 0 f (then id.slots seat.me)
+  may_step seat f then has may = (
+    has.same ∙ sym (ap (λ (h : HandoffOf K). h.id) view),
+    omega (arith, words),
+    subst (λ (h : HandoffOf K). Allows (IsHandoff (can h.key) (done h.key) h.key) h.id.slots seat.id seat.me 0 f (then h.id.slots seat.me)) (sym view)
+        (subst (λ m. Allows (IsHandoff (can handoff.key) (done handoff.key) handoff.key) handoff.id.slots seat.id m 0 f (then handoff.id.slots m)) (sym has.me) may),
+  )
 
 -- what a look of the giver tells, by its clauses
-pub looked : {T K : Type 0} (done : K → T → T → Type 0) (handoff : HandoffOf K) (v : T) (old new : Seat (Option T) (View T K)) → HasGiven handoff v old
-    → new.table_id ≡ old.table_id → new.id ≡ old.id → (b : Bool)
+pub looked : {T K : Type 0} (done : K → T → T → Type 0) (handoff : HandoffOf K) (v : T) (old new : SeatOf T K) → HasGiven handoff v old
+    → new.table_id ≡ old.table_id → (b : Bool)
     → MatchBool b ((w : T) × done old.me.0.key v w × (new.me ≡ (knows old.me.0.key Idle, (0, Some w) ∷ []))) (new.me ≡ (old.me.0, []))
-    → MatchBool b ((w : T) × (done handoff.key v w × IsGiver handoff Idle ((0, Some w) ∷ []) new)) (HasGiven handoff v new)
-looked {T} {K} done handoff v old new giver same id true told =
+    → MatchBool b ((w : T) × (done handoff.key v w × Has handoff Idle ((0, Some w) ∷ []) new)) (HasGiven handoff v new)
+looked {T} {K} done handoff v old new giver same true told =
     let w = told.0 in (
       w,
       (
-        subst (λ (k : K). done k v w) (ap (λ (m : Me (Option T) (View T K)). m.0.key) giver.has.me) told.1,
-        record {
-          has = record {
-            same = same ∙ giver.has.same;
-            me = told.2 ∙ ap (λ (m : Me (Option T) (View T K)). (knows m.0.key Idle, (0, Some w) ∷ [])) giver.has.me;
-          };
-          first = id ∙ giver.first;
-        },
+        subst (λ (k : K). done k v w) (ap (λ (m : Me (Option T) (View T K)). m.0.key) giver.me) told.1,
+        record { same = same ∙ giver.same; me = told.2 ∙ ap (λ (m : Me (Option T) (View T K)). (knows m.0.key Idle, (0, Some w) ∷ [])) giver.me },
       ),
     )
-looked {T} {K} done handoff v old new giver same id false told = record {
-  has = record { same = same ∙ giver.has.same; me = told ∙ ap (λ (m : Me (Option T) (View T K)). (m.0, [])) giver.has.me };
-  first = id ∙ giver.first;
-}
+looked {T} {K} done handoff v old new giver same false told =
+    record { same = same ∙ giver.same; me = told ∙ ap (λ (m : Me (Option T) (View T K)). (m.0, [])) giver.me }

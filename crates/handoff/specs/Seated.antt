@@ -22,22 +22,17 @@ module _ {T K : Type 0} where
     pub same : seat.table_id ≡ handoff.id
     pub me : seat.me ≡ (knows handoff.key part, slots)
 
-  -- the same of the giver's seat
-  pub record IsGiver (handoff : HandoffOf K) (part : Part T) (slots : List (ℕ × Option T)) (seat : SeatOf T K) : Type 0 where
-    pub has : Has handoff part slots seat
-    pub first : seat.id ≡ 0
-
   -- the giver has given nothing, and may give
   abbrev pub MayGive : HandoffOf K → SeatOf T K → Type 0
-  MayGive handoff seat = IsGiver handoff Idle ((0, None) ∷ []) seat
+  MayGive handoff seat = Has handoff Idle ((0, None) ∷ []) seat
 
   -- the giver has given this value, and not had it back
   abbrev pub HasGiven : HandoffOf K → T → SeatOf T K → Type 0
-  HasGiven handoff v seat = IsGiver handoff (Gave v) [] seat
+  HasGiven handoff v seat = Has handoff (Gave v) [] seat
 
   -- the giver gives nothing any more
   abbrev pub HasEnded : HandoffOf K → SeatOf T K → Type 0
-  HasEnded handoff seat = IsGiver handoff Ended [] seat
+  HasEnded handoff seat = Has handoff Ended [] seat
 
   -- the worker may take a value
   abbrev pub AwaitsWork : HandoffOf K → SeatOf T K → Type 0

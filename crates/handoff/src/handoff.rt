@@ -2,13 +2,12 @@
 ghost use Rattle.std.specs.Prelude.{◌≡◌, IfOk, IfSome, MatchBool, [], ◌∷◌, None, Option, Some};
 ghost use Rattle.handoff.specs.declared.rule.Part.{Part};
 ghost use Rattle.handoff.specs.declared.rule.Part.TheVariants.{Idle, Works};
-ghost use Rattle.handoff.specs.Seated.{Has, HasEnded, HasGiven, IsDismissed, IsGiver, MayGive, AwaitsWork, IsWorking};
+ghost use Rattle.handoff.specs.Seated.{AwaitsWork, Has, HasEnded, HasGiven, IsDismissed, IsWorking, MayGive};
 
 use crate::rule::{
     Begins, Ends, Gives, GivesBack, Handing, Looks, Seats, SeesEnd, TakesBack, Task, View,
 };
 use atomic_table::{Seat, Table};
-use crossbeam_utils::Backoff;
 use std::alloc::{AllocError, Global};
 use std::marker::Model;
 use std::sync::Wait;
@@ -33,7 +32,9 @@ pub type HandSeat<T, K> = Seat<Option<T>, View<T, K>>;
 /// A word and a slot that a giver and a worker hand to and fro. It can't be dropped.
 pub struct Handoff<T: Task<K>, K> {
     table: Table<Option<T>, View<T, K>, K, Handing<T>, Global>,
+    /// A worker has come.
     here: AtomicBool,
+    /// The giver has waited for one.
     awaited: AtomicBool,
 }
 
@@ -72,7 +73,7 @@ impl<T: Task<K>, K> Handoff<T, K> {
     /// Tells the giver that a worker has come.
     pub fn come(&self) {
         self.here.store(true, Ordering::SeqCst);
-        self.table.shared.wake_one(0);
+        self.table.shared.wake_all(0);
     }
 
     /// Whether a worker has come. The first time it waits for one, for about a fifth of a second.
@@ -84,6 +85,7 @@ impl<T: Task<K>, K> Handoff<T, K> {
         self.here.load(Ordering::SeqCst)
     }
 
+    /// Waits for a worker to come, for about a fifth of a second at most.
     fn await_worker<R: Wait>(&self, rt: &R) {
         for _ in 0..WAITS {
             if self.here.load(Ordering::SeqCst) {
@@ -105,7 +107,7 @@ impl<T: Task<K>, K> Handoff<T, K> {
             Some(_) => unreachable!(),
             None => self.put(giver),
         }
-        self.table.shared.wake_one(0);
+        self.table.shared.wake_all(0);
     }
 
     /// Waits until the worker is done, and has the value back.
@@ -114,12 +116,11 @@ impl<T: Task<K>, K> Handoff<T, K> {
         ensures giver { MayGive self.now giver.new }
         ensures done { (v : T) → HasGiven self.now v giver.old → T.done self.now.key v result }
     {
-        let backoff = Backoff::new();
         for _ in rt.forever() {
             if let Some(value) = self.try_take_back(giver) {
                 return value;
             }
-            self.wait(rt, &backoff, GIVEN);
+            self.table.shared.park(rt, 0, GIVEN);
         }
         unreachable!()
     }
@@ -130,7 +131,7 @@ impl<T: Task<K>, K> Handoff<T, K> {
         ensures ended { HasEnded self.now giver.new }
     {
         self.table.shared.store::<Ends>(giver, 0, ENDED as u64);
-        self.table.shared.wake_one(0);
+        self.table.shared.wake_all(0);
     }
 
     /// Waits for a value to work on. There is none once the giver has ended.
@@ -140,7 +141,6 @@ impl<T: Task<K>, K> Handoff<T, K> {
         ensures works { IfSome result (λ v. IsWorking self.now v worker.new) }
         ensures ended { result ≡ None → IsDismissed self.now worker.new }
     {
-        let backoff = Backoff::new();
         for _ in rt.forever() {
             if self.sees_end(worker) {
                 return None;
@@ -148,7 +148,7 @@ impl<T: Task<K>, K> Handoff<T, K> {
             if let Some(value) = self.try_next(worker) {
                 return Some(value);
             }
-            self.wait(rt, &backoff, IDLE);
+            self.table.shared.park(rt, 0, IDLE);
         }
         unreachable!()
     }
@@ -162,7 +162,7 @@ impl<T: Task<K>, K> Handoff<T, K> {
             Some(_) => unreachable!(),
             None => self.put_back(worker),
         }
-        self.table.shared.wake_one(0);
+        self.table.shared.wake_all(0);
     }
 
     /// Ends the handoff.
@@ -181,28 +181,18 @@ impl<T: Task<K>, K> Handoff<T, K> {
         }
     }
 
-    /// Waits a little. After some tries it sleeps while the word is this, or until it is woken.
-    fn wait<R: Wait>(&self, rt: &R, backoff: &Backoff, word: u32) {
-        if backoff.is_completed() {
-            self.table.shared.park(rt, 0, word);
-        } else {
-            backoff.snooze();
-        }
-    }
-
     /// What lies in the slot that the seat has goes out, and another comes in.
     fn exchange(&self, seat: &mut HandSeat<T, K>, new: Option<T>) -> Option<T>
         requires slot { (part : Part T) × ((old : Option T) × Has self.now part ((0, old) ∷ []) seat.old) }
         ensures slot { (part : Part T) (old : Option T) → Has self.now part ((0, old) ∷ []) seat.old → Has self.now part ((0, new) ∷ []) seat.new × (result ≡ old) }
-        ensures id { seat.new.id ≡ seat.old.id }
     {
         self.table.shared.exchange(seat, 0, new)
     }
 
     /// Puts the giver's slot back with the value in it.
     fn put(&self, giver: &mut HandSeat<T, K>)
-        requires giver { (v : T) × (T.can self.now.key v × IsGiver self.now Idle ((0, Some v) ∷ []) giver.old) }
-        ensures given { (v : T) → IsGiver self.now Idle ((0, Some v) ∷ []) giver.old → HasGiven self.now v giver.new }
+        requires giver { (v : T) × (T.can self.now.key v × Has self.now Idle ((0, Some v) ∷ []) giver.old) }
+        ensures given { (v : T) → Has self.now Idle ((0, Some v) ∷ []) giver.old → HasGiven self.now v giver.new }
     {
         self.table.shared.store::<Gives>(giver, 0, GIVEN as u64);
     }
@@ -210,11 +200,12 @@ impl<T: Task<K>, K> Handoff<T, K> {
     /// Takes the slot, where the worker has put it back.
     fn take(&self, giver: &mut HandSeat<T, K>) -> bool
         requires giver { (v : T) × HasGiven self.now v giver.old }
-        ensures taken { (v : T) → HasGiven self.now v giver.old → MatchBool result ((w : T) × (T.done self.now.key v w × IsGiver self.now Idle ((0, Some w) ∷ []) giver.new)) (HasGiven self.now v giver.new) }
+        ensures taken { (v : T) → HasGiven self.now v giver.old → MatchBool result ((w : T) × (T.done self.now.key v w × Has self.now Idle ((0, Some w) ∷ []) giver.new)) (HasGiven self.now v giver.new) }
     {
         self.table.shared.load::<TakesBack<T>>(giver, 0) == IDLE as u64
     }
 
+    /// Has the value back, where the worker is done.
     fn try_take_back(&self, giver: &mut HandSeat<T, K>) -> Option<T>
         requires giver { (v : T) × HasGiven self.now v giver.old }
         ensures idle { IfSome result (λ w. MayGive self.now giver.new) }
@@ -244,6 +235,7 @@ impl<T: Task<K>, K> Handoff<T, K> {
         self.table.shared.load::<SeesEnd>(worker, 0) == ENDED as u64
     }
 
+    /// A value to work on, where one is given.
     fn try_next(&self, worker: &mut HandSeat<T, K>) -> Option<T>
         requires worker { AwaitsWork self.now worker.old }
         ensures works { IfSome result (λ v. T.can self.now.key v × IsWorking self.now v worker.new) }

@@ -1,15 +1,16 @@
 -- Calls of a lane one after another.
-use Rattle.std.proofs.Common.{◌≡◌, ◌≢◌, arith, ◌<◌, ◌+◌, ℕ, length, take, get_or, Bool, true, false, List, [], ◌∷◌, ◌++◌, map, nat_eq, refl, sym, ap, ◌∙◌, subst}
+use Rattle.std.proofs.Common.{◌≡◌, ◌≢◌, arith, ◌<◌, ◌≤◌, ◌+◌, ℕ, length, take, get_or, Bool, true, false, List, [], ◌∷◌, ◌++◌, map, nat_eq, refl, sym, ap, ◌∙◌, subst}
 use Rattle.std.specs.Prelude.{filter, if◌then◌else◌, OnOk, Result, Ok, Err, is_err}
 use Rattle.std.proofs.lemmas.Bool.Decides.{nat_tests}
 use Rattle.std.proofs.lemmas.List.Elements.{filter-append}
-use Rattle.std.proofs.lemmas.List.{map-append, append-nil, append_assoc, take_more}
+use Rattle.std.proofs.lemmas.List.{map-append, append-nil, append_assoc, take_all, take_more}
 use Rattle.record_text.specs.declared.record.Answer.{Answer}
 use Rattle.script_text.specs.declared.script.Call.{Call}
 use Rattle.script_text.specs.declared.script.LaneCall.{LaneCall}
+use Rattle.script_text.specs.declared.script.Round.{Round}
 use Rattle.lane_world.specs.declared.Lane.{Lane}
 use Rattle.lane_world.specs.Called.{LaneOf, lane_of}
-use Rattle.lane_world.specs.Rounds.{AnswersCall, CalledAll, MakesCalls, next_of}
+use Rattle.lane_world.specs.Rounds.{AnswersCall, CalledAll, MakesCalls, RunsLane, next_of}
 use Rattle.lane_world.specs.Worlds.{ArePassesOf, KeepPasses, WorldOf}
 use Rattle.lane_run.proofs.Keeping.{keep_refl, keep_trans}
 
@@ -90,6 +91,19 @@ come_none lane pass = record {
   keeps = keep_refl;
   name = refl;
   made = λ quiet. record { given = []; answers = sym (append-nil lane.answers.items); calls = refl };
+}
+
+-- a lane that has come past all lines has run in the round
+pub come_last : {x : WorldOf} (r : Round) (i : ℕ) {xs : List LaneCall} {old new : Lane} → xs ≡ r.calls → length xs ≤ i
+    → HasCome x old new (calls_of_lane old.label.lane (take i xs)) → RunsLane x r old new
+come_last {x} r i {xs} {old} {new} is past come = record {
+  pass = come.pass;
+  name = come.name;
+  keeps = come.keeps;
+  made = λ quiet. record {
+    name = come.name;
+    calls = subst (λ ys. MakesCalls x old new (calls_of_lane old.label.lane ys)) (take_all i xs past ∙ is) (come.made quiet);
+  };
 }
 
 -- what holds of a result that is no error

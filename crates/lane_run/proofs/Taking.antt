@@ -59,7 +59,7 @@ takes_one {x} {lanes = lanes} {m = m} {n = n} lane so_far pop pass takes count q
 -- ---- lists whose elements go with those of another list
 
 module _ {A B : Type 0} (R : A → B → Type 0) where
-  -- what holds of each element and that of the same handoff holds of the last ones, and of those before
+  -- what holds of each element and that of the same number in the other list holds of the last ones, and of those before
   pub beside_pop : (xs : List A) (ys : List B) (x : A) (y : B) {old : List A} {new : List B} → old ≡ xs ++ x ∷ [] → new ≡ ys ++ y ∷ [] → length new ≡ length old
       → ((k : ℕ) (d : A) (e : B) → k < length old → R (get_or old k d) (get_or new k e))
       → R x y × (length ys ≡ length xs) × ((k : ℕ) (d : A) (e : B) → k < length xs → R (get_or xs k d) (get_or ys k e))

@@ -1,5 +1,5 @@
--- What is asked of lanes that are handed to workers, and what the workers have done to them; and the seats of a crew.
-use Rattle.std.specs.Prelude.{ℕ, ◌≡◌, ◌<◌, List, [], length, get_or, IfOk, Option, Result, Some}
+-- The lanes that are handed to workers: what is asked of them, and what they have become; the seats of a crew; and the first passes of a run, taken out and put back.
+use Rattle.std.specs.Prelude.{ℕ, ◌≡◌, ◌<◌, ◌≤◌, List, [], length, get_or, IfOk, Option, Result, Some}
 use Rattle.std.specs.declared.alloc.AllocError.{AllocError}
 use Rattle.handoff.specs.Seated.{HandoffOf, HasEnded, MayGive, AwaitsWork, SeatOf}
 use Rattle.script_text.specs.declared.script.Round.{Round}
@@ -34,23 +34,38 @@ pub record IsRoundOf (g : Ground) (number : ℕ) (r : Round) : Type 0 where
 abbrev pub SeatOfLanes : Type 0
 SeatOfLanes = SeatOf LaneRound Ground
 
--- so many handoffs as there are seats, or more, and each seat at the handoff of its number, which is of this ground
+-- no more seats than handoffs, and each seat has this at the handoff of its number, whose key is this ground
 pub record AreAt (Has : HandoffOf Ground → SeatOfLanes → Type 0) (g : Ground) (handoffs : List (HandoffOf Ground)) (seats : List SeatOfLanes) : Type 0 where
-  pub many : (k : ℕ) → k < length seats → k < length handoffs
+  pub many : length seats ≤ length handoffs
   pub each : (k : ℕ) (p : HandoffOf Ground) (s : SeatOfLanes) → k < length seats → ((get_or handoffs k p).key ≡ g) × Has (get_or handoffs k p) (get_or seats k s)
 
--- givers that have given nothing
-abbrev pub AreIdle : Ground → List (HandoffOf Ground) → List SeatOfLanes → Type 0
-AreIdle g handoffs seats = AreAt (λ p s. MayGive p s) g handoffs seats
+-- givers that may give
+abbrev pub AllMayGive : Ground → List (HandoffOf Ground) → List SeatOfLanes → Type 0
+AllMayGive g handoffs seats = AreAt (λ p s. MayGive p s) g handoffs seats
 
--- workers that wait for work
-abbrev pub AreReady : Ground → List (HandoffOf Ground) → List SeatOfLanes → Type 0
-AreReady g handoffs seats = AreAt (λ p s. AwaitsWork p s) g handoffs seats
+-- workers that await work
+abbrev pub AllAwaitWork : Ground → List (HandoffOf Ground) → List SeatOfLanes → Type 0
+AllAwaitWork g handoffs seats = AreAt (λ p s. AwaitsWork p s) g handoffs seats
+
+-- handoffs of this ground with as many givers, which may give, and as many workers, which await work
+pub record IsCrewOf (g : Ground) (handoffs : List (HandoffOf Ground)) (givers workers : List SeatOfLanes) : Type 0 where
+  pub may_give : AllMayGive g handoffs givers
+  pub as_many_givers : length givers ≡ length handoffs
+  pub await_work : AllAwaitWork g handoffs workers
+  pub as_many_workers : length workers ≡ length handoffs
 
 -- givers that have ended, as many as there are handoffs
-pub record AreEnded (handoffs : List (HandoffOf Ground)) (seats : List SeatOfLanes) : Type 0 where
+pub record AllHaveEnded (handoffs : List (HandoffOf Ground)) (seats : List SeatOfLanes) : Type 0 where
   pub many : length seats ≡ length handoffs
   pub each : (k : ℕ) (p : HandoffOf Ground) (s : SeatOfLanes) → k < length seats → HasEnded (get_or handoffs k p) (get_or seats k s)
+
+-- a worker that awaits work at the handoff of this number, which is of this world and script
+abbrev pub AwaitsWorkAt : WorldOf → Script → List (HandoffOf Ground) → ℕ → SeatOfLanes → Type 0
+AwaitsWorkAt x s handoffs k seat = (p : HandoffOf Ground) → IsGroundOf x s (get_or handoffs k p).key × AwaitsWork (get_or handoffs k p) seat
+
+-- workers that await work at handoffs of this world and script
+abbrev pub AllAwaitWorkOf : WorldOf → Script → List (HandoffOf Ground) → List SeatOfLanes → Type 0
+AllAwaitWorkOf x s handoffs seats = (g : Ground) × (IsGroundOf x s g × AllAwaitWork g handoffs seats)
 
 -- ---- the first passes, which are taken out and put back
 

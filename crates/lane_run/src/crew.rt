@@ -1,20 +1,17 @@
 //! Workers that live through the rounds of a run: each makes the calls of the lanes that are handed to it, and hands them back.
 ghost use Rattle.std.specs.Prelude.{ℕ, ◌≡◌, ◌<◌, ◌+◌, IfOk, OnOk, get_or, length};
-ghost use Rattle.std.specs.List.{AllByRecursion};
 ghost use Rattle.lane_run.specs.declared.crew.Ground.{Ground};
-ghost use Rattle.handoff.specs.Seated.{HandoffOf, IsDismissed, AwaitsWork, IsWorking};
+ghost use Rattle.handoff.specs.Seated.{AwaitsWork, HandoffOf, IsDismissed, IsWorking};
 ghost use Rattle.script_text.specs.Scripts.{IsInRange};
-ghost use Rattle.lane_world.specs.Called.{CanCall};
-ghost use Rattle.lane_world.specs.Rounds.{CanRun, RunsLane};
 ghost use Rattle.lane_world.specs.Worlds.{IsWorldOf};
-ghost use Rattle.lane_run.specs.Crews.{AreEnded, AreIdle, AreReady, CanRunAt, IsGroundOf, SeatOfLanes};
+ghost use Rattle.lane_run.specs.Crews.{AllAwaitWorkOf, AllHaveEnded, AllMayGive, AwaitsWorkAt, CanRunAt, IsCrewOf, IsGroundOf, SeatOfLanes};
 
 use crate::gate::Gate;
-use crate::lane::make_calls;
+use crate::lane::run_lane;
 use crate::world::World;
 use handoff::{HandSeat, Handoff, Task};
 use lane_world::Lane;
-use script_text::{Round, Script};
+use script_text::Script;
 use std::alloc::{AllocError, Global};
 use std::snapshot::Snapshot;
 use std::sync::Wait;
@@ -57,9 +54,8 @@ pub(crate) struct Crew {
 
 /// So many handoffs.
 pub(crate) fn make_crew(alloc: Global, ground: &Ground, count: u32) -> Result<Crew, AllocError>
-    ensures givers { IfOk result (λ c. AreIdle ground.now c.handoffs.items c.givers.items) }
-    ensures workers { IfOk result (λ c. AreReady ground.now c.handoffs.items c.workers.items) }
-    ensures count { IfOk result (λ c. (length c.handoffs.items ≡ count) × (length c.givers.items ≡ count) × (length c.workers.items ≡ count)) }
+    ensures crew { IfOk result (λ c. IsCrewOf ground.now c.handoffs.items c.givers.items c.workers.items) }
+    ensures count { IfOk result (λ c. length c.handoffs.items ≡ count) }
 {
     let mut crew = Crew {
         handoffs: Vec::new(alloc),
@@ -81,16 +77,10 @@ pub(crate) fn make_crew(alloc: Global, ground: &Ground, count: u32) -> Result<Cr
     Ok(crew)
 }
 
-/// One more handoff.
+/// One more handoff, with a seat for its giver and one for its worker.
 fn add_worker(alloc: Global, ground: &Ground, crew: &mut Crew) -> Result<(), AllocError>
-    requires givers { AreIdle ground.now crew.old.handoffs.items crew.old.givers.items }
-    requires workers { AreReady ground.now crew.old.handoffs.items crew.old.workers.items }
-    requires givers_many { length crew.old.givers.items ≡ length crew.old.handoffs.items }
-    requires workers_many { length crew.old.workers.items ≡ length crew.old.handoffs.items }
-    ensures givers { AreIdle ground.now crew.new.handoffs.items crew.new.givers.items }
-    ensures workers { AreReady ground.now crew.new.handoffs.items crew.new.workers.items }
-    ensures givers_many { length crew.new.givers.items ≡ length crew.new.handoffs.items }
-    ensures workers_many { length crew.new.workers.items ≡ length crew.new.handoffs.items }
+    requires crew { IsCrewOf ground.now crew.old.handoffs.items crew.old.givers.items crew.old.workers.items }
+    ensures crew { IsCrewOf ground.now crew.new.handoffs.items crew.new.givers.items crew.new.workers.items }
     ensures one { OnOk result (length crew.new.handoffs.items ≡ length crew.old.handoffs.items + 1) }
 {
     crew.handoffs.reserve(1)?;
@@ -105,9 +95,9 @@ fn add_worker(alloc: Global, ground: &Ground, crew: &mut Crew) -> Result<(), All
 
 /// Ends the workers' work.
 pub(crate) fn end_all(handoffs: &Vec<LaneHandoff>, givers: &mut Vec<LaneSeat>)
-    requires idle { (g : Ground) × AreIdle g handoffs.now.items givers.old.items }
+    requires givers { (g : Ground) × AllMayGive g handoffs.now.items givers.old.items }
     requires many { length givers.old.items ≡ length handoffs.now.items }
-    ensures ended { AreEnded handoffs.now.items givers.new.items }
+    ensures ended { AllHaveEnded handoffs.now.items givers.new.items }
 {
     for number in 0..givers.len() {
         handoffs[number].end(&mut givers[number]);
@@ -116,7 +106,7 @@ pub(crate) fn end_all(handoffs: &Vec<LaneHandoff>, givers: &mut Vec<LaneSeat>)
 
 /// Closes the handoffs.
 pub(crate) fn close_all(mut handoffs: Vec<LaneHandoff>, mut givers: Vec<LaneSeat>)
-    requires ended { AreEnded handoffs.items givers.items }
+    requires ended { AllHaveEnded handoffs.items givers.items }
 {
     while let Some(handoff) = handoffs.pop() {
         match givers.pop() {
@@ -134,14 +124,12 @@ pub(crate) fn serve_all<R: Threads + Wait + Sync, G: Gate>(
     world: &World,
     script: &Script,
     gate: &G,
-    ground: &Ground,
     handoffs: &Vec<LaneHandoff>,
     workers: &mut Vec<LaneSeat>,
 )
     requires range { IsInRange script.now }
     requires world { IsWorldOf script.now world.now }
-    requires ground { IsGroundOf world.now script.now ground.now }
-    requires workers { AreReady ground.now handoffs.now.items workers.old.items }
+    requires workers { AllAwaitWorkOf world.now script.now handoffs.now.items workers.old.items }
     ensures as_many { length workers.new.items ≡ length workers.old.items }
     ensures ended { (k : ℕ) (p : HandoffOf Ground) (s : SeatOfLanes) → k < length workers.old.items → IsDismissed (get_or handoffs.now.items k p) (get_or workers.new.items k s) }
 {
@@ -153,14 +141,9 @@ pub(crate) fn serve_all<R: Threads + Wait + Sync, G: Gate>(
         &|number, worker: &mut LaneSeat|
             requires range { IsInRange script.now }
             requires world { IsWorldOf script.now world.now }
-            requires ground { IsGroundOf world.now script.now ground.now }
             requires handoff { number < length handoffs.now.items }
-            requires worker { (p : HandoffOf Ground) → ((get_or handoffs.now.items number p).key ≡ ground.now) × AwaitsWork (get_or handoffs.now.items number p) worker.old }
-        {
-            serve_at(
-                rt, alloc, world, script, gate, ground, handoffs, number, worker,
-            )
-        },
+            requires worker { AwaitsWorkAt world.now script.now handoffs.now.items number worker.old }
+        { serve_at(rt, alloc, world, script, gate, handoffs, number, worker) },
     );
 }
 
@@ -171,19 +154,16 @@ fn serve_at<R: Wait, G: Gate>(
     world: &World,
     script: &Script,
     gate: &G,
-    ground: &Ground,
     handoffs: &Vec<LaneHandoff>,
     number: usize,
     worker: &mut LaneSeat,
 )
     requires range { IsInRange script.now }
     requires world { IsWorldOf script.now world.now }
-    requires ground { IsGroundOf world.now script.now ground.now }
     requires handoff { number < length handoffs.now.items }
-    requires worker { (p : HandoffOf Ground) → ((get_or handoffs.now.items number p).key ≡ ground.now) × AwaitsWork (get_or handoffs.now.items number p) worker.old }
+    requires worker { AwaitsWorkAt world.now script.now handoffs.now.items number worker.old }
     ensures ended { (p : HandoffOf Ground) → IsDismissed (get_or handoffs.now.items number p) worker.new }
 {
-    let _ = ground;
     serve(rt, alloc, world, script, gate, &handoffs[number], worker);
 }
 
@@ -235,20 +215,4 @@ fn run_given<R: Wait, G: Gate>(
     let calls = &script.rounds.as_slice()[round];
     run_lane(rt, alloc, world, gate, calls, &mut lane);
     handoff.give_back(worker, LaneRound { lane, round });
-}
-
-/// Runs one lane.
-pub(crate) fn run_lane<R: Wait, G: Gate>(
-    rt: &R,
-    alloc: Global,
-    world: &World,
-    gate: &G,
-    round: &Round,
-    lane: &mut Lane,
-)
-    requires lane { CanRun world.now lane.old }
-    requires calls { AllByRecursion (λ c. CanCall world.now c.lane c.call) round.now.calls }
-    ensures ran { RunsLane world.now round.now lane.old lane.new }
-{
-    make_calls(rt, alloc, world, gate, round, lane);
 }

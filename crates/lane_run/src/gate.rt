@@ -11,7 +11,7 @@ pub enum Point {
     After,
 }
 
-/// A gate that every lane passes at each point of each of its calls, each lane on a thread of its own.
+/// A gate that every lane passes at each point of each of its calls, each lane on a thread of its own where one can be had.
 pub trait Gate: Sync {
     /// Returns once the lane may go on. Lanes and a lane's calls count from 0.
     fn at(&self, lane: u32, call: u32, point: Point);

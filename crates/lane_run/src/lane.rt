@@ -2,7 +2,7 @@
 ghost use Rattle.std.specs.Prelude.{◌≡◌, ◌≤◌, ◌<◌, ◌∷◌, [], false, IfOk, OnOk};
 ghost use Rattle.std.specs.List.{AllByRecursion};
 ghost use Rattle.lane_world.specs.Called.{Called, CalledThen, CallsReading, LeavesLane, ReadsClock, TakesReading, lane_of, CanCall};
-ghost use Rattle.lane_world.specs.Rounds.{AnswersCall, MakesCalls, lane_calls};
+ghost use Rattle.lane_world.specs.Rounds.{AnswersCall, CanRun, MakesCalls, RunsLane};
 ghost use Rattle.lane_world.specs.Worlds.{ArePassesOf, KeepPasses, LeadsByName};
 
 use crate::base_calls::{offline, online};
@@ -23,7 +23,7 @@ use std::alloc::{AllocError, Global};
 use std::sync::Wait;
 
 /// Makes the lane's calls of a round.
-pub(crate) fn make_calls<R: Wait, G: Gate>(
+pub(crate) fn run_lane<R: Wait, G: Gate>(
     rt: &R,
     alloc: Global,
     world: &World,
@@ -31,13 +31,9 @@ pub(crate) fn make_calls<R: Wait, G: Gate>(
     round: &Round,
     lane: &mut Lane,
 )
-    requires pass { ArePassesOf world.now lane.old.pass }
-    requires first { LeadsByName lane.old.label.lane lane.old.pass }
+    requires lane { CanRun world.now lane.old }
     requires calls { AllByRecursion (λ c. CanCall world.now c.lane c.call) round.now.calls }
-    ensures pass { ArePassesOf world.now lane.new.pass }
-    ensures keeps { KeepPasses lane.old.pass lane.new.pass }
-    ensures lane { lane.new.label.lane ≡ lane.old.label.lane }
-    ensures calls { lane.new.wants_memory ≡ false → MakesCalls world.now lane.old lane.new (lane_calls lane.old.label.lane round.now) }
+    ensures ran { RunsLane world.now round.now lane.old lane.new }
 {
     for line in round.calls.as_slice() {
         if line.lane == lane.label.lane {

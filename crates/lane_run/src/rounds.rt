@@ -6,10 +6,11 @@ ghost use Rattle.lane_world.specs.declared.Lane.{Lane};
 ghost use Rattle.lane_world.specs.Rounds.{BeginsRound, CanRun, HasSplit, IsLaneOf, IsMain, MakesRound, RunsLane, TakesInLanes, TakesInPass, as_index, calling_from, has_calls, with_lane, with_left};
 ghost use Rattle.lane_world.specs.Called.{CanCall};
 ghost use Rattle.lane_world.specs.Worlds.{AnswerFor, ArePassesOf};
-ghost use Rattle.lane_run.specs.Crews.{AreIdle, IsRoundOf};
+ghost use Rattle.lane_run.specs.Crews.{AllMayGive, IsRoundOf};
 
-use crate::crew::{Ground, LaneHandoff, LaneRound, LaneSeat, run_lane};
+use crate::crew::{Ground, LaneHandoff, LaneRound, LaneSeat};
 use crate::gate::Gate;
+use crate::lane::run_lane;
 use crate::world::World;
 use lane_notes::Notes;
 use lane_world::{Lane, WorldPass};
@@ -53,11 +54,11 @@ pub(crate) fn make_round<R: Threads + Wait + Sync, G: Gate>(
 ) -> (WorldPass, Result<(), AllocError>)
     requires ground { ground.now.world.value ≡ world.now }
     requires here { IsRoundOf ground.now number round.now }
-    requires givers { AreIdle ground.now handoffs.now.items givers.old.items }
+    requires givers { AllMayGive ground.now handoffs.now.items givers.old.items }
     requires main { IsMain world.now main [] }
     requires calls { AllByRecursion (λ c. CanCall world.now c.lane c.call) round.now.calls }
     requires few { (0 < length left.old.answers) × (length left.old.answers ≤ 64) }
-    ensures givers { AreIdle ground.now handoffs.now.items givers.new.items }
+    ensures givers { AllMayGive ground.now handoffs.now.items givers.new.items }
     ensures givers_many { length givers.new.items ≡ length givers.old.items }
     ensures main { IsMain world.now result.0 [] }
     ensures lanes { length left.new.answers ≡ length left.old.answers }
@@ -152,12 +153,12 @@ fn share_lanes<R: Threads + Wait + Sync, G: Gate>(
 ) -> Lane
     requires ground { ground.now.world.value ≡ world.now }
     requires here { IsRoundOf ground.now number round.now }
-    requires givers { AreIdle ground.now handoffs.now.items givers.old.items }
+    requires givers { AllMayGive ground.now handoffs.now.items givers.old.items }
     requires calls { AllByRecursion (λ c. CanCall world.now c.lane c.call) round.now.calls }
     requires first { CanRun world.now first }
     requires lanes { All (λ l. CanRun world.now l) lanes.old.items }
     requires room { vec_len lanes.old < vec_capacity lanes.old }
-    ensures givers { AreIdle ground.now handoffs.now.items givers.new.items }
+    ensures givers { AllMayGive ground.now handoffs.now.items givers.new.items }
     ensures givers_many { length givers.new.items ≡ length givers.old.items }
     ensures givers_room { (vec_len givers.new ≡ vec_len givers.old) × (vec_capacity givers.new ≡ vec_capacity givers.old) }
     ensures room { vec_capacity lanes.new ≡ vec_capacity lanes.old }

@@ -5,7 +5,7 @@ ghost use Rattle.lane_world.specs.Rounds.{IsMain};
 ghost use Rattle.lane_world.specs.Runs.{MakesRun, ShowsAllSeen, ShowsLeft};
 ghost use Rattle.run_history.specs.Fits.{Fits};
 ghost use Rattle.lane_world.specs.Worlds.{AreFirst, AreLast, ArePassesOf, IsWorldOf};
-ghost use Rattle.lane_run.specs.Crews.{AreEnded, AreIdle, AreReady, HasMain, IsGroundOf, RunsHeld};
+ghost use Rattle.lane_run.specs.Crews.{AllAwaitWorkOf, AllHaveEnded, AllMayGive, HasMain, IsCrewOf, IsGroundOf, RunsHeld};
 
 use crate::crew::{Crew, Ground, LaneHandoff, LaneSeat, close_all, end_all, make_crew, serve_all};
 use crate::gate::Gate;
@@ -116,11 +116,9 @@ fn run_beside<R: Threads + Wait + Sync, G: Gate>(
     requires world { IsWorldOf script.now world.now }
     requires main { HasMain world.now held.old }
     requires ground { IsGroundOf world.now script.now ground.now }
-    requires givers { AreIdle ground.now handoffs.now.items givers.old.items }
-    requires many { length givers.old.items ≡ length handoffs.now.items }
-    requires workers { AreReady ground.now handoffs.now.items workers.old.items }
+    requires crew { IsCrewOf ground.now handoffs.now.items givers.old.items workers.old.items }
     ensures run { RunsHeld world.now script.now held.old result held.new }
-    ensures ended { AreEnded handoffs.now.items givers.new.items }
+    ensures ended { AllHaveEnded handoffs.now.items givers.new.items }
 {
     if workers.is_empty() {
         return make_and_end(
@@ -132,15 +130,14 @@ fn run_beside<R: Threads + Wait + Sync, G: Gate>(
         &mut ||
             requires range { IsInRange script.now }
             requires world { IsWorldOf script.now world.now }
-            requires ground { IsGroundOf world.now script.now ground.now }
-            requires workers { AreReady ground.now handoffs.now.items workers.now.items }
-        { serve_all(rt, alloc, world, script, gate, ground, handoffs, workers) },
+            requires workers { AllAwaitWorkOf world.now script.now handoffs.now.items workers.now.items }
+        { serve_all(rt, alloc, world, script, gate, handoffs, workers) },
         &mut ||
             requires range { IsInRange script.now }
             requires world { IsWorldOf script.now world.now }
             requires main { HasMain world.now held.now }
             requires ground { IsGroundOf world.now script.now ground.now }
-            requires givers { AreIdle ground.now handoffs.now.items givers.now.items }
+            requires givers { AllMayGive ground.now handoffs.now.items givers.now.items }
             requires many { length givers.now.items ≡ length handoffs.now.items }
         {
             make_and_end(
@@ -167,10 +164,10 @@ fn make_and_end<R: Threads + Wait + Sync, G: Gate>(
     requires world { IsWorldOf script.now world.now }
     requires main { HasMain world.now held.old }
     requires ground { IsGroundOf world.now script.now ground.now }
-    requires givers { AreIdle ground.now handoffs.now.items givers.old.items }
+    requires givers { AllMayGive ground.now handoffs.now.items givers.old.items }
     requires many { length givers.old.items ≡ length handoffs.now.items }
     ensures run { RunsHeld world.now script.now held.old result held.new }
-    ensures ended { AreEnded handoffs.now.items givers.new.items }
+    ensures ended { AllHaveEnded handoffs.now.items givers.new.items }
 {
     let Some(main) = held.take() else {
         unreachable!()
@@ -201,8 +198,8 @@ fn make_rounds<R: Threads + Wait + Sync, G: Gate>(
     requires world { IsWorldOf script.now world.now }
     requires main { IsMain world.now main [] }
     requires ground { IsGroundOf world.now script.now ground.now }
-    requires givers { AreIdle ground.now handoffs.now.items givers.old.items }
-    ensures givers { AreIdle ground.now handoffs.now.items givers.new.items }
+    requires givers { AllMayGive ground.now handoffs.now.items givers.old.items }
+    ensures givers { AllMayGive ground.now handoffs.now.items givers.new.items }
     ensures givers_many { length givers.new.items ≡ length givers.old.items }
     ensures main { IsMain world.now result.0 [] }
     ensures run { IfOk result.1 (λ r. MakesRun world.now script.now main r result.0) }

@@ -80,12 +80,12 @@ fn see_sent<R: Wait>(rt: &R, world: &World, pass: &mut WorldPass, next: NextSign
         NextSignal::NoneQueued | NextSignal::Accepted { .. } => {}
         NextSignal::Spent { timer, number, .. } => {
             if is_queued(world, timer) {
-                see_entry(rt, world, pass, timer, number);
+                see_entry(rt, world, pass, timer, number, false);
             }
         }
         NextSignal::Stale { timer, number } => {
             if is_queued(world, timer) {
-                see_stale(rt, world, pass, timer, number);
+                see_entry(rt, world, pass, timer, number, true);
             }
         }
     }
@@ -100,34 +100,26 @@ fn is_queued(world: &World, timer: u32) -> bool
     (timer as usize) < objects.len() && objects.kind(timer) == Kind::Queued
 }
 
-/// Looks at an object until it is seen to have an entry of this number. An expiry enters it as soon as its signal is in the queue.
-fn see_entry<R: Wait>(rt: &R, world: &World, pass: &mut WorldPass, timer: u32, number: u64)
+/// Looks at an object until it has an entry of this number; an expiry makes that entry as soon as its signal is in the queue. Of a stale signal it looks on
+/// until that signal isn't pending there: what was found stale is so for ever.
+fn see_entry<R: Wait>(
+    rt: &R,
+    world: &World,
+    pass: &mut WorldPass,
+    timer: u32,
+    number: u64,
+    is_stale: bool,
+)
     requires pass { ArePassesOf world.now pass.old }
     requires within { timer < length world.now.objects.decls }
     ensures pass { ArePassesOf world.now pass.new }
     ensures keeps { KeepPasses pass.old pass.new }
-    ensures sees { SeesEntry pass.old pass.new timer number }
-{
-    for _ in rt.forever() {
-        let (_, stamp) = look_at(rt, world, pass, timer);
-        if stamp >= number {
-            return;
-        }
-    }
-    unreachable!()
-}
-
-/// Looks at an object until it has an entry of this number and the signal of this number isn't pending. A signal that was found stale is so for ever.
-fn see_stale<R: Wait>(rt: &R, world: &World, pass: &mut WorldPass, timer: u32, number: u64)
-    requires pass { ArePassesOf world.now pass.old }
-    requires within { timer < length world.now.objects.decls }
-    ensures pass { ArePassesOf world.now pass.new }
-    ensures keeps { KeepPasses pass.old pass.new }
-    ensures sees { SeesStale pass.old pass.new timer number }
+    ensures entry { SeesEntry pass.old pass.new timer number }
+    ensures stale { is_stale ≡ true → SeesStale pass.old pass.new timer number }
 {
     for _ in rt.forever() {
         let (object, stamp) = look_at(rt, world, pass, timer);
-        if stamp >= number && !is_pending(&object, number) {
+        if stamp >= number && !(is_stale && is_pending(&object, number)) {
             return;
         }
     }

@@ -5,7 +5,7 @@ use Rattle.lane_run.proofs.Crewing.{ends_none, ends_one}
 use Rattle.lane_run.proofs.crew.end_all.Goals as goal
 
 pub loop-number-init : goal.loop-number-init
-loop-number-init c = ends_none c.requires.idle.1 c.requires.many
+loop-number-init c = ends_none c.requires.givers.1 c.requires.many
 
 pub loop-number-preserved : goal.loop-number-preserved
 loop-number-preserved c =

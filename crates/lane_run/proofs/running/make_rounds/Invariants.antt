@@ -1,11 +1,11 @@
 use Rattle.std.proofs.Common.{◌≡◌, [], length, take}
 use Rattle.lane_world.specs.Rounds.{IsMain, MakesRounds, none_left}
-use Rattle.lane_run.specs.Crews.{AreIdle}
+use Rattle.lane_run.specs.Crews.{AllMayGive}
 use Rattle.lane_run.proofs.running.make_rounds.Given as goal
 
 abbrev pub invariant-loop-number : goal.invariant-loop-number
 invariant-loop-number g l = record {
-  givers : AreIdle l.ground l.handoffs.items l.givers.items;
+  givers : AllMayGive l.ground l.handoffs.items l.givers.items;
   givers_many : length l.givers.items ≡ length l.fn.givers.items;
   main : IsMain l.world l.main [];
   lanes : length l.left.answers ≡ l.script.lanes;

@@ -1,24 +1,14 @@
-use Rattle.std.proofs.Common.{[], ◌∷◌, ◌∙◌, Some, ap, arith, sym, subst}
-use Rattle.atomic_table.specs.Table.{Allows, step}
+use Rattle.atomic_table.specs.Table.{step}
 use mathlib.Core.Option.{none}
-use Rattle.handoff.specs.declared.rule.Part.TheVariants.{Idle}
-use Rattle.handoff.specs.Handoffs.{GivesValue, IsHandoff, knows}
-use Rattle.handoff.proofs.Steps.{at_seat, gives_value}
+use Rattle.handoff.specs.Handoffs.{GivesValue}
+use Rattle.handoff.proofs.Steps.{gives_value, may_step}
 use Rattle.handoff.proofs.handoff.Handoff.put.Goals as goal
 
 pub store-requires : goal.store-requires
 store-requires g c =
     let can = g.T.Task.can in
     let done = g.T.Task.done in
-    let v = c.requires.giver.0 in
-    let giver = c.requires.giver.1.1 in
-    let shared = c.self.inside.table.shared in
-    let key = shared.key in
-    let n = shared.table_id.slots in
-    let same = ap (λ p. p.key) c.self.view_is in (
-      giver.has.same ∙ sym (ap (λ p. p.id) c.self.view_is),
-      omega (arith, c.self.invariant.0),
-      at_seat can done key (λ id m. Allows (IsHandoff (can key) (done key) key) n id m 0 (λ x. 1) (λ x after. GivesValue (step n 0 1 0 none) m 1 after))
-          giver.first (giver.has.me ∙ ap (λ k. (knows k Idle, (0, Some v) ∷ [])) (sym same))
-          (gives_value can done key n v (subst (λ k. can k v) (sym same) c.requires.giver.1.0)),
-    )
+    let h = c.args.self.now in
+    let told = c.requires.giver in
+    may_step can done c.self.view_is c.self.invariant.0 c.args.giver.now (λ x. 1) (λ n m x after. GivesValue (step n 0 1 0 none) m 1 after) told.1.1
+    (gives_value can done h.key h.id.slots _ told.0 told.1.0)
