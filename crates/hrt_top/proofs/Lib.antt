@@ -1,4 +1,3 @@
-pub mod Streams
 pub mod Form
 pub mod Outcomes
 pub mod Summaries

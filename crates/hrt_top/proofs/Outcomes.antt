@@ -13,7 +13,7 @@ use Rattle.std.specs.declared.option.Option.{Option}
 use Rattle.std.specs.Io.KnownBytes.{IsAtEnd, Consumes}
 use Rattle.hrt_top.specs.Transfer.{IsRead, most_bytes}
 use Rattle.hrt_top.specs.Engine.{IsScript, IsRecordText, IsRefusalText}
-use Rattle.hrt_top.specs.Streams.{Adds}
+use Rattle.byte_streams.specs.Streams.{Adds}
 use Rattle.hrt_top.specs.Top.{HasRecorded, MustAnswer}
 use Rattle.hrt_top.specs.declared.status.Status.TheVariants as statuses
 use Rattle.hrt_top.proofs.Form.{IsScript-short, is_script}

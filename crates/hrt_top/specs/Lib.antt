@@ -1,4 +1,3 @@
-pub mod Streams
 pub mod Transfer
 pub mod Status
 pub mod Command

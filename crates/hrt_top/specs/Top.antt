@@ -2,8 +2,8 @@
 use Rattle.std.specs.Prelude.{◌≡◌, ◌⊎◌, ℕ, List, Some, None, IfSome, ⊤}
 use Rattle.std.specs.declared.option.Option.{Option}
 use Rattle.std.specs.Io.KnownBytes.{IsAtEnd}
-use Rattle.hrt_top.specs.Streams.{Adds}
-use Rattle.hrt_top.specs.Transfer.{IsRead, AddsPrefix}
+use Rattle.byte_streams.specs.Streams.{Adds, AddsPrefix}
+use Rattle.hrt_top.specs.Transfer.{IsRead}
 use Rattle.hrt_top.specs.Engine.{IsScript, IsRecordText, IsRefusalText, IsAnswerText, IsSummaryText}
 use Rattle.hrt_top.specs.declared.command.Request.{Request}
 use Rattle.hrt_top.specs.declared.command.Request.TheVariants.{Run}

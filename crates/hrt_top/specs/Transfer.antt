@@ -1,8 +1,7 @@
--- What was read of a source and written to a sink, as far as they tell it.
-use Rattle.std.specs.Prelude.{◌<◌, ◌≤◌, ◌+◌, ◌⊎◌, ℕ, List, length, take}
+-- What was read of a source, as far as it tells.
+use Rattle.std.specs.Prelude.{◌<◌, ◌≤◌, ◌+◌, ◌⊎◌, ℕ, List, length}
 use Rattle.std.specs.declared.option.Option.{Option}
 use Rattle.std.specs.Io.KnownBytes.{Consumes, IsAtEnd}
-use Rattle.hrt_top.specs.Streams.{Adds}
 
 -- the most bytes that a script may have
 abbrev pub most_bytes : ℕ
@@ -23,8 +22,3 @@ pub record TakesAtMost (left now : Option (List ℕ)) (most : ℕ) : Type 0 wher
   pub bytes : List ℕ
   pub front : Consumes left now bytes
   pub few : length bytes ≤ most
-
--- what a sink took grew by a prefix of this text
-pub record AddsPrefix (taken now : Option (List ℕ)) (text : List ℕ) : Type 0 where
-  pub count : ℕ
-  pub front : Adds taken now (take count text)

@@ -2,19 +2,14 @@
 //! how it ends.
 #![tactic(auto)]
 
-pub use adapters::Counted;
+pub use byte_streams::{BytesSink, BytesSource, CleanSink, CleanSource, Counted, Failed, Kept, Plan, Sink, Source, write_all};
 pub use command::{Request, asks, what_words_ask_for, words};
-pub use memory::{BytesSink, BytesSource, CleanSink, CleanSource, Kept, Plan};
 pub use status::Status;
-pub use stream::{Failed, Sink, Source};
-pub use transfer::{CHUNK, MOST_BYTES, ReadFault, read_all, write_all};
+pub use transfer::{CHUNK, MOST_BYTES, ReadFault, read_all};
 pub use whole::{on_bytes, top};
 
-mod adapters;
 mod command;
 mod engine;
-mod memory;
 mod status;
-mod stream;
 mod transfer;
 mod whole;

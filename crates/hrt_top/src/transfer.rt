@@ -1,11 +1,11 @@
-//! Reading a source to its end, and writing a text to a sink.
-ghost use Rattle.std.specs.Prelude.{◌≡◌, ◌≤◌, ◌+◌, ℕ, List, length, take, IfOk, OnOk, OnErr, IsErrOf};
+//! Reading a source to its end.
+ghost use Rattle.std.specs.Prelude.{◌≡◌, ◌≤◌, ◌+◌, ℕ, List, length, take, IfOk, OnOk, IsErrOf};
 ghost use Rattle.std.specs.Io.KnownBytes.{Consumes};
-ghost use Rattle.hrt_top.specs.Streams.{Rose, HasCause, Adds};
-ghost use Rattle.hrt_top.specs.Transfer.{IsRead, TakesAtMost, AddsPrefix, most_bytes};
+ghost use Rattle.byte_streams.specs.Streams.{Rose, HasCause};
+ghost use Rattle.hrt_top.specs.Transfer.{IsRead, TakesAtMost, most_bytes};
 ghost use Rattle.hrt_top.specs.declared.transfer.ReadFault.TheVariants.{OutOfMemory};
 
-use crate::stream::{Failed, Sink, Source};
+use byte_streams::Source;
 use std::alloc::{AllocError, Global};
 
 /// The most bytes that a script may have.
@@ -47,17 +47,4 @@ pub fn read_all<S: Source>(alloc: Global, source: &mut S) -> Result<Vec<u8>, Rea
         }
     }
     Ok(bytes)
-}
-
-/// Writes the whole text. After a fault the sink took a prefix of it.
-pub fn write_all<K: Sink>(sink: &mut K, text: &[u8]) -> Result<(), Failed>
-    ensures all { OnOk result (Adds (K.taken sink.old) (K.taken sink.new) text.now) }
-    ensures prefix { OnErr result (AddsPrefix (K.taken sink.old) (K.taken sink.new) text.now) }
-    ensures cause { HasCause (K.faults sink.old) (K.faults sink.new) result }
-{
-    let mut at = 0;
-    while at < text.len() {
-        at += sink.write(&text[at..])?;
-    }
-    Ok(())
 }

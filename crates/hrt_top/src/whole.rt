@@ -1,6 +1,6 @@
 //! All that the program does, over the streams that it is handed.
 ghost use Rattle.std.specs.Prelude.{◌≡◌, ◌≤◌, ◌⊎◌, ℕ, [], Some, None, IfSome};
-ghost use Rattle.hrt_top.specs.Streams.{Rose, Adds};
+ghost use Rattle.byte_streams.specs.Streams.{Rose, Adds};
 ghost use Rattle.hrt_top.specs.Transfer.{TakesAtMost, most_bytes};
 ghost use Rattle.hrt_top.specs.Command.{asked_by};
 ghost use Rattle.script_text.specs.declared.refusal.Refused.{Refused};
@@ -9,10 +9,9 @@ ghost use Rattle.hrt_top.specs.Top.{IsAskedFor, HasRecorded, HasRefused, HasStop
 
 use crate::command::{Request, asks};
 use crate::engine::{Answer, answer_to, summary_of_generated};
-use crate::memory::{CleanSink, CleanSource};
 use crate::status::Status;
-use crate::stream::{Failed, Sink, Source};
-use crate::transfer::{ReadFault, read_all, write_all};
+use crate::transfer::{ReadFault, read_all};
+use byte_streams::{CleanSink, CleanSource, Failed, Sink, Source, write_all};
 use lane_run::Gate;
 use std::alloc::Global;
 use std::sync::Wait;

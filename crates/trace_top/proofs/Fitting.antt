@@ -7,7 +7,7 @@ use Rattle.trace_read.specs.declared.verdict.Verdict.{Verdict}
 use Rattle.trace_read.specs.declared.verdict.Verdict.TheVariants as verdicts
 use Rattle.trace_top.specs.Checking.{HasFitted, IsAnswer, IsAnswered}
 use Rattle.trace_top.specs.Status.{status_of}
-use Rattle.trace_top.specs.Streams.{Adds}
+use Rattle.byte_streams.specs.Streams.{Adds}
 use Rattle.trace_top.specs.Texts.{text_of}
 
 -- what is written where a trace fits and one line is asked for

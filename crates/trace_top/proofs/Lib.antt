@@ -1,3 +1,2 @@
-pub mod Streams
 pub mod Fitting
 pub mod Endings

@@ -10,7 +10,7 @@ use Rattle.trace_read.specs.Lines.{Answers, Fit, lines_of, verdict_on}
 use Rattle.trace_top.specs.declared.command.Asked.{Asked}
 use Rattle.trace_top.specs.declared.command.Asked.TheVariants as asks
 use Rattle.trace_top.specs.Status.{status_of}
-use Rattle.trace_top.specs.Streams.{Adds}
+use Rattle.byte_streams.specs.Streams.{Adds}
 use Rattle.trace_top.specs.Texts.{fits_text, text_of}
 
 -- these bytes were read, and they are answered so: as a whole, or whatever bytes follow

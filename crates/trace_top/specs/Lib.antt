@@ -1,4 +1,3 @@
-pub mod Streams
 pub mod Status
 pub mod Texts
 pub mod Checking

@@ -4,10 +4,10 @@ ghost use Rattle.std.specs.Io.KnownBytes.{Consumes};
 ghost use Rattle.trace_top.specs.Checking.{IsAnswered};
 ghost use Rattle.trace_read.specs.Lines.{verdict_on};
 ghost use Rattle.trace_read.specs.Readers.{Stands};
-ghost use Rattle.trace_top.specs.Streams.{Rose};
+ghost use Rattle.byte_streams.specs.Streams.{Rose};
 ghost use Rattle.trace_top.specs.declared.checking.CheckFault.TheVariants.{OutOfMemory};
 
-use crate::stream::Source;
+use byte_streams::Source;
 use std::alloc::AllocError;
 use trace_read::{Reader, Verdict};
 

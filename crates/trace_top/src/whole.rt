@@ -2,15 +2,14 @@
 ghost use Rattle.std.specs.Prelude.{◌≡◌, ◌≤◌, ◌⊎◌, Some, None, IfOk, IfSome, string_bytes};
 ghost use Rattle.trace_top.specs.Checking.{HasAnswered, HasFitted, HasRefused, IsAnswer, MayEnd, MustAnswer};
 ghost use Rattle.trace_top.specs.Command.{asked_by};
-ghost use Rattle.trace_top.specs.Streams.{Rose};
+ghost use Rattle.byte_streams.specs.Streams.{Rose};
 
 use crate::checking::{CheckFault, check};
 use crate::command::{Asked, asks};
 use crate::status::Status;
-use crate::stream::{Failed, Sink, Source};
 use crate::summary::{line, table};
 use crate::texts::text_of;
-use crate::writing::write_all;
+use byte_streams::{Failed, Sink, Source, write_all};
 use std::alloc::{AllocError, Global};
 use trace_read::{Reader, Verdict};
 

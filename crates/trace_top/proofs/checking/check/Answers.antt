@@ -4,7 +4,7 @@ use Rattle.std.specs.Io.KnownBytes.{Consumes}
 use Rattle.trace_read.specs.Lines.{verdict_on}
 use Rattle.trace_read.specs.Readers.{ReadsOn, Stands}
 use Rattle.trace_read.proofs.Meanings.{answered}
-use Rattle.trace_top.proofs.Streams.{Consumes-trans}
+use Rattle.byte_streams.proofs.Streams.{Consumes-trans}
 use Rattle.trace_top.proofs.checking.check.Goals as goal
 
 pub returns-in-Ok-eq0-clause-read : goal.returns-in-Ok-eq0-clause-read

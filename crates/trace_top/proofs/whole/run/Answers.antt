@@ -1,6 +1,6 @@
 use Rattle.std.proofs.Common.{◌≡◌, ◌⊎◌, sym, subst, ◌∙◌}
 use Rattle.trace_top.specs.declared.status.Status.TheVariants as statuses
-use Rattle.trace_top.specs.Streams.{Adds}
+use Rattle.byte_streams.specs.Streams.{Adds}
 use Rattle.trace_top.proofs.Fitting.{fitted, refusal_is}
 use Rattle.trace_top.proofs.whole.run.Goals as goal
 
