@@ -1,0 +1,4 @@
+pub mod BaseCalls
+pub mod ClockCalls
+pub mod RowCalls
+pub mod SignalCalls

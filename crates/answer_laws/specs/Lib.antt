@@ -1,0 +1,4 @@
+pub mod Bases
+pub mod Clocks
+pub mod Rows
+pub mod Signals

@@ -1,0 +1,15 @@
+//! Each call's clause fixes its answer and what it leaves, given the moment of the call: laws with no code, one for each clause that is a relation.
+#![tactic(auto)]
+
+mod bases;
+mod clocks;
+mod rows;
+mod signals;
+
+pub use bases::{
+    a_counter_s_rise_is_fixed, a_front_is_fixed, a_locked_base_is_fixed, a_look_at_bases_is_fixed,
+    an_entry_on_a_base_is_fixed,
+};
+pub use clocks::a_write_is_fixed;
+pub use rows::{a_locked_value_is_fixed, a_state_is_fixed, what_a_row_s_calls_leave_is_fixed};
+pub use signals::{a_pop_is_fixed, a_push_is_fixed};
