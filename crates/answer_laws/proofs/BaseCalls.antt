@@ -50,7 +50,7 @@ gets_once base v w w' h h' a b k l s m =
     ∙ (ap (λ n. record v { seen = w'.seen; heard = []; held = Some h'; takes = v.takes ++ (base, n) ∷ []; met = w.met }) number
     ∙ (ap (λ l. record v { seen = w'.seen; heard = []; held = Some h'; takes = v.takes ++ (base, b.number) ∷ []; met = l }) m ∙ sym b.rest)))))
 
-some_is : {A : Type 0} (x y : A) → Some x ≡ Some y → x ≡ y
+pub some_is : {A : Type 0} (x y : A) → Some x ≡ Some y → x ≡ y
 some_is x y e = ap (λ o. unwrap_or o x) e
 
 pub front_once : (o : Opening) (v : BaseView BaseContent) (h : HeldContent BaseContent) (a a' : Option ℕ) → FrontFits o v h a → FrontFits o v h a' → a ≡ a'

@@ -1,4 +1,9 @@
 pub mod BaseCalls
+pub mod ClaimCalls
 pub mod ClockCalls
+pub mod NowCalls
+pub mod OneAnswer
+pub mod Outcomes
 pub mod RowCalls
 pub mod SignalCalls
+pub mod TimerCalls

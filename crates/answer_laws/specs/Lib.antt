@@ -1,4 +1,5 @@
 pub mod Bases
 pub mod Clocks
+pub mod Outcomes
 pub mod Rows
 pub mod Signals

@@ -5,6 +5,7 @@ mod bases;
 mod clocks;
 mod rows;
 mod signals;
+mod timers;
 
 pub use bases::{
     a_counter_s_rise_is_fixed, a_front_is_fixed, a_locked_base_is_fixed, a_look_at_bases_is_fixed,
@@ -13,3 +14,7 @@ pub use bases::{
 pub use clocks::a_write_is_fixed;
 pub use rows::{a_locked_value_is_fixed, a_state_is_fixed, what_a_row_s_calls_leave_is_fixed};
 pub use signals::{a_pop_is_fixed, a_push_is_fixed};
+pub use timers::{
+    a_cancel_behind_a_rise_is_fixed, a_cancel_is_fixed, a_cancel_now_is_fixed, a_claim_is_fixed, a_finish_is_fixed, a_forward_is_fixed, a_peek_is_fixed,
+    a_start_is_fixed,
+};
