@@ -2,6 +2,7 @@ pub mod BaseCalls
 pub mod ClaimCalls
 pub mod ClockCalls
 pub mod NowCalls
+pub mod OfflineCalls
 pub mod OneAnswer
 pub mod Outcomes
 pub mod RowCalls

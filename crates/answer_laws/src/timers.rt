@@ -6,6 +6,8 @@ ghost use Rattle.base_row.specs.Plays.{RisesFrom};
 ghost use Rattle.base_row.specs.declared.view.Opening.{Opening};
 ghost use Rattle.hr_timers.specs.declared.answer.ClaimAnswer as claims;
 ghost use Rattle.hr_timers.specs.declared.answer.NowAnswer as nows;
+ghost use Rattle.hr_timers.specs.declared.answer.OfflineAnswer as offs;
+ghost use Rattle.hr_timers.specs.declared.answer.OnlineAnswer as ons;
 ghost use Rattle.hr_timers.specs.declared.answer.StartAnswer as starts;
 ghost use Rattle.hr_timers.specs.declared.numbers.ClaimNumbers as claimed;
 ghost use Rattle.hr_timers.specs.Calls.{Cancels, ClaimFits, ClaimsNextDue, Finishes, Forwards, NowFits, Peeks, StartsTimer};
@@ -18,6 +20,8 @@ ghost use Rattle.seq_timer.specs.declared.answer.ForwardAnswer as forwards;
 ghost use Rattle.seq_timer.specs.declared.context.Context as contexts;
 ghost use Rattle.seq_timer.specs.declared.observation.Peek as peek;
 ghost use Rattle.hr_timers.specs.Logged.{StartsLogged};
+ghost use Rattle.hr_timers.specs.Moves.{OfflineFits, OnlineFits};
+ghost use Rattle.answer_laws.specs.Offline.{offline_at};
 ghost use Rattle.answer_laws.specs.Outcomes.{SameOutcome, SameOwn, claim_moment, is_contended, now_moment, start_moment};
 
 use hr_timers::ReceiptSink;
@@ -94,4 +98,19 @@ pub fn a_cancel_behind_a_rise_is_fixed<S: ReceiptSink>()
         → c.cancels.cancels.at ≡ d.cancels.cancels.at → (a ≡ a') × (r ≡ r') × SameOutcome w w' t }
     ensures refused { (counter from : ℕ) (v w w' : KnownOfTimers) (h : HadRisenOtherwise counter from v w) (r : RisesFrom counter from v.seen w'.seen)
         → h.at ≢ r.before }
+{}
+
+/// By the moments of its moves, and by what was then seen, taking a base off line has one answer, and its sink has then the same.
+pub fn taking_a_base_off_line_is_fixed<S: ReceiptSink>()
+    ensures { (o : Opening) → AreFresh o.timers → (base heir : ℕ) (reading : ClockReading) (v w w' : KnownOfTimers) (budget : ℕ) (a a' : offs.OfflineAnswer)
+        (s r r' : S) (c : OfflineFits S.pushed o base heir reading v w budget a s r) (d : OfflineFits S.pushed o base heir reading v w' budget a' s r')
+        → KnowsTimers o w → w.seen ≡ w'.seen
+        → offline_at S.pushed o base heir reading v w budget a s r c ≡ offline_at S.pushed o base heir reading v w' budget a' s r' d
+        → (a ≡ a') × (r ≡ r') × SameOwn w w' }
+{}
+
+/// Taking a base on line again has one answer at whatever moment: only the first pass does so, and it knows how the base stands.
+pub fn taking_a_base_on_line_is_fixed()
+    ensures { (o : Opening) (v w w' : KnownOfTimers) (base : ℕ) (a a' : ons.OnlineAnswer) → KnowsTimers o w → KnowsTimers o w' → OnlineFits o v w base a
+        → OnlineFits o v w' base a' → (a ≡ a') × SameOwn w w' }
 {}
