@@ -56,7 +56,7 @@ one_function o k x base t g u h fresh knows a b =
     let half = ((agrees o.bases o.timers k.seen fresh.each knows.history).contents base).each x in
     one_marked t g u h (half_of x ((system_after o.timers k.seen).bases base).content).running (half.running t ∙ a) (half.running u ∙ b)
 
-module _ (o : Opening) (v v' w w' : KnownOfTimers) (own : SameOwn v v') (x : Context) (base : ℕ) (reading : ClockReading) where
+module _ (o : Opening) (v v' w w' : KnownOfTimers) (x : Context) (base : ℕ) (reading : ClockReading) where
   module _ (n m : ClaimNumbers) (c : ClaimsNextDue o v w x base reading n) (d : ClaimsNextDue o v' w' x base reading m) (e : c.at ≡ d.at) where
     same_timer : n.timer ≡ m.timer
     same_timer = ap (λ (p : ℕ × ℕ). p.1)
@@ -79,30 +79,35 @@ module _ (o : Opening) (v v' w w' : KnownOfTimers) (own : SameOwn v v') (x : Con
     same_claim_entry : entry_by (timer_then o c.at n.timer) (events.Claim base reading) ∷ [] ≡ entry_by (timer_then o d.at m.timer) (events.Claim base reading) ∷ []
     same_claim_entry = ap (λ t. entry_by t (events.Claim base reading) ∷ []) same_state
 
-    pub claims_once : (n ≡ m) × SameOutcome w w' n.timer
-    claims_once = (same_claim, made_once v v' w w' n.timer m.timer c.at d.at _ _ own c.made d.made same_timer e same_claim_entry
-        (c.claims ∙ (ap (λ l. l ++ claimed_as n ∷ []) own.claims ∙ (ap (λ k. v'.claims ++ claimed_as k ∷ []) same_claim ∙ sym d.claims))))
-
-  no_turn : (at seen : List SystemEntry) (p : ℕ × ℕ) → next_on x ((system_after o.timers at).bases base) reading ≡ Some p
+  pub no_turn : (at seen : List SystemEntry) (p : ℕ × ℕ) → next_on x ((system_after o.timers at).bases base) reading ≡ Some p
       → next_on x ((system_after o.timers seen).bases base) reading ≡ None → at ≡ seen → ⊥
   no_turn at seen p some none e = let f = ap (λ y. next_on x ((system_after o.timers y).bases base) reading) e in cc
 
-  not_both : (at seen : List SystemEntry) (t g : ℕ) → ((u : ℕ) → runs_on base (in_context x (timer_then o at) u) ≡ false)
+  pub not_both : (at seen : List SystemEntry) (t g : ℕ) → ((u : ℕ) → runs_on base (in_context x (timer_then o at) u) ≡ false)
       → running_on base (in_context x (timer_then o seen) t) ≡ Some g → at ≡ seen → ⊥
   not_both at seen t g idle runs e = no_idle base g (in_context x (timer_then o seen) t)
       (sym (ap (λ y. runs_on base (in_context x (timer_then o y) t)) e) ∙ idle t) runs
+
+module _ (o : Opening) (v v' w w' : KnownOfTimers) (own : SameOwn v v') (x : Context) (base : ℕ) (reading : ClockReading) where
+  pub claims_once : (n m : ClaimNumbers) (c : ClaimsNextDue o v w x base reading n) (d : ClaimsNextDue o v' w' x base reading m) → c.at ≡ d.at
+      → (n ≡ m) × SameOutcome w w' n.timer
+  claims_once n m c d e =
+      let same = same_claim o v v' w w' x base reading n m c d e in
+      (same, made_once v v' w w' n.timer m.timer c.at d.at _ _ own c.made d.made (same_timer o v v' w w' x base reading n m c d e) e
+      (same_claim_entry o v v' w w' x base reading n m c d e)
+      (c.claims ∙ (ap (λ l. l ++ claimed_as n ∷ []) own.claims ∙ (ap (λ k. v'.claims ++ claimed_as k ∷ []) same ∙ sym d.claims))))
 
   pub claim_once : (a a' : ClaimAnswer) (c : ClaimFits o v w x base reading a) (d : ClaimFits o v' w' x base reading a') → AreFresh o.timers → KnowsTimers o w
       → claim_moment o v w x base reading a c ≡ claim_moment o v' w' x base reading a' d → (a ≡ a') × SameOwn w w'
   claim_once (claimings.Claimed n) (claimings.Claimed m) c d fresh knows e =
       let same = claims_once n m c d e in (ap claimings.Claimed same.0, same.1.own)
-  claim_once (claimings.Claimed n) claimings.NoneDue c d fresh knows e = absurd (no_turn _ _ _ c.first d.1.first e)
-  claim_once (claimings.Claimed n) (claimings.BaseBusy t g) c d fresh knows e = absurd (not_both _ _ t g c.idle d.1 e)
-  claim_once claimings.NoneDue (claimings.Claimed m) c d fresh knows e = absurd (no_turn _ _ _ d.first c.1.first (sym e))
+  claim_once (claimings.Claimed n) claimings.NoneDue c d fresh knows e = absurd (no_turn o v v' w w' x base reading _ _ _ c.first d.1.first e)
+  claim_once (claimings.Claimed n) (claimings.BaseBusy t g) c d fresh knows e = absurd (not_both o v v' w w' x base reading _ _ t g c.idle d.1 e)
+  claim_once claimings.NoneDue (claimings.Claimed m) c d fresh knows e = absurd (no_turn o v v' w w' x base reading _ _ _ d.first c.1.first (sym e))
   claim_once claimings.NoneDue claimings.NoneDue c d fresh knows e = (refl, looked_once v v' w w' own c.0 d.0)
-  claim_once claimings.NoneDue (claimings.BaseBusy t g) c d fresh knows e = absurd (not_both _ _ t g c.1.idle d.1 e)
-  claim_once (claimings.BaseBusy t g) (claimings.Claimed m) c d fresh knows e = absurd (not_both _ _ t g d.idle c.1 (sym e))
-  claim_once (claimings.BaseBusy t g) claimings.NoneDue c d fresh knows e = absurd (not_both _ _ t g d.1.idle c.1 (sym e))
+  claim_once claimings.NoneDue (claimings.BaseBusy t g) c d fresh knows e = absurd (not_both o v v' w w' x base reading _ _ t g c.1.idle d.1 e)
+  claim_once (claimings.BaseBusy t g) (claimings.Claimed m) c d fresh knows e = absurd (not_both o v v' w w' x base reading _ _ t g d.idle c.1 (sym e))
+  claim_once (claimings.BaseBusy t g) claimings.NoneDue c d fresh knows e = absurd (not_both o v v' w w' x base reading _ _ t g d.1.idle c.1 (sym e))
   claim_once (claimings.BaseBusy t g) (claimings.BaseBusy u h) c d fresh knows e =
       let one = one_function o w x base t g u h fresh knows c.1 (ap (λ y. running_on base (in_context x (timer_then o y) u)) e ∙ d.1) in
       (busy_same one.0 one.1, looked_once v v' w w' own c.0 d.0)
@@ -115,7 +120,8 @@ module _ (o : Opening) (v v' w w' : KnownOfTimers) (own : SameOwn v v') (x : Con
         → claim_moment o v w x base reading a c ≡ claim_moment o v' w' x base reading a' d → a ≡ a'
         → ClaimIsLogged put o v w x base reading a c s r → ClaimIsLogged put o v' w' x base reading a' d s r' → r ≡ r'
     claim_logged_once (claimings.Claimed n) (claimings.Claimed m) c d e f p q =
-        logged_once put o n.timer m.timer c.at d.at _ _ s r r' p q (same_timer n m c d e) e (same_claim_entry n m c d e)
+        logged_once put o n.timer m.timer c.at d.at _ _ s r r' p q (same_timer o v v' w w' x base reading n m c d e) e
+        (same_claim_entry o v v' w w' x base reading n m c d e)
     claim_logged_once (claimings.Claimed n) claimings.NoneDue c d e f p q = absurd cc
     claim_logged_once (claimings.Claimed n) (claimings.BaseBusy t g) c d e f p q = absurd cc
     claim_logged_once claimings.NoneDue (claimings.Claimed m) c d e f p q = absurd cc

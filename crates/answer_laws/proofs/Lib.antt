@@ -1,6 +1,7 @@
 pub mod BaseCalls
 pub mod ClaimCalls
 pub mod ClockCalls
+pub mod ExpiryRuns
 pub mod NowCalls
 pub mod OfflineCalls
 pub mod OneAnswer

@@ -1,5 +1,6 @@
 pub mod Bases
 pub mod Clocks
+pub mod Expiries
 pub mod Offline
 pub mod Outcomes
 pub mod Rows

@@ -3,6 +3,7 @@
 
 mod bases;
 mod clocks;
+mod expiries;
 mod rows;
 mod signals;
 mod timers;
@@ -12,9 +13,14 @@ pub use bases::{
     an_entry_on_a_base_is_fixed,
 };
 pub use clocks::a_write_is_fixed;
-pub use rows::{a_locked_value_is_fixed, a_state_is_fixed, what_a_row_s_calls_leave_is_fixed};
+pub use expiries::an_expiry_run_is_fixed;
+pub use rows::{
+    a_locked_value_is_fixed, a_state_is_fixed, what_a_row_s_calls_leave_is_fixed,
+    what_passes_tell_is_fixed,
+};
 pub use signals::{a_pop_is_fixed, a_push_is_fixed};
 pub use timers::{
     a_cancel_behind_a_rise_is_fixed, a_cancel_is_fixed, a_cancel_now_is_fixed, a_claim_is_fixed, a_finish_is_fixed, a_forward_is_fixed, a_peek_is_fixed,
     a_start_is_fixed, taking_a_base_off_line_is_fixed, taking_a_base_on_line_is_fixed,
+    what_passes_of_timers_tell_is_fixed,
 };

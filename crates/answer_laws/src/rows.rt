@@ -4,8 +4,9 @@ ghost use Rattle.counted_row.specs.Calls.{Commits, ReadsValue};
 ghost use Rattle.counted_row.specs.Views.{Locks, PassOfRow, Sees, StateAfter};
 ghost use Rattle.counted_row.specs.declared.view.Entry.{Entry};
 ghost use Rattle.counted_row.specs.declared.view.Locked.{Locked};
-ghost use Rattle.pass_names.specs.Passes.{entries};
-ghost use Rattle.answer_laws.specs.Rows.{SameOfRow};
+ghost use Rattle.pass_names.specs.declared.Pass.{Pass};
+ghost use Rattle.pass_names.specs.Passes.{Looks, Meets, Retires, entries};
+ghost use Rattle.answer_laws.specs.Rows.{SameOfRow, SamePlaces};
 
 use counted_row::Object;
 
@@ -27,4 +28,11 @@ pub fn what_a_row_s_calls_leave_is_fixed<O: Object>()
         → c.adds.before ≡ d.adds.before → (c.state ≡ d.state) × (entries i q.knows.pass.seen ≡ entries i q'.knows.pass.seen) × SameOfRow q q' }
     ensures reads { (p q q' : PassOfRow O O.Call O.Reply) (i : ℕ) (c : ReadsValue O.meaning p q i) (d : ReadsValue O.meaning p q' i)
         → entries i q.knows.pass.seen ≡ entries i q'.knows.pass.seen → (c.state ≡ d.state) × SameOfRow q q' }
+{}
+
+/// What a look, a meeting and a retirement leave is fixed but for what was seen. That holds of the passes of rows, clocks and queues of signals.
+pub fn what_passes_tell_is_fixed<E>()
+    ensures looks { (p q q' : Pass E) → Looks p q → Looks p q' → SamePlaces q q' }
+    ensures meets { (a b p q p' q' : Pass E) → Meets a b p q → Meets a b p' q' → SamePlaces p p' × SamePlaces q q' }
+    ensures retires { (a b p p' : Pass E) → Retires a b p → Retires a b p' → SamePlaces p p' }
 {}

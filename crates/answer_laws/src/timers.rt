@@ -13,6 +13,7 @@ ghost use Rattle.hr_timers.specs.declared.numbers.ClaimNumbers as claimed;
 ghost use Rattle.hr_timers.specs.Calls.{Cancels, ClaimFits, ClaimsNextDue, Finishes, Forwards, NowFits, Peeks, StartsTimer};
 ghost use Rattle.hr_timers.specs.Known.{KnownOfTimers, KnowsTimers, PassOf};
 ghost use Rattle.hr_timers.specs.Logged.{CancelsBehind, CancelsLogged, ClaimsLogged, FinishesLogged, ForwardsLogged, HadRisenOtherwise};
+ghost use Rattle.pass_names.specs.SharedHistory.{LooksOn, MeetWith, TakesIn};
 ghost use Rattle.seq_timer.specs.Events.{Asked};
 ghost use Rattle.seq_timer.specs.declared.answer.CancelAnswer as cancels;
 ghost use Rattle.seq_timer.specs.declared.answer.Finished as finished;
@@ -113,4 +114,11 @@ pub fn taking_a_base_off_line_is_fixed<S: ReceiptSink>()
 pub fn taking_a_base_on_line_is_fixed()
     ensures { (o : Opening) (v w w' : KnownOfTimers) (base : ℕ) (a a' : ons.OnlineAnswer) → KnowsTimers o w → KnowsTimers o w' → OnlineFits o v w base a
         → OnlineFits o v w' base a' → (a ≡ a') × SameOwn w w' }
+{}
+
+/// What a look, a meeting and a retirement leave is fixed but for what was seen.
+pub fn what_passes_of_timers_tell_is_fixed()
+    ensures looks { (v w w' : KnownOfTimers) → LooksOn v w → LooksOn v w' → SameOwn w w' }
+    ensures meets { (v u p q p' q' : KnownOfTimers) → MeetWith v u p q → MeetWith v u p' q' → SameOwn p p' × SameOwn q q' }
+    ensures retires { (v u w w' : KnownOfTimers) → TakesIn v u w → TakesIn v u w' → SameOwn w w' }
 {}
