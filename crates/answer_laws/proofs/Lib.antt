@@ -1,8 +1,10 @@
+pub mod AnewCalls
 pub mod BaseCalls
 pub mod ClaimCalls
 pub mod ClockCalls
 pub mod ExpiryRuns
 pub mod NowCalls
+pub mod ObjectCalls
 pub mod OfflineCalls
 pub mod OneAnswer
 pub mod Outcomes

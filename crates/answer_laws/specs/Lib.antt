@@ -1,6 +1,7 @@
 pub mod Bases
 pub mod Clocks
 pub mod Expiries
+pub mod Objects
 pub mod Offline
 pub mod Outcomes
 pub mod Rows

@@ -4,6 +4,7 @@
 mod bases;
 mod clocks;
 mod expiries;
+mod objects;
 mod rows;
 mod signals;
 mod timers;
@@ -14,6 +15,7 @@ pub use bases::{
 };
 pub use clocks::a_write_is_fixed;
 pub use expiries::an_expiry_run_is_fixed;
+pub use objects::{a_settime_is_fixed, a_sleep_is_fixed, an_interrupt_is_fixed};
 pub use rows::{
     a_locked_value_is_fixed, a_state_is_fixed, what_a_row_s_calls_leave_is_fixed,
     what_passes_tell_is_fixed,
