@@ -8,6 +8,7 @@ pub mod ObjectCalls
 pub mod OfflineCalls
 pub mod OneAnswer
 pub mod Outcomes
+pub mod RearmCalls
 pub mod RowCalls
 pub mod SignalCalls
 pub mod TimerCalls

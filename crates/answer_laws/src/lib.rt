@@ -15,7 +15,10 @@ pub use bases::{
 };
 pub use clocks::a_write_is_fixed;
 pub use expiries::an_expiry_run_is_fixed;
-pub use objects::{a_settime_is_fixed, a_sleep_is_fixed, an_interrupt_is_fixed};
+pub use objects::{
+    a_gettime_is_fixed, a_look_at_an_object_is_fixed, a_read_is_fixed, a_settime_is_fixed,
+    a_sleep_is_fixed, an_accept_is_fixed, an_interrupt_is_fixed,
+};
 pub use rows::{
     a_locked_value_is_fixed, a_state_is_fixed, what_a_row_s_calls_leave_is_fixed,
     what_passes_tell_is_fixed,
