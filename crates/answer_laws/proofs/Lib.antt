@@ -1,0 +1,14 @@
+pub mod AnewCalls
+pub mod BaseCalls
+pub mod ClaimCalls
+pub mod ClockCalls
+pub mod ExpiryRuns
+pub mod NowCalls
+pub mod ObjectCalls
+pub mod OfflineCalls
+pub mod OneAnswer
+pub mod Outcomes
+pub mod RearmCalls
+pub mod RowCalls
+pub mod SignalCalls
+pub mod TimerCalls
