@@ -1,6 +1,5 @@
 -- A history of one sleeper (POSIX.1-2017, clock_nanosleep): sleeps that each end in another way.
 use Rattle.std.specs.Prelude.{ℕ, List, [], ◌∷◌}
-use Rattle.ktime.specs.Readings.{ClockReading}
 use Rattle.timer_setting.specs.declared.arming.Arm.{Arm}
 use Rattle.timer_setting.specs.declared.arming.Arm.TheVariants as arms
 use Rattle.timer_setting.specs.declared.trigger_answer.TriggerAnswer.{TriggerAnswer}
@@ -12,10 +11,7 @@ use Rattle.timer_setting.specs.declared.answers.SleepAnswer.TheVariants as begin
 use Rattle.timer_setting.specs.declared.object_call.ObjectCall.TheVariants as calls
 use Rattle.timer_setting.specs.declared.object_call.ObjectReply.TheVariants as replies
 use Rattle.sleeper.specs.Histories.{SleeperEntry}
-
--- what a clock shows that nobody has written yet, where all three clocks stand at this time
-abbrev pub at : ℕ → ClockReading
-at time = record { stamp = 0; mono = time; real = time; boot = time; changes = 0 }
+use Rattle.timer_uses.specs.Moments.{at}
 
 -- a sleep of so long (flags 0) or up to this time (flags 1), begun at a moment
 abbrev pub sleep : ℕ → ℕ → ℕ → Arm → SleepAnswer → SleeperEntry

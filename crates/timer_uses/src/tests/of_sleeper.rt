@@ -1,7 +1,7 @@
 //! Tests of `sleeper`: a sleeper's calls, and a history of sleeps that each end in another way.
 ghost use Rattle.ktime.specs.declared.clock_id.ClockId.TheVariants as clocks;
 ghost use Rattle.sleeper.specs.Histories.{IsSleeperHistory};
-ghost use Rattle.sleeper_uses.specs.Sleeps.{sleeps};
+ghost use Rattle.timer_uses.specs.Sleeps.{sleeps};
 
 use super::assert_equal;
 use ktime::{ClockId, Reading};

@@ -1,34 +1,11 @@
-//! The callers, run; and the tests of `sleeper`.
-ghost use Rattle.std.specs.Prelude.{◌≡◌};
-
-mod of_sleeper;
-
+//! The callers of `sleeper`, run.
+use super::{MONOTONIC, assert_equal, ns};
 use crate::{begin_sleep, end_sleep, expire_sleep, wake};
-use ktime::{ClockId, Reading, TimeSpec};
-use seq_timer::{Context, Declared};
+use ktime::{ClockId, Reading};
 use sleeper::{InterruptAnswer, SleepAnswer, SleeperState, SleptAnswer, TIMER_ABSTIME};
 use std::alloc::AllocError;
-use std::fmt::Debug;
-use std::process::Abort;
 use timer_core::{ClaimAnswer, Core};
 use timer_queue::ListQueue;
-
-/// Fails the test where these differ, and shows both. This is proved once; an `assert_eq!` is proved in each test that has it.
-fn assert_equal<T: PartialEq + Debug + Drop>(rt: &impl Abort, got: T, wanted: T) {
-    assert_eq!(rt; got, wanted);
-}
-
-/// A timer of the hard context on the monotonic clock.
-const MONOTONIC: Declared = Declared {
-    clock: ClockId::Monotonic,
-    context: Context::Hard,
-};
-
-fn ns(nsec: u64) -> TimeSpec
-    ensures { result ≡ record { sec = 0; nsec = nsec } }
-{
-    TimeSpec { sec: 0, nsec }
-}
 
 #[test]
 fn a_signal_ends_a_sleep(rt: HostRuntime) -> Result<(), AllocError> {
