@@ -10,7 +10,7 @@ mod turns;
 
 use bench_cases::Task;
 use counted_row::{Row, RowPass};
-use counted_row_uses::Counter;
+use table_uses::Counter;
 use report::{VALUES, report};
 use std::alloc::{AllocError, Global};
 use std::io;

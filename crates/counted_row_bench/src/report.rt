@@ -5,7 +5,7 @@ ghost use Rattle.counted_row_bench.specs.Alone.{IsAlone};
 use crate::turns::{Ending, run};
 use bench_cases::{Figure, Least, Task};
 use counted_row::{Row, RowPass};
-use counted_row_uses::Counter;
+use table_uses::Counter;
 use std::io;
 use std::sync::Wait;
 use std::thread::Threads;

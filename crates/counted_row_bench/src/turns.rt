@@ -1,11 +1,11 @@
 //! What the threads do: the lock of a value, then a commit or a release, so many times.
 ghost use Rattle.std.specs.Prelude.{◌≡◌, ◌<◌, ◌≤◌, None, length, IfSome};
 ghost use Rattle.counted_row.specs.Views.{IsPassOfRow};
-ghost use Rattle.counted_row_uses.specs.Counters.{Made};
+ghost use Rattle.table_uses.specs.Counters.{Made};
 ghost use Rattle.counted_row_bench.specs.Alone.{IsAlone};
 
 use counted_row::{Row, RowPass};
-use counted_row_uses::{Counter, count};
+use table_uses::{Counter, count};
 use std::sync::Wait;
 use std::thread::{Threads, join_mut};
 

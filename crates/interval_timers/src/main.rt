@@ -1,4 +1,4 @@
-//! A POSIX timer and a timer descriptor on one thread, armed for every interval, each over a timer of one core.
+//! A POSIX timer and a timer descriptor, armed for every interval, and a sleeper, on one thread: each over a timer of one core.
 #![tactic(auto)]
 
 ghost use Rattle.std.specs.Prelude.{◌≡◌, ◌<◌, ℕ, length};
@@ -7,6 +7,7 @@ ghost use Rattle.timer_core.specs.Kept.{IsSameSize};
 
 use ktime::{ClockId, Reading, TimeSpec};
 use posix_timer::{AcceptAnswer, PosixState};
+use sleeper::{InterruptAnswer, SleepAnswer, SleeperState};
 use std::alloc::{AllocError, Global};
 use std::io;
 use timer_core::{ClaimAnswer, Core, StartAnswer};
@@ -20,26 +21,31 @@ const SIGNALS: u32 = 0;
 /// The timer below the descriptor.
 const COUNTS: u32 = 1;
 
-/// Both objects over their timers, on base 0. The facts hold between all calls.
+/// The timer below the sleeper.
+const SLEEPS: u32 = 2;
+
+/// The three objects over their timers, on base 0. The facts hold between all calls.
 #[derive(Drop)]
-struct Intervals {
+struct Objects {
     core: Core<ListQueue>,
     signals: PosixState,
     counts: FdState,
-    ghost timers: { length core.timers ≡ 2 },
-    ghost bases: { (length core.bases ≡ 1) × (signals.base ≡ 0) × (counts.base ≡ 0) },
+    sleeper: SleeperState,
+    ghost timers: { length core.timers ≡ 3 },
+    ghost bases: { (length core.bases ≡ 1) × (signals.base ≡ 0) × (counts.base ≡ 0) × (sleeper.base ≡ 0) },
 }
 
-impl Intervals {
-    fn make(alloc: Global) -> Result<Intervals, AllocError> {
-        Ok(Intervals {
-            core: Core::make(alloc, 1, &[ClockId::Monotonic; 2], 1000)?,
+impl Objects {
+    fn make(alloc: Global) -> Result<Objects, AllocError> {
+        Ok(Objects {
+            core: Core::make(alloc, 1, &[ClockId::Monotonic; 3], 1000)?,
             signals: PosixState::make(ClockId::Monotonic, 0, 1000),
             counts: FdState::make(ClockId::Monotonic, 0, 1000),
+            sleeper: SleeperState::make(ClockId::Monotonic, 0, 1000),
         })
     }
 
-    /// Arms both to expire after each interval: a look, the start that it wants, and the call.
+    /// Arms the first two to expire after each interval: a look, the start that it wants, and the call.
     fn set(&mut self, every: TimeSpec, reading: Reading) {
         let wanted = self.signals.settime_wants(0, every, every, reading);
         let arm = start(&mut self.core, SIGNALS, wanted, reading);
@@ -62,8 +68,10 @@ impl Intervals {
         self.core.finish(timer, false);
         if timer == SIGNALS {
             self.signals.trigger(generation, reading);
-        } else {
+        } else if timer == COUNTS {
             self.counts.trigger(generation, reading);
+        } else {
+            self.sleeper.trigger(generation, reading);
         }
     }
 
@@ -79,6 +87,19 @@ impl Intervals {
         let wanted = self.counts.read_wants(8, reading);
         let arm = start(&mut self.core, COUNTS, wanted, reading);
         self.counts.read(8, reading, arm)
+    }
+
+    /// Begins a sleep of so long.
+    fn sleep(&mut self, time: TimeSpec, reading: Reading) -> SleepAnswer {
+        let wanted = self.sleeper.sleep_wants(0, time, reading);
+        let arm = start(&mut self.core, SLEEPS, wanted, reading);
+        self.sleeper.sleep(0, time, reading, arm)
+    }
+
+    /// Ends the sleep, as a signal does: the timer is disarmed first.
+    fn interrupt(&mut self, reading: Reading) -> InterruptAnswer {
+        self.core.try_to_cancel(SLEEPS);
+        self.sleeper.interrupt(reading)
     }
 }
 
@@ -98,17 +119,24 @@ fn start(core: &mut Core<ListQueue>, timer: u32, wanted: Option<Wanted>, reading
 }
 
 fn main(rt: HostRuntime) -> io::Result<()> {
-    let mut intervals = Intervals::make(rt.alloc())?;
-    intervals.set(TimeSpec { sec: 0, nsec: 100 }, Reading::at(0));
-    for now in [100u32, 350, 400] {
+    let mut objects = Objects::make(rt.alloc())?;
+    let time = TimeSpec { sec: 0, nsec: 100 };
+    for (from, to) in [(0u32, 100u32), (200, 230)] {
+        let begun = objects.sleep(time, Reading::at(from.into()));
+        objects.expire(Reading::at(to.into()));
+        let ended = objects.interrupt(Reading::at(to.into()));
+        println!(rt; "{from}: {begun:?}, {to}: {ended:?}")?;
+    }
+    objects.set(time, Reading::at(300));
+    for now in [400u32, 650, 700] {
         let reading = Reading::at(now.into());
         for _ in 0..2 {
-            intervals.expire(reading);
+            objects.expire(reading);
         }
         println!(rt;
             "{now}: {:?}, {:?}",
-            intervals.accept(reading),
-            intervals.read(reading)
+            objects.accept(reading),
+            objects.read(reading)
         )?;
     }
     Ok(())

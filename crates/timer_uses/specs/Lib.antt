@@ -1,3 +1,4 @@
 pub mod FdEntries
 pub mod Moments
 pub mod PosixEntries
+pub mod Sleeps

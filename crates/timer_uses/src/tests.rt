@@ -3,11 +3,13 @@ ghost use Rattle.std.specs.Prelude.{◌≡◌};
 
 mod of_posix_timer;
 mod of_seq_timer;
+mod of_sleeper;
 mod of_timer_core;
 mod of_timer_fd;
 mod of_timer_queue;
 mod of_timer_setting;
 mod of_timer_tree;
+mod sleeps;
 
 use crate::{
     Tick, accept_signal, arm_periodic, descriptor_expired, expire_once, expire_periodic,

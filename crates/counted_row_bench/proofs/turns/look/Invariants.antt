@@ -1,5 +1,5 @@
 use Rattle.counted_row.specs.Views.{IsPassOfRow}
-use Rattle.counted_row_uses.specs.Counters.{Made}
+use Rattle.table_uses.specs.Counters.{Made}
 use Rattle.counted_row_bench.proofs.turns.look.Given as goal
 
 abbrev pub invariant-loop : goal.invariant-loop
