@@ -19,7 +19,7 @@ use Rattle.base_row.specs.Rules.{is_base_claim}
 use Rattle.base_row.specs.Calls.{Appended, AreFresh, MayAppend, timer_seen}
 use Rattle.base_row.proofs.Calling.{looks_freed, looks_locks, seen_after}
 use Rattle.base_row.proofs.Frames.{some_same}
-use Rattle.shared_timer_uses.proofs.tests.of_base_row.callers.run.Goals as goal
+use Rattle.shared_timer_uses.proofs.tests.of_base_row.run.Goals as goal
 
 abbrev claim_of : ℕ → Timer → Claimed
 claim_of id t = record { timer = id; generation = unwrap_or t.running 0; base = t.base }

@@ -1,5 +1,5 @@
 use Rattle.hr_timers.proofs.OneClaim.{has_only, none_left}
-use Rattle.shared_timer_uses.proofs.tests.of_hr_timers.callers.finish.Goals as goal
+use Rattle.shared_timer_uses.proofs.tests.of_hr_timers.finish.Goals as goal
 
 pub finish-requires-clause-claim : goal.finish-requires-clause-claim
 finish-requires-clause-claim g c = has_only c.args.timers.now.about c.args.pass.now.known c.args.claim c.requires.within c.requires.only

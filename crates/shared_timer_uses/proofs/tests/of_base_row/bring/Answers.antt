@@ -12,7 +12,7 @@ use Rattle.seq_timer.specs.Calls.{asked_for}
 use Rattle.base_row.specs.declared.view.BaseView.{BaseView}
 use Rattle.seq_timer.specs.Systems.{BaseContent}
 use Rattle.base_row.proofs.Calling.{may_start, seen_same}
-use Rattle.shared_timer_uses.proofs.tests.of_base_row.callers.bring.Goals as goal
+use Rattle.shared_timer_uses.proofs.tests.of_base_row.bring.Goals as goal
 
 pub arrive-requires-clause-state : goal.arrive-requires-clause-state
 arrive-requires-clause-state g c =

@@ -6,7 +6,7 @@ use Rattle.shared_timer_uses.proofs.Near.{may_leave}
 use Rattle.base_row.specs.declared.view.BaseView.{BaseView}
 use Rattle.seq_timer.specs.Systems.{BaseContent, IsOn}
 use Rattle.base_row.proofs.Calling.{seen_same}
-use Rattle.shared_timer_uses.proofs.tests.of_base_row.callers.move_to.Goals as goal
+use Rattle.shared_timer_uses.proofs.tests.of_base_row.move_to.Goals as goal
 
 pub bring-requires-clause-state : goal.bring-requires-clause-state
 bring-requires-clause-state g c =
