@@ -1,17 +1,12 @@
 //! The callers, run; and the calls of objects by one thread and by two.
-mod answers;
 mod awaited;
 mod beside;
 mod blocking;
-mod expected;
+mod calls;
 mod greatest;
 mod of_expire_pass;
-mod of_timer_objects;
-mod off_line;
 mod passes;
-mod places;
 mod queued;
-mod sleeping;
 mod stand;
 mod waiting;
 

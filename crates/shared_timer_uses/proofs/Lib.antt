@@ -1,5 +1,4 @@
 pub mod Counting
 pub mod Knowing
 pub mod Near
-pub mod Nesting
 pub mod Turning

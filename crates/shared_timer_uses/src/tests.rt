@@ -1,33 +1,26 @@
-//! The callers, run; and handlers that call timers from within a function.
-ghost use Rattle.std.specs.Prelude.{◌≡◌, ◌<◌, ◌≤◌, ◌^◌, [], length, IfOk};
-ghost use Rattle.pass_names.specs.Names.{IsLast, first_pass_id};
+//! The callers, run; and the tests of the crates below, one module each.
+ghost use Rattle.std.specs.Prelude.{◌≡◌, ◌<◌, ◌≤◌, [], length, IfOk};
+ghost use Rattle.pass_names.specs.Names.{IsLast, after_split, child_of, first_pass_id};
 ghost use Rattle.hr_timers.specs.Known.{IsPassOf};
 
-mod acting;
 mod callers;
-mod claims;
-mod drawn;
-mod functions;
 mod greatest;
 mod of_base_row;
 mod of_clock_cell;
 mod of_hr_timers;
 mod of_ordered_clock;
-mod slack;
 mod threads;
 
 use expire_pass::Log;
 use hr_timers::{Pass, Timers};
 use ktime::ClockId;
-use seq_timer::{Context, Declared, Moved, Placement};
+use seq_timer::{Context, Declared, Placement};
 use std::alloc::{AllocError, Global};
 use std::fmt::Debug;
 use std::process::Abort;
 
-/// Fails the test where these differ, and shows both. This is proved once; an `assert_eq!` is proved in each test that has it.
-fn assert_equal<T: PartialEq + Debug + Drop>(rt: &impl Abort, got: T, wanted: T) {
-    assert_eq!(rt; got, wanted);
-}
+/// How often a thread looks for what the other one does.
+const TURNS: u32 = 50_000_000;
 
 /// A timer of the hard context on the monotonic clock.
 const HARD: Declared = Declared {
@@ -41,20 +34,16 @@ const SOFT: Declared = Declared {
     context: Context::Soft,
 };
 
+/// Fails the test where these differ, and shows both. This is proved once; an `assert_eq!` is proved in each test that has it.
+fn assert_equal<T: PartialEq + Debug + Drop>(rt: &impl Abort, got: T, wanted: T) {
+    assert_eq!(rt; got, wanted);
+}
+
 /// A timer without slack, kept on the monotonic clock of a base.
 fn kept(base: u32, expires: u64) -> Placement {
     Placement {
         base,
         clock: ClockId::Monotonic,
-        soft: expires,
-        expires,
-    }
-}
-
-/// So many intervals, and the expiry after them of a timer without slack.
-fn moved(count: u64, expires: u64) -> Moved {
-    Moved {
-        count,
         soft: expires,
         expires,
     }
@@ -73,4 +62,18 @@ fn some_timers(alloc: Global, bases: u32, count: usize) -> Result<(Timers, Pass,
     let clocks = vec![in alloc; ClockId::Monotonic; count]?;
     let (timers, pass) = Timers::make(alloc, bases, &clocks, 100000)?;
     Ok((timers, pass, log))
+}
+
+/// The first pass takes in the one that was split off it first.
+fn retire(timers: &Timers, main: &mut Pass, other: Pass)
+    requires pass { IsPassOf timers.now main.old }
+    requires other { IsPassOf timers.now other }
+    requires first { main.old.known.id ≡ after_split first_pass_id }
+    requires child { other.known.id ≡ child_of first_pass_id }
+    requires unclaimed { (main.old.known.claims ≡ []) × (other.known.claims ≡ []) }
+    ensures pass { IsPassOf timers.now main.new }
+    ensures last { IsLast main.new.known.id }
+    ensures unclaimed { main.new.known.claims ≡ [] }
+{
+    timers.retire(main, other);
 }

@@ -22,7 +22,7 @@ use timer_fd::SettimeAnswer;
 use timer_objects::{BlockingRead, Callback, Decl, Kind, Object, ObjectLog, Objects, Reader};
 
 /// The number of the descriptor, and of its timer.
-pub(super) const FD: u32 = 0;
+const FD: u32 = 0;
 
 /// How often a thread goes on while the other one reads.
 const TURNS: u64 = 1_000_000;
@@ -197,7 +197,7 @@ fn run_until<R: Wait>(
 }
 
 /// Writes the clock, if that is asked for, or runs the function, if it is due.
-pub(super) fn run_one<R: Wait>(
+fn run_one<R: Wait>(
     rt: &R,
     alloc: Global,
     timers: &Timers,

@@ -2,8 +2,7 @@
 ghost use Rattle.std.specs.Prelude.{◌≤◌, ◌<◌};
 
 use super::assert_equal;
-use super::expected::old;
-use super::stand::{FD, Stand, Step, Told};
+use super::stand::{FD, NONE, Stand, Step, Told, number_at};
 use crate::{Expired, read_beside};
 use expire_pass::{ExpireAnswer, Log};
 use ktime::{ClockId, Reading};
@@ -12,7 +11,7 @@ use std::sync::Wait;
 use std::test::Fail;
 use std::thread::Threads;
 use timer_fd::ReadAnswer;
-use timer_objects::{Callback, ObjectReceipt};
+use timer_objects::Callback;
 
 impl Stand {
     /// One thread runs the functions of due timers, the other reads the descriptor.
@@ -45,12 +44,6 @@ impl Stand {
     }
 }
 
-/// The number of a receipt of the descriptor.
-fn number_at(receipts: &[ObjectReceipt], i: usize) -> Option<u64> {
-    let receipt = receipts.get(i)?;
-    (receipt.object == FD).then_some(receipt.number)
-}
-
 #[test]
 fn a_read_beside_a_run_loses_no_expiry(rt: HostRuntime) -> Result<(), Fail> {
     let mut runs = Log::make(rt.alloc());
@@ -58,7 +51,8 @@ fn a_read_beside_a_run_loses_no_expiry(rt: HostRuntime) -> Result<(), Fail> {
     let mut stand = Stand::make(rt.alloc(), ClockId::Monotonic, 100)?;
     let late = Reading::at(135);
     let step = Step::Settime(FD, 1, 100, 10);
-    assert_equal(&rt, stand.take(&rt, step, Reading::at(0)), old(0, 0));
+    let set = stand.take(&rt, step, Reading::at(0));
+    assert_equal(&rt, set, Told::Settime(NONE));
     assert!(rt; stand.reserve(8, 2).is_ok());
     let (ran, first) = stand.read_beside(&rt, rt.alloc(), late, &mut runs);
     let Ok(

@@ -6,7 +6,7 @@ ghost use Rattle.timer_objects.specs.Known.{decl_at};
 ghost use Rattle.object_uses.specs.Callers.{HasPasses};
 
 use super::assert_equal;
-use super::expected::NONE;
+use super::stand::NONE;
 use crate::set_timer;
 use counted_row::RowPass;
 use expire_pass::Log;
@@ -65,6 +65,7 @@ fn the_last_object_is_set(rt: HostRuntime) -> Result<(), Fail> {
     log.reserve(4)?;
     calls.reserve(1)?;
     let (timers, mut pass, objects, mut objects_pass) = posix_timers(rt.alloc(), TIMERS as usize)?;
+    assert_equal(&rt, objects.kind(TIMERS - 1), Kind::Posix);
     let now = Reading::at(0);
     let told = set_timer(
         &rt,

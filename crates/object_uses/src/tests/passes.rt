@@ -2,20 +2,12 @@
 ghost use Rattle.std.specs.Prelude.{◌≤◌, ◌<◌};
 
 use super::assert_equal;
-use super::expected::{NONE, old};
-use super::stand::{FD, POSIX, Stand, Step};
+use super::stand::{FD, NONE, Stand, number_at};
 use crate::{hear_all, set_timer};
 use ktime::{ClockId, Reading};
 use std::sync::Wait;
 use std::test::Fail;
 use timer_fd::SettimeAnswer;
-use timer_objects::ObjectReceipt;
-
-/// The object and the number of a receipt.
-fn seen_at(receipts: &[ObjectReceipt], i: usize) -> Option<(u32, u64)> {
-    let receipt = receipts.get(i)?;
-    Some((receipt.object, receipt.number))
-}
 
 impl Stand {
     /// A pass that is split off sets an object to 100, and the first pass hears of it and takes it in.
@@ -49,23 +41,9 @@ impl Stand {
 #[test]
 fn a_pass_hears_all(rt: HostRuntime) -> Result<(), Fail> {
     let mut stand = Stand::make(rt.alloc(), ClockId::Monotonic, 100)?;
-    let zero = Reading::at(0);
-    assert_equal(
-        &rt,
-        stand.take(&rt, Step::Settime(POSIX, 1, 100, 0), zero),
-        old(0, 0),
-    );
-    assert!(rt; stand.reserve(16, 4).is_ok());
+    assert!(rt; stand.reserve(4, 1).is_ok());
     assert_equal(&rt, stand.set_by_another(&rt, FD), NONE);
-    assert_equal(
-        &rt,
-        stand.take(&rt, Step::Settime(FD, 1, 200, 0), zero),
-        old(100, 0),
-    );
-    let calls = stand.calls.receipts();
-    assert_equal(&rt, seen_at(calls, 0), Some((POSIX, 1)));
-    assert_equal(&rt, seen_at(calls, 1), Some((FD, 1)));
-    assert_equal(&rt, seen_at(calls, 2), Some((FD, 2)));
+    assert_equal(&rt, number_at(stand.calls.receipts(), 0), Some(1));
     stand.close();
     Ok(())
 }

@@ -1,31 +1,32 @@
-//! A POSIX timer, a descriptor and a sleeper on one base, with the passes and the logs of one thread.
+//! A queued timer, a descriptor and a sleeper on one base, with the passes and the logs of one thread.
 ghost use Rattle.std.specs.Prelude.{◌≡◌, ◌≤◌, ◌<◌, OnOk};
 
-use crate::{accept_signal, await_frame, expire_objects, leave_frame, read_count, set_timer};
+use crate::{accept_signal, await_frame, expire_queued, leave_frame, read_count, set_timer};
 use counted_row::RowPass;
 use expire_pass::{ExpireAnswer, Log};
 use hr_timers::{Pass, Timers};
 use ktime::{ClockId, Reading, TimeSpec};
 use posix_timer::AcceptAnswer;
 use seq_timer::{Declared, Terms};
-use sleeper::TIMER_ABSTIME;
+use signal_queue::SignalPass;
 use std::alloc::{AllocError, Global};
 use std::marker::Model;
 use std::sync::Wait;
 use timer_fd::{ReadAnswer, SettimeAnswer};
 use timer_objects::{
-    Callback, Decl, Gettime, Kind, Object, ObjectLog, Objects, Overrun, Readable, Slept,
+    Callback, Decl, Gettime, Kind, Object, ObjectLog, ObjectReceipt, Objects, Overrun, Readable,
+    Slept,
 };
 use timer_setting::{InterruptAnswer, SleepAnswer};
 
-/// The number of the POSIX timer.
-pub const POSIX: u32 = 0;
+/// The number of the queued timer.
+pub const QUEUED: u32 = 0;
 
 /// The number of the descriptor.
 pub const FD: u32 = 1;
 
 /// The number of the sleeper.
-pub const SLEEPER: u32 = 2;
+const SLEEPER: u32 = 2;
 
 /// What a caller does.
 #[derive(Clone, Copy, Debug, PartialEq, Eq)]
@@ -40,8 +41,8 @@ pub enum Step {
     Gettime(u32),
     Readable,
     Overrun,
-    /// A sleep with these flags, of so many nanoseconds or up to that time.
-    Sleep(u64, u64),
+    /// A sleep up to this time.
+    Sleep(u64),
     Interrupt,
     Slept,
 }
@@ -62,18 +63,29 @@ pub enum Told {
     NoMemory,
 }
 
-/// A POSIX timer, which is object 0, a descriptor, which is object 1, and a sleeper, which is object 2, on base 0, and a pass of each kind.
+/// What a settime tells that replaces no setting.
+pub const NONE: SettimeAnswer = SettimeAnswer::Old {
+    left: 0,
+    interval: 0,
+};
+
+/// The number of a receipt of the descriptor.
+pub fn number_at(receipts: &[ObjectReceipt], i: usize) -> Option<u64> {
+    let receipt = receipts.get(i)?;
+    (receipt.object == FD).then_some(receipt.number)
+}
+
+/// A queued timer, which is object 0, a descriptor, which is object 1, and a sleeper, which is object 2, on base 0, and a pass of each kind.
 pub struct Stand {
     pub timers: Timers,
     pub pass: Pass,
     pub objects: Objects,
     pub objects_pass: RowPass<Object>,
+    pub signal_pass: SignalPass,
     /// The receipts of timers' entries.
     pub log: Log,
     /// The receipts of calls on objects.
     pub calls: ObjectLog,
-    /// The receipts of the triggers of the last run.
-    pub triggers: ObjectLog,
     alloc: Global,
 }
 
@@ -86,11 +98,11 @@ impl Model for Stand {
 
     ghost view = { λ s. (s.log.spare, s.calls.spare) };
 
-    ghost invariant = { λ s. IsStand s.timers s.pass s.objects s.objects_pass };
+    ghost invariant = { λ s. IsStand s.timers s.pass s.objects s.objects_pass s.signal_pass };
 }
 
 /// An object of this kind over a timer on this clock.
-pub fn decl_of(kind: Kind, clock: ClockId) -> Decl
+fn decl_of(kind: Kind, clock: ClockId) -> Decl
     ensures { result ≡ record { kind = kind; clock = clock; base = 0 } }
 {
     Decl {
@@ -101,12 +113,12 @@ pub fn decl_of(kind: Kind, clock: ClockId) -> Decl
 }
 
 impl Stand {
-    /// All three objects over timers on this clock, with a limit on the entries of each.
+    /// All three objects over timers on this clock, with a limit on the entries of each. 64 signals may wait.
     pub fn make(alloc: Global, clock: ClockId, limit: u64) -> Result<Stand, AllocError>
         requires limit { (0 < limit) × (limit ≤ 1000) }
     {
         let decls = [
-            decl_of(Kind::Posix, clock),
+            decl_of(Kind::Queued, clock),
             decl_of(Kind::Fd, clock),
             decl_of(Kind::Sleeper, clock),
         ];
@@ -116,7 +128,9 @@ impl Stand {
             Declared::hard(clock),
         ];
         let (timers, pass) = Timers::make_counting(alloc, 1, &declared, Terms::limited(limit), 4)?;
-        let Ok((objects, objects_pass)) = Objects::make(alloc, &decls, limit) else {
+        let Ok((objects, objects_pass, signal_pass)) = Objects::make_queued(
+            alloc, &decls, limit, 64,
+        ) else {
             timers.close(pass);
             return Err(AllocError);
         };
@@ -125,9 +139,9 @@ impl Stand {
             pass,
             objects,
             objects_pass,
+            signal_pass,
             log: Log::make(alloc),
             calls: ObjectLog::make(alloc),
-            triggers: ObjectLog::make(alloc),
             alloc,
         })
     }
@@ -156,7 +170,7 @@ impl Stand {
             Step::Gettime(id) => Told::Gettime(self.gettime(rt, id.min(FD), reading)),
             Step::Readable => Told::Readable(self.readable(rt, reading)),
             Step::Overrun => Told::Overrun(self.overrun(rt)),
-            Step::Sleep(flags, ns) => Told::Sleep(self.sleep(rt, flags, ns, reading)),
+            Step::Sleep(ns) => Told::Sleep(self.sleep(rt, ns, reading)),
             Step::Interrupt => Told::Interrupt(self.interrupt(rt, reading)),
             Step::Slept => Told::Slept(self.slept(rt)),
         }
@@ -194,13 +208,14 @@ impl Stand {
     fn expire<R: Wait>(&mut self, rt: &R, reading: Reading) -> Told
         requires room { 8 ≤ self.old.0 }
     {
-        let ran = expire_objects(
+        let ran = expire_queued(
             rt,
             self.alloc,
             &self.timers,
             &mut self.pass,
             &self.objects,
             &mut self.objects_pass,
+            &mut self.signal_pass,
             &[Callback::Once, Callback::Once, Callback::Once],
             0,
             reading,
@@ -208,10 +223,7 @@ impl Stand {
             &mut self.log,
         );
         match ran {
-            Ok(expired) => {
-                self.triggers = expired.object_log;
-                Told::Expire(expired.answer)
-            }
+            Ok(expired) => Told::Expire(expired.answer),
             Err(_) => Told::NoMemory,
         }
     }
@@ -228,7 +240,7 @@ impl Stand {
             &mut self.objects_pass,
             &mut self.log,
             &mut self.calls,
-            POSIX,
+            QUEUED,
             reading,
         )
     }
@@ -289,38 +301,24 @@ impl Stand {
             &mut self.objects_pass,
             &mut self.log,
             &mut self.calls,
-            POSIX,
+            QUEUED,
         )
     }
 
     #[tactic(auto, using(crate::proofs::Rooms::room_on))]
-    fn sleep<R: Wait>(&mut self, rt: &R, flags: u64, ns: u64, reading: Reading) -> SleepAnswer
+    fn sleep<R: Wait>(&mut self, rt: &R, ns: u64, reading: Reading) -> SleepAnswer
         requires room { (4 ≤ self.old.0) × (0 < self.old.1) }
     {
         let time = TimeSpec { sec: 0, nsec: ns };
-        if flags == TIMER_ABSTIME {
-            return await_frame(
-                rt,
-                &self.timers,
-                &mut self.pass,
-                &self.objects,
-                &mut self.objects_pass,
-                &mut self.log,
-                &mut self.calls,
-                SLEEPER,
-                time,
-                reading,
-            );
-        }
-        self.objects.sleep(
+        await_frame(
             rt,
             &self.timers,
             &mut self.pass,
+            &self.objects,
             &mut self.objects_pass,
             &mut self.log,
             &mut self.calls,
             SLEEPER,
-            flags,
             time,
             reading,
         )
@@ -355,20 +353,19 @@ impl Stand {
         )
     }
 
-    /// Ends the timers and the objects, and answers the receipts of the triggers of the last run.
-    pub fn close(self) -> ObjectLog {
+    /// Ends the timers and the objects.
+    pub fn close(self) {
         let Stand {
             timers,
             pass,
             objects,
             objects_pass,
+            signal_pass,
             log: _,
             calls: _,
-            triggers,
             alloc: _,
         } = self;
         timers.close(pass);
-        objects.close(objects_pass);
-        triggers
+        objects.close_queued(objects_pass, signal_pass);
     }
 }

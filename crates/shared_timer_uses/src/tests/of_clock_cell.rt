@@ -1,71 +1,13 @@
-//! Callers of the shared clock of `clock_cell`, proved and run: one thread, two threads, and passes that meet.
-ghost use Rattle.std.specs.Prelude.{◌≡◌, ◌+◌, ◌^◌, ◌<◌, ◌≤◌, length, IfOk};
+//! The shared clock of `clock_cell`: each call on its happy path, passes that meet, and two threads that write.
+ghost use Rattle.std.specs.Prelude.{◌≡◌, ◌≤◌, IfOk};
 ghost use Rattle.clock_cell.specs.Views.{IsPassOfClock};
 
 use super::assert_equal;
 use clock_cell::{ClockPass, SharedClock, WriteAnswer};
-use clock_model::ClockFault;
 use ktime::Reading;
-use std::alloc::{AllocError, Global};
 use std::sync::Wait;
 use std::test::Fail;
 use std::thread::{Threads, join_mut};
-
-/// Advances the clock by one so many times, and answers how often it could.
-fn advance_often<R: Wait>(rt: &R, clock: &SharedClock, pass: &mut ClockPass, times: u64) -> u64
-    requires pass { IsPassOfClock clock.now pass.old }
-    ensures pass { IsPassOfClock clock.now pass.new }
-    ensures id { pass.new.knows.pass.id ≡ pass.old.knows.pass.id }
-    ensures mine { length pass.new.knows.pass.mine ≡ length pass.old.knows.pass.mine + result }
-    ensures most { result ≤ times }
-{
-    let mut made = 0;
-    for _ in 0..times {
-        if clock.advance(rt, pass, 1).is_ok() {
-            made += 1;
-        }
-    }
-    made
-}
-
-/// Two threads, each with a pass of its own, advance the clock by one so many times.
-fn advance_both<R: Threads + Wait + Sync>(
-    rt: &R,
-    clock: &SharedClock,
-    first: &mut ClockPass,
-    second: &mut ClockPass,
-    times: u64,
-) -> (u64, u64)
-    requires pass { IsPassOfClock clock.now first.old × IsPassOfClock clock.now second.old }
-    ensures pass { IsPassOfClock clock.now first.new × IsPassOfClock clock.now second.new }
-    ensures id { (first.new.knows.pass.id ≡ first.old.knows.pass.id) × (second.new.knows.pass.id ≡ second.old.knows.pass.id) }
-    ensures mine { (length first.new.knows.pass.mine ≡ length first.old.knows.pass.mine + result.0) × (length second.new.knows.pass.mine ≡ length second.old.knows.pass.mine + result.1) }
-    ensures most { (result.0 ≤ times) × (result.1 ≤ times) }
-{
-    join_mut(
-        rt,
-        &mut || advance_often(rt, clock, first, times),
-        &mut || advance_often(rt, clock, second, times),
-    )
-}
-
-/// A new clock that two threads have advanced, and how many writes they made.
-fn advance_by_two<R: Threads + Wait + Sync>(
-    rt: &R,
-    alloc: Global,
-    times: u64,
-) -> Result<(u64, Reading), AllocError>
-    requires { times < 2 ^ 32 }
-    ensures { IfOk result (λ r. r.1.stamp ≡ r.0) }
-{
-    let (clock, mut main) = SharedClock::make(alloc)?;
-    let mut other = clock.split(&mut main);
-    let (first, second) = advance_both(rt, &clock, &mut main, &mut other, times);
-    clock.join(&mut main, other);
-    let reading = clock.read(rt, &mut main);
-    clock.close(main);
-    Ok((first + second, reading))
-}
 
 /// Advances the clock with one pass, tells the other, and reads with that one.
 fn advance_and_tell<R: Wait>(
@@ -74,11 +16,10 @@ fn advance_and_tell<R: Wait>(
     a: &mut ClockPass,
     b: &mut ClockPass,
     by: u64,
-) -> (Result<Reading, ClockFault>, Reading)
+) -> (WriteAnswer, Reading)
     requires pass { IsPassOfClock clock.now a.old × IsPassOfClock clock.now b.old }
     ensures pass { IsPassOfClock clock.now a.new × IsPassOfClock clock.now b.new }
     ensures id { (a.new.knows.pass.id ≡ a.old.knows.pass.id) × (b.new.knows.pass.id ≡ b.old.knows.pass.id) }
-    ensures later { IfOk result.0 (λ r. r.stamp ≤ result.1.stamp) }
 {
     let answer = clock.advance(rt, a, by);
     clock.meet(a, b);
@@ -109,53 +50,17 @@ fn advance_both_and_meet<R: Threads + Wait + Sync>(
 }
 
 #[test]
-fn after_a_meet_a_read_has_what_the_other_wrote(rt: HostRuntime) -> Result<(), Fail> {
+fn after_a_meet_both_have_read_what_both_wrote(rt: HostRuntime) -> Result<(), Fail> {
     let (clock, mut a) = SharedClock::make(rt.alloc())?;
     let mut b = clock.split(&mut a);
-    let (answer, reading) = advance_and_tell(&rt, &clock, &mut a, &mut b, 5);
-    clock.join(&mut a, b);
-    clock.close(a);
-    assert_equal(&rt, answer.map(|r| (r.stamp, r.mono)), Ok((1, 5)));
-    assert!(rt; reading.stamp >= 1);
-    Ok(())
-}
-
-#[test]
-fn after_a_meet_with_a_look_both_have_read_what_both_wrote(rt: HostRuntime) -> Result<(), Fail> {
-    let (clock, mut a) = SharedClock::make(rt.alloc())?;
-    let mut b = clock.split(&mut a);
+    let (answer, told) = advance_and_tell(&rt, &clock, &mut a, &mut b, 5);
     let (answers, readings) = advance_both_and_meet(&rt, &clock, &mut a, &mut b, 5);
     clock.join(&mut a, b);
     clock.close(a);
+    assert_equal(&rt, answer, Ok(told));
     assert!(rt; answers.0.is_ok() && answers.1.is_ok());
-    assert_equal(&rt, (readings.0.stamp, readings.0.mono), (2, 10));
-    assert_equal(&rt, (readings.1.stamp, readings.1.mono), (2, 10));
-    Ok(())
-}
-
-#[test]
-fn two_threads_lose_no_write(rt: HostRuntime) -> Result<(), Fail> {
-    let (made, reading) = advance_by_two(&rt, rt.alloc(), 100)?;
-    assert_equal(&rt, (made, reading.stamp, reading.mono), (200, 200, 200));
-    Ok(())
-}
-
-#[test]
-fn a_write_past_the_latest_time_is_refused(rt: HostRuntime) -> Result<(), Fail> {
-    let (clock, mut pass) = SharedClock::make(rt.alloc())?;
-    let answer = clock.advance(&rt, &mut pass, 4611686018427387904);
-    let late = clock.advance(&rt, &mut pass, 1);
-    let reading = clock.read(&rt, &mut pass);
-    clock.close(pass);
-    assert_equal(&rt, answer, Ok(reading));
-    assert_equal(
-        &rt,
-        late,
-        Err(ClockFault::ClockRange {
-            would_be: 4611686018427387905,
-        }),
-    );
-    assert_equal(&rt, (reading.stamp, reading.mono), (1, 4611686018427387904));
+    assert_equal(&rt, (readings.0.stamp, readings.0.mono), (3, 15));
+    assert_equal(&rt, (readings.1.stamp, readings.1.mono), (3, 15));
     Ok(())
 }
 

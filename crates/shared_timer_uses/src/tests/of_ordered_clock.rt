@@ -1,4 +1,4 @@
-//! Callers of `ordered_clock`, and of the counters under it, proved and run: one thread, and two.
+//! Callers of `ordered_clock`, and of the counters under it: each call on its happy path, and two threads that write.
 ghost use Rattle.std.specs.Prelude.{◌≡◌, ◌+◌, ◌<◌, ◌≤◌, ◌^◌, IfOk, length, []};
 ghost use Rattle.clock_cell.specs.Views.{IsPassOfClock};
 ghost use Rattle.hr_timers.specs.Known.{IsPassOf};
@@ -9,7 +9,7 @@ use super::{HARD, assert_equal};
 use crate::start_after;
 use base_row::Unlogged;
 use clock_cell::{ClockPass, SharedClock};
-use clock_model::{ClockFault, Write};
+use clock_model::Write;
 use hr_timers::{Pass, StartAnswer, Timers};
 use ktime::{Mode, Reading};
 use ordered_clock::{read, settle, write};
@@ -180,49 +180,20 @@ fn a_start_is_by_a_reading_with_its_place(rt: HostRuntime) -> Result<(), Fail> {
 }
 
 #[test]
-fn a_write_that_the_clock_refuses_raises_nothing(rt: HostRuntime) -> Result<(), Fail> {
-    let (timers, mut pass, clock, mut clock_pass) = timers_and_clock(rt.alloc())?;
-    let by = Write::Advance { by: 1 << 63 };
-    let refused = write(&rt, &timers, &mut pass, &clock, &mut clock_pass, by);
-    let told = timers.counter(&mut pass, 0);
-    timers.close(pass);
-    clock.close(clock_pass);
-    let fault = ClockFault::ClockRange { would_be: 1 << 63 };
-    assert_equal(&rt, refused, Err(fault));
-    assert_equal(&rt, told, 0);
-    Ok(())
-}
-
-#[test]
-fn counters_rise_apart(rt: HostRuntime) -> Result<(), Fail> {
-    let (timers, mut pass) = counting_timers(rt.alloc())?;
-    timers.raise_counter(&mut pass, 0, 0, 5);
-    timers.raise_counter(&mut pass, 0, 0, 3);
-    let hit = timers.step_counter(&mut pass, 1, 0);
-    let missed = timers.step_counter(&mut pass, 1, 0);
-    let counts = (timers.counter(&mut pass, 0), timers.counter(&mut pass, 1));
-    timers.close(pass);
-    assert_equal(&rt, (hit, missed), (true, false));
-    assert_equal(&rt, counts, (5, 1));
-    Ok(())
-}
-
-#[test]
 fn a_counter_rises_before_a_cancel(rt: HostRuntime) -> Result<(), Fail> {
     let (timers, mut pass) = counting_timers(rt.alloc())?;
     timers.start(&rt, &mut pass, 0, Mode::Rel, 7, 0, Reading::at(0));
-    let cancelled = cancel_behind(&rt, &timers, &mut pass, 0);
-    let risen = cancel_behind(&rt, &timers, &mut pass, 0);
-    let idle = cancel_behind(&rt, &timers, &mut pass, 1);
-    let count = timers.counter(&mut pass, 1);
+    timers.raise_counter(&mut pass, 0, 0, 5);
+    let hit = timers.step_counter(&mut pass, 1, 0);
+    let cancelled = cancel_behind(&rt, &timers, &mut pass, 1);
+    let counts = (timers.counter(&mut pass, 0), timers.counter(&mut pass, 1));
     timers.close(pass);
     let entry = CancelAnswer::Cancelled {
         generation: 1,
         number: 2,
     };
+    assert_equal(&rt, hit, true);
     assert_equal(&rt, cancelled, Some(entry));
-    assert_equal(&rt, risen, None);
-    assert_equal(&rt, idle, Some(CancelAnswer::Idle { stamp: 2 }));
-    assert_equal(&rt, count, 2);
+    assert_equal(&rt, counts, (5, 2));
     Ok(())
 }

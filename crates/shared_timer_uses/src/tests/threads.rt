@@ -1,19 +1,54 @@
 //! Two threads: one that waits for the end of a function that runs in the other, and two on one base.
-ghost use Rattle.std.specs.Prelude.{◌≡◌, ◌<◌, ◌≤◌, [], length};
-ghost use Rattle.pass_names.specs.Names.{IsLast, after_split, child_of, first_pass_id};
+ghost use Rattle.std.specs.Prelude.{◌≡◌, ◌<◌, ◌≤◌, length};
 ghost use Rattle.hr_timers.specs.Known.{IsPassOf};
 ghost use Rattle.expire_pass.specs.Handlers.{KeepsPass};
 
-use super::acting::{Act, Acting, TURNS, Told};
-use super::{assert_equal, some_timers};
+use super::{TURNS, assert_equal, retire, some_timers};
 use crate::{OneShot, expire_and_stop, start_anew, start_counted, start_once, stop_and_wait};
-use expire_pass::{ExpireAnswer, Log, Restart, expire};
-use hr_timers::{Pass, Timers};
+use expire_pass::{ExpireAnswer, Handler, Log, Restart, expire};
+use hr_timers::{Claim, Pass, Timers};
 use ktime::Reading;
 use seq_timer::CancelAnswer;
 use std::sync::Wait;
 use std::test::Fail;
 use std::thread::{Threads, join_mut};
+
+/// Its function runs until the timer before its own is armed, or gives up.
+#[derive(Drop)]
+struct Waiting {
+    met: bool,
+}
+
+impl Handler for Waiting {
+    ghost meaning = { record { did = λ o h h' k k' c reading restart. Unit; ready = λ h. 18446744073709551616; timers = λ h. 65536; bases = λ h. 0; counters = λ h. 0 } };
+
+    fn fire<R: Wait>(
+        &mut self,
+        _rt: &R,
+        timers: &Timers,
+        pass: &mut Pass,
+        claim: &Claim,
+        _reading: Reading,
+    ) -> Restart {
+        self.met = meet(timers, pass, claim.timer().saturating_sub(1));
+        Restart::Stop
+    }
+}
+
+/// Whether a timer is armed before it was looked at too often.
+fn meet(timers: &Timers, pass: &mut Pass, timer: u32) -> bool
+    requires pass { IsPassOf timers.now pass.old }
+    requires timer { timer < length timers.now.about.timers }
+    ensures pass { IsPassOf timers.now pass.new }
+    ensures keeps { KeepsPass pass.old.known pass.new.known }
+{
+    for _ in 0..TURNS {
+        if timers.peek(pass, timer).enqueued {
+            return true;
+        }
+    }
+    false
+}
 
 #[test]
 fn two_threads_lose_no_entry_of_a_timer(rt: HostRuntime) -> Result<(), Fail> {
@@ -56,7 +91,7 @@ fn run_one<R: Wait>(
     rt: &R,
     timers: &Timers,
     pass: &mut Pass,
-    function: &mut Acting,
+    function: &mut Waiting,
     log: &mut Log,
 ) -> ExpireAnswer
     requires pass { IsPassOf timers.now pass.old }
@@ -74,7 +109,7 @@ fn run_and_stop<R: Threads + Wait + Sync>(
     timers: &Timers,
     runner: &mut Pass,
     stopper: &mut Pass,
-    function: &mut Acting,
+    function: &mut Waiting,
     log: &mut Log,
 ) -> (ExpireAnswer, Option<(CancelAnswer, bool)>)
     requires pass { IsPassOf timers.now runner.old × IsPassOf timers.now stopper.old }
@@ -90,27 +125,15 @@ fn run_and_stop<R: Threads + Wait + Sync>(
     )
 }
 
-/// The first pass takes in the one that was split off it.
-fn retire(timers: &Timers, main: &mut Pass, other: Pass)
-    requires pass { IsPassOf timers.now main.old × IsPassOf timers.now other }
-    requires first { main.old.known.id ≡ after_split first_pass_id }
-    requires child { other.known.id ≡ child_of first_pass_id }
-    requires unclaimed { (main.old.known.claims ≡ []) × (other.known.claims ≡ []) }
-    ensures pass { IsPassOf timers.now main.new }
-    ensures last { IsLast main.new.known.id × (main.new.known.claims ≡ []) }
-{
-    timers.retire(main, other);
-}
-
 #[test]
 fn a_stop_waits_for_the_function_in_another_thread(rt: HostRuntime) -> Result<(), Fail> {
     let (timers, mut pass, mut log) = some_timers(rt.alloc(), 1, 2)?;
     start_once(&rt, &timers, &mut pass, 1, 0, 0, Reading::at(0));
     let mut other = timers.split(&mut pass);
-    let mut function = Acting::of(Act::Wait, Restart::Stop);
+    let mut function = Waiting { met: false };
     let (ran, told) = run_and_stop(&rt, &timers, &mut pass, &mut other, &mut function, &mut log);
     retire(&timers, &mut pass, other);
-    assert_equal(&rt, function.told, Told::Met(true));
+    assert!(rt; function.met);
     assert_equal(&rt, ran, ExpireAnswer::More { fired: 1 });
     let running = CancelAnswer::Running {
         generation: 1,

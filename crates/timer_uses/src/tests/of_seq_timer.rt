@@ -8,7 +8,7 @@ ghost use Rattle.seq_timer.specs.Calls.{asked_for};
 use super::{MONOTONIC, SOFT, assert_equal, kept};
 use ktime::{ClockId, Mode, Reading};
 use seq_timer::{
-    Asked, Base, Context, Declared, Event, Moved, Peek, Reply, Restarted, Terms, TimerState,
+    Asked, Base, Context, Event, Moved, Reply, Restarted, Terms, TimerState,
     a_cancelled_generation_never_runs, a_span_has_one_generation, a_stamp_counts_entries,
     histories_end, running_is_told_inside_the_span, spans_do_not_overlap,
 };
@@ -39,26 +39,10 @@ fn claim(now: u64) -> Event
 }
 
 #[test]
-fn a_new_timer_is_idle_on_base_0(rt: HostRuntime) {
-    let timer = TimerState::make(Declared::hard(ClockId::Realtime), Terms::limited(100));
-    assert_equal(&rt, timer.declared().context, Context::Hard);
-    assert_equal(&rt, timer.clock(), ClockId::Realtime);
-    assert_equal(&rt, (timer.soft(), timer.expires()), (0, 0));
-    assert_equal(&rt, (timer.armed(), timer.running()), (None, None));
-    assert_equal(&rt, (timer.stamp(), timer.limit()), (0, 100));
-    let idle = Peek {
-        stamp: 0,
-        base: 0,
-        enqueued: false,
-        running: false,
-        moving: false,
-    };
-    assert_equal(&rt, timer.peek(), idle);
-}
-
-#[test]
-fn a_periodic_timer_is_forwarded_and_armed_again(rt: HostRuntime) {
+fn each_event_is_answered(rt: HostRuntime) {
     let mut timer = TimerState::make(MONOTONIC, Terms::limited(100));
+    assert_equal(&rt, timer.declared().context, Context::Hard);
+    assert_equal(&rt, (timer.stamp(), timer.limit()), (0, 100));
     let placement = kept(0, 100);
     let was_armed = false;
     let started = Reply::Start {
@@ -66,8 +50,12 @@ fn a_periodic_timer_is_forwarded_and_armed_again(rt: HostRuntime) {
         was_armed,
     };
     assert_equal(&rt, timer.apply(start()), started);
+    assert_equal(&rt, timer.clock(), ClockId::Monotonic);
+    assert_equal(&rt, (timer.soft(), timer.expires()), (100, 100));
+    assert_equal(&rt, timer.armed(), Some(1));
     let claimed = Reply::Claim { generation: 1 };
     assert_equal(&rt, timer.apply(claim(130)), claimed);
+    assert_equal(&rt, timer.running(), Some(1));
     let forward = Event::Forward {
         reading: Reading::at(130),
         interval: 10,
@@ -87,6 +75,7 @@ fn a_periodic_timer_is_forwarded_and_armed_again(rt: HostRuntime) {
     let out = timer.apply(Event::Out { base: 1 });
     assert_equal(&rt, out, Reply::Out { was_armed: true });
     assert_equal(&rt, (timer.base(), timer.is_moving()), (1, true));
+    assert!(rt; timer.peek().moving);
 }
 
 #[test]
@@ -96,11 +85,9 @@ fn a_base_keeps_the_soft_context_apart(rt: HostRuntime) -> Result<(), AllocError
     base.apply(0, &mut timer, &start());
     let now = Reading::at(100);
     assert_equal(&rt, base.front(), Some((100, 0)));
-    assert_equal(&rt, base.first(Context::Hard, &[timer], now), None);
     let first = base.first(Context::Soft, &[timer], now);
     assert_equal(&rt, first, Some((100, 0)));
     base.apply(0, &mut timer, &claim(100));
-    assert_equal(&rt, base.running(Context::Hard), None);
     assert_equal(&rt, base.running(Context::Soft), Some((0, 1)));
     Ok(())
 }

@@ -1,22 +1,17 @@
 //! A base that one thread holds, in the middle of a start, while the other one tries to cancel timers there and elsewhere.
-ghost use Rattle.std.specs.Prelude.{◌≡◌, ◌<◌, length};
+ghost use Rattle.std.specs.Prelude.{◌≡◌, length};
 ghost use Rattle.hr_timers.specs.Known.{IsPassOf};
 ghost use Rattle.expire_pass.specs.Handlers.{KeepsPass};
 
-use super::answers::{cancelled, kept, moved};
-use super::callers::retire;
-use super::{assert_equal, two_timers};
+use super::super::{TURNS, assert_equal, kept, retire, some_timers};
 use crate::{Stopped, stop_now};
-use hr_timers::{NowAnswer, Pass, ReceiptSink, StartAnswer, Timers};
+use hr_timers::{Pass, ReceiptSink, StartAnswer, Timers};
 use ktime::{Mode, Reading};
 use seq_timer::{Asked, Event, Reply};
 use std::sync::Wait;
 use std::sync::atomic::{AtomicBool, Ordering};
 use std::test::Fail;
 use std::thread::{Threads, join_mut};
-
-/// How often a thread looks for what the other one does.
-const TURNS: u32 = 50_000_000;
 
 /// How far two threads are: the one holds a base, and the other has made its tries.
 #[derive(Drop)]
@@ -71,22 +66,8 @@ fn start_slowly<R: Wait>(rt: &R, timers: &Timers, pass: &mut Pass, meeting: &Mee
     timers.start_logged(rt, pass, &mut sink, 0, &asked)
 }
 
-/// Tries to cancel a timer, and answers the base that another pass held, where one did.
-fn contended(timers: &Timers, pass: &mut Pass, timer: u32) -> Option<u32>
-    requires pass { IsPassOf timers.now pass.old }
-    requires timer { timer < length timers.now.about.timers }
-    ensures pass { IsPassOf timers.now pass.new }
-    ensures keeps { KeepsPass pass.old.known pass.new.known }
-{
-    match timers.cancel_now(pass, timer) {
-        NowAnswer::Contended { base } => Some(base),
-        NowAnswer::Tried(_) => None,
-        NowAnswer::Moving { .. } | NowAnswer::Moved { .. } => None,
-    }
-}
-
-/// While base 0 is held, tries to cancel timer 0 there, and stops timer 1 on the other base.
-fn try_both(timers: &Timers, pass: &mut Pass, meeting: &Meeting) -> Option<(Option<u32>, Stopped)>
+/// While base 0 is held, tries to stop timer 0 there, and stops timer 1 on the other base.
+fn try_both(timers: &Timers, pass: &mut Pass, meeting: &Meeting) -> Option<(Stopped, Stopped)>
     requires pass { IsPassOf timers.now pass.old }
     requires size { length timers.now.about.timers ≡ 2 }
     ensures pass { IsPassOf timers.now pass.new }
@@ -95,7 +76,7 @@ fn try_both(timers: &Timers, pass: &mut Pass, meeting: &Meeting) -> Option<(Opti
     if !comes(&meeting.is_held) {
         return None;
     }
-    let here = contended(timers, pass, 0);
+    let here = stop_now(timers, pass, 0);
     let there = stop_now(timers, pass, 1);
     meeting.is_tried.store(true, Ordering::SeqCst);
     Some((here, there))
@@ -107,7 +88,7 @@ fn start_and_try<R: Threads + Wait + Sync>(
     timers: &Timers,
     starter: &mut Pass,
     trier: &mut Pass,
-) -> (StartAnswer, Option<(Option<u32>, Stopped)>)
+) -> (StartAnswer, Option<(Stopped, Stopped)>)
     requires pass { IsPassOf timers.now starter.old × IsPassOf timers.now trier.old }
     requires size { (length timers.now.about.timers ≡ 2) × (timers.now.about.bases ≡ 2) }
     ensures pass { IsPassOf timers.now starter.new × IsPassOf timers.now trier.new }
@@ -127,18 +108,14 @@ fn start_and_try<R: Threads + Wait + Sync>(
 
 #[test]
 fn a_held_base_is_contended_and_no_other(rt: HostRuntime) -> Result<(), Fail> {
-    let (timers, mut pass) = two_timers(rt.alloc())?;
+    let (timers, mut pass, _log) = some_timers(rt.alloc(), 2, 2)?;
     let now = Reading::at(1000);
     timers.start(&rt, &mut pass, 0, Mode::Rel, 7, 0, now);
-    assert_equal(
-        &rt,
-        timers.start(&rt, &mut pass, 1, Mode::Rel, 7, 1, now),
-        moved(1007),
-    );
+    timers.start(&rt, &mut pass, 1, Mode::Rel, 7, 1, now);
     let mut other = timers.split(&mut pass);
     let (started, told) = start_and_try(&rt, &timers, &mut pass, &mut other);
     retire(&timers, &mut pass, other);
-    assert_equal(&rt, told, Some((Some(0), Stopped::Disarmed)));
+    assert_equal(&rt, told, Some((Stopped::Busy, Stopped::Disarmed)));
     let again = StartAnswer::Started {
         was_armed: true,
         generation: 2,
@@ -147,10 +124,6 @@ fn a_held_base_is_contended_and_no_other(rt: HostRuntime) -> Result<(), Fail> {
         placement: kept(0, 9000),
     };
     assert_equal(&rt, started, again);
-    assert_eq!(rt;
-        timers.cancel_now(&mut pass, 0),
-        NowAnswer::Tried(cancelled(2, 3))
-    );
     timers.close(pass);
     Ok(())
 }

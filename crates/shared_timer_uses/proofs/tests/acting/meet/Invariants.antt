@@ -1,6 +1,0 @@
-use Rattle.hr_timers.specs.Known.{IsPassOf}
-use Rattle.expire_pass.specs.Handlers.{KeepsPass}
-use Rattle.shared_timer_uses.proofs.tests.acting.meet.Given as goal
-
-abbrev pub invariant-loop : goal.invariant-loop
-invariant-loop l = record { pass : IsPassOf l.fn.timers l.pass; keeps : KeepsPass l.fn.pass.known l.pass.known }
