@@ -42,13 +42,15 @@ gets_once base v w w' h h' a b k l s m =
     let at : h.base ≡ h'.base = a.at ∙ sym b.at in
     let word : h.word ≡ h'.word = own.1.1 ∙ (ap (slice_index w.met) at ∙ (ap (λ l. slice_index l h'.base) m ∙ sym own'.1.1)) in
     let content : h.content ≡ h'.content = own.1.0 ∙ (ap (λ (o : Opening). (system_after o.timers w.seen).bases h.base) opening
-        ∙ (ap (λ l. (system_after w'.opening.timers l).bases h.base) s ∙ (ap (base_seen w'.opening w') at ∙ sym own'.1.0))) in
+    ∙ (ap (λ l. (system_after w'.opening.timers l).bases h.base) s ∙ (ap (base_seen w'.opening w') at ∙ sym own'.1.0))) in
     let same : h ≡ h' = held_same h.base h'.base h.word h'.word h.content h'.content at word content in
-    let number : a.number ≡ b.number = doubled (slice_index w.met base) (slice_index w'.met base) _ _ a.word b.word (ap (λ l. slice_index l base) m) in
-    (same, a.rest ∙ (ap (λ l. record v { seen = l; heard = []; held = Some h; takes = v.takes ++ (base, a.number) ∷ []; met = w.met }) s
-    ∙ (ap (λ x. record v { seen = w'.seen; heard = []; held = Some x; takes = v.takes ++ (base, a.number) ∷ []; met = w.met }) same
-    ∙ (ap (λ n. record v { seen = w'.seen; heard = []; held = Some h'; takes = v.takes ++ (base, n) ∷ []; met = w.met }) number
-    ∙ (ap (λ l. record v { seen = w'.seen; heard = []; held = Some h'; takes = v.takes ++ (base, b.number) ∷ []; met = l }) m ∙ sym b.rest)))))
+    let number : a.number ≡ b.number = doubled (slice_index w.met base) (slice_index w'.met base) _ _ a.word b.word (ap (λ l. slice_index l base) m) in (
+      same,
+      a.rest ∙ (ap (λ l. record v { seen = l; heard = []; held = Some h; takes = v.takes ++ (base, a.number) ∷ []; met = w.met }) s
+          ∙ (ap (λ x. record v { seen = w'.seen; heard = []; held = Some x; takes = v.takes ++ (base, a.number) ∷ []; met = w.met }) same
+          ∙ (ap (λ n. record v { seen = w'.seen; heard = []; held = Some h'; takes = v.takes ++ (base, n) ∷ []; met = w.met }) number
+          ∙ (ap (λ l. record v { seen = w'.seen; heard = []; held = Some h'; takes = v.takes ++ (base, b.number) ∷ []; met = l }) m ∙ sym b.rest)))),
+    )
 
 pub some_is : {A : Type 0} (x y : A) → Some x ≡ Some y → x ≡ y
 some_is x y e = ap (λ o. unwrap_or o x) e

@@ -92,10 +92,12 @@ module _ (o : Opening) (v v' w w' : KnownOfTimers) (own : SameOwn v v') (x : Con
   pub claims_once : (n m : ClaimNumbers) (c : ClaimsNextDue o v w x base reading n) (d : ClaimsNextDue o v' w' x base reading m) → c.at ≡ d.at
       → (n ≡ m) × SameOutcome w w' n.timer
   claims_once n m c d e =
-      let same = same_claim o v v' w w' x base reading n m c d e in
-      (same, made_once v v' w w' n.timer m.timer c.at d.at _ _ own c.made d.made (same_timer o v v' w w' x base reading n m c d e) e
-      (same_claim_entry o v v' w w' x base reading n m c d e)
-      (c.claims ∙ (ap (λ l. l ++ claimed_as n ∷ []) own.claims ∙ (ap (λ k. v'.claims ++ claimed_as k ∷ []) same ∙ sym d.claims))))
+      let same = same_claim o v v' w w' x base reading n m c d e in (
+        same,
+        made_once v v' w w' n.timer m.timer c.at d.at _ _ own c.made d.made (same_timer o v v' w w' x base reading n m c d e) e
+            (same_claim_entry o v v' w w' x base reading n m c d e)
+            (c.claims ∙ (ap (λ l. l ++ claimed_as n ∷ []) own.claims ∙ (ap (λ k. v'.claims ++ claimed_as k ∷ []) same ∙ sym d.claims))),
+      )
 
   pub claim_once : (a a' : ClaimAnswer) (c : ClaimFits o v w x base reading a) (d : ClaimFits o v' w' x base reading a') → AreFresh o.timers → KnowsTimers o w
       → claim_moment o v w x base reading a c ≡ claim_moment o v' w' x base reading a' d → (a ≡ a') × SameOwn w w'

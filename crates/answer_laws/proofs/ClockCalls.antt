@@ -2,10 +2,10 @@
 use Rattle.std.proofs.Common.{◌≡◌, ◌≤◌, ◌<◌, ℕ, List, [], ◌∷◌, ap, sym, ◌∙◌, subst, refl, Result, Ok, Err, arith}
 use Rattle.std.specs.Prelude.{◌++◌}
 use Rattle.ktime.specs.Readings.{ClockReading}
-use Rattle.clock_model.specs.Clocks.{IsAccepted, IsRefusedAs, after_write, greatest, last_stamp}
-use Rattle.clock_model.specs.declared.write.ClockFault.{ClockFault}
-use Rattle.clock_model.specs.declared.write.ClockFault.TheVariants.{ClockRange, ClockSpent}
-use Rattle.clock_model.specs.declared.write.Write.{Write}
+use Rattle.ktime.specs.Clocks.{IsAccepted, IsRefusedAs, after_write, greatest, last_stamp}
+use Rattle.ktime.specs.declared.write.ClockFault.{ClockFault}
+use Rattle.ktime.specs.declared.write.ClockFault.TheVariants.{ClockRange, ClockSpent}
+use Rattle.ktime.specs.declared.write.Write.{Write}
 use Rattle.clock_cell.specs.Views.{AnswersWrite, reading_after, writes}
 use Rattle.clock_cell.specs.declared.view.ClockView.{ClockView}
 use Rattle.pass_names.specs.declared.PassId.{PassId}
@@ -49,11 +49,14 @@ module _ (w : Write) (v n n' : ClockView) where
       → write_moment w v n r a ≡ write_moment w v n' r' b → (r ≡ r') × (n ≡ n')
   write_once (Ok r) (Ok s) a b e =
       let seen : writes n ≡ writes n' = a.ok.adds.last ∙ (ap (λ l. l ++ w ∷ []) e ∙ sym b.ok.adds.last) in
-      let same : r ≡ s = a.ok.shows ∙ (ap reading_after seen ∙ sym b.ok.shows) in
-      (ap Ok same, alike (Ok r) (Ok s) a b (a.ok.adds.id ∙ sym b.ok.adds.id)
-      (a.ok.place ∙ (ap (λ (x : ClockReading). v.pass.mine ++ (0, x.stamp) ∷ []) same ∙ sym b.ok.place)) seen)
+      let same : r ≡ s = a.ok.shows ∙ (ap reading_after seen ∙ sym b.ok.shows) in (
+        ap Ok same,
+        alike (Ok r) (Ok s) a b (a.ok.adds.id ∙ sym b.ok.adds.id)
+            (a.ok.place ∙ (ap (λ (x : ClockReading). v.pass.mine ++ (0, x.stamp) ∷ []) same ∙ sym b.ok.place)) seen,
+      )
   write_once (Ok r) (Err f) a b e = absurd (taken _ _ w f (ap reading_after e) a.ok.accepted b.err.cause)
   write_once (Err f) (Ok r) a b e = absurd (taken _ _ w f (ap reading_after (sym e)) b.ok.accepted a.err.cause)
-  write_once (Err f) (Err g) a b e =
-      (refused_once _ _ w f g (ap reading_after e) a.err.cause b.err.cause,
-      alike (Err f) (Err g) a b (a.err.looks.id ∙ sym b.err.looks.id) (a.err.looks.mine ∙ sym b.err.looks.mine) e)
+  write_once (Err f) (Err g) a b e = (
+    refused_once _ _ w f g (ap reading_after e) a.err.cause b.err.cause,
+    alike (Err f) (Err g) a b (a.err.looks.id ∙ sym b.err.looks.id) (a.err.looks.mine ∙ sym b.err.looks.mine) e,
+  )

@@ -11,11 +11,11 @@ use Rattle.base_row.specs.declared.log.Receipt.{Receipt}
 use Rattle.base_row.specs.declared.view.Opening.{Opening}
 use Rattle.hr_timers.specs.declared.numbers.ClaimNumbers.{ClaimNumbers}
 use Rattle.hr_timers.specs.Known.{KnownOfTimers, KnowsTimers, timer_then}
-use Rattle.expire_pass.specs.declared.expiry.ExpireAnswer.{ExpireAnswer}
-use Rattle.expire_pass.specs.declared.expiry.ExpireAnswer.TheVariants as expiries
-use Rattle.expire_pass.specs.declared.handler.Restart.{Restart}
-use Rattle.expire_pass.specs.Expiring.{Expires, Turns, claim_receipt, finish_receipt}
-use Rattle.expire_pass.specs.Handlers.{Meaning}
+use Rattle.hr_timers.specs.declared.expiry.ExpireAnswer.{ExpireAnswer}
+use Rattle.hr_timers.specs.declared.expiry.ExpireAnswer.TheVariants as expiries
+use Rattle.hr_timers.specs.declared.handler.Restart.{Restart}
+use Rattle.hr_timers.specs.Expiring.{Expires, Turns, claim_receipt, finish_receipt}
+use Rattle.hr_timers.specs.Handlers.{Meaning}
 use Rattle.answer_laws.specs.Expiries.{TurnMoment, run_at, turns_at}
 use Rattle.answer_laws.proofs.ClaimCalls.{not_both, one_function, same_claim}
 

@@ -45,7 +45,6 @@ module _ (o : Opening) (t : ℕ) where
     moves_then a x y begins e fits moves = still_told (timer_then o x t) a (apart_then o q.known x t fresh knows begins) fits
         (ap (λ z. (timer_then o z t).moving) e ∙ moves)
 
-
     pub now_once : (a a' : NowAnswer) (c : NowFits o p q t a) (d : NowFits o p q' t a') → now_moment o p q t a c ≡ now_moment o p q' t a' d
         → is_contended a ≡ is_contended a' → (a ≡ a') × SameOwn q.known q'.known
     now_once (nows.Tried a) (nows.Tried b) c d e f =
@@ -56,18 +55,20 @@ module _ (o : Opening) (t : ℕ) where
     now_once (nows.Tried a) (nows.Moved b b') c d e f =
         absurd (two_moments _ _ b b' d c.at (ap (λ (m : NowMoment). m.at) e) (ap (λ (m : NowMoment). m.later) e))
     now_once (nows.Contended b) (nows.Tried a) c d e f = absurd cc
-    now_once (nows.Contended b) (nows.Contended b') c d e f =
-        (ap nows.Contended (sym c.1.base ∙ (ap (λ (m : NowMoment). (timer_then o m.at t).base) e ∙ d.1.base)),
-        looked_once _ _ _ _ (own_same p.known) c.1.looks.looks d.1.looks.looks)
+    now_once (nows.Contended b) (nows.Contended b') c d e f = (
+      ap nows.Contended (sym c.1.base ∙ (ap (λ (m : NowMoment). (timer_then o m.at t).base) e ∙ d.1.base)),
+      looked_once _ _ _ _ (own_same p.known) c.1.looks.looks d.1.looks.looks,
+    )
     now_once (nows.Contended b) (nows.Moving b') c d e f = absurd cc
     now_once (nows.Contended b) (nows.Moved a' b') c d e f = absurd cc
     now_once (nows.Moving b) (nows.Tried a) c d e f = absurd (still_told (timer_then o d.at t) a
         (subst (λ x. IsApart (timer_then o x t)) (ap (λ (m : NowMoment). m.at) e) (apart_then o q.known c.at t fresh knows c.looks.seen)) d.fits
         (sym (ap (λ (m : NowMoment). (timer_then o m.at t).moving) e) ∙ c.moving))
     now_once (nows.Moving b) (nows.Contended b') c d e f = absurd cc
-    now_once (nows.Moving b) (nows.Moving b') c d e f =
-        (ap nows.Moving (sym c.base ∙ (ap (λ (m : NowMoment). (timer_then o m.at t).base) e ∙ d.base)),
-        looked_once _ _ _ _ (own_same p.known) c.looks.looks d.looks.looks)
+    now_once (nows.Moving b) (nows.Moving b') c d e f = (
+      ap nows.Moving (sym c.base ∙ (ap (λ (m : NowMoment). (timer_then o m.at t).base) e ∙ d.base)),
+      looked_once _ _ _ _ (own_same p.known) c.looks.looks d.looks.looks,
+    )
     now_once (nows.Moving b) (nows.Moved a' b') c d e f =
         absurd (two_moments _ _ a' b' d c.at (ap (λ (m : NowMoment). m.at) e) (ap (λ (m : NowMoment). m.later) e))
     now_once (nows.Moved b b') (nows.Tried a) c d e f =
@@ -75,10 +76,11 @@ module _ (o : Opening) (t : ℕ) where
     now_once (nows.Moved b b') (nows.Contended a) c d e f = absurd cc
     now_once (nows.Moved b b') (nows.Moving a) c d e f =
         absurd (two_moments _ _ b b' c d.at (sym (ap (λ (m : NowMoment). m.at) e)) (sym (ap (λ (m : NowMoment). m.later) e)))
-    now_once (nows.Moved b b') (nows.Moved a a') c d e f =
-        (moved_same (sym c.base ∙ (ap (λ (m : NowMoment). (timer_then o m.at t).base) e ∙ d.base))
-        (sym c.base_later ∙ (ap (λ (m : NowMoment). (timer_then o m.later t).base) e ∙ d.base_later)),
-        looked_once _ _ _ _ (own_same p.known) c.looks.looks d.looks.looks)
+    now_once (nows.Moved b b') (nows.Moved a a') c d e f = (
+      moved_same (sym c.base ∙ (ap (λ (m : NowMoment). (timer_then o m.at t).base) e ∙ d.base))
+          (sym c.base_later ∙ (ap (λ (m : NowMoment). (timer_then o m.later t).base) e ∙ d.base_later)),
+      looked_once _ _ _ _ (own_same p.known) c.looks.looks d.looks.looks,
+    )
       where
         moved_same : {i j k l : ℕ} → i ≡ j → k ≡ l → nows.Moved i k ≡ nows.Moved j l
         moved_same x y = cc

@@ -18,7 +18,7 @@ use Rattle.timer_objects.specs.declared.log.ObjectReceipt.{ObjectReceipt}
 use Rattle.timer_objects.specs.declared.object.Object.{Object}
 use Rattle.timer_objects.specs.declared.wanting.Rearming.{Rearming}
 use Rattle.timer_objects.specs.Arming.{ArmsFor, Disarms, arm_of, asked_by}
-use Rattle.timer_objects.specs.Calls.{ArmsAnew, Caller, EntersCall, FindsFull, LooksAtObject, RearmingMade, rearming_call, wanted_by}
+use Rattle.timer_objects.specs.Calls.{ArmsAnew, Caller, EntersCall, FindsHistoryFull, LooksAtObject, RearmingMade, rearming_call, wanted_by}
 use Rattle.timer_objects.specs.Known.{ObjectsOf, decl_at, seen_of}
 use Rattle.timer_objects.specs.Meaning.{object_meaning}
 use Rattle.timer_objects.specs.Steps.{object_answer}
@@ -56,9 +56,11 @@ module _ (o : Opening) (v v' w w' : KnownOfTimers) (own : SameOwn v v') (t : ℕ
       let asked = ap (λ i. asked_by i base reading) (some_is k j e) in
       let moment = some_is _ _ at in
       let same = start_once o v v' w w' own t (asked_by k base reading) (asked_by j base reading) c.answer d.answer c.starts d.starts asked moment in
-      let entries = same_start_entries o v v' w w' own t (asked_by k base reading) (asked_by j base reading) c.answer d.answer c.starts d.starts asked moment in
-      (c.outcome ∙ (ap arm_of same.0 ∙ sym d.outcome),
-      c.receipts ∙ (noted_once log log' _ _ _ _ f (ap (λ (m : StartMoment). m.at) moment) entries ∙ sym d.receipts), same.1.own)
+      let entries = same_start_entries o v v' w w' own t (asked_by k base reading) (asked_by j base reading) c.answer d.answer c.starts d.starts asked moment in (
+        c.outcome ∙ (ap arm_of same.0 ∙ sym d.outcome),
+        c.receipts ∙ (noted_once log log' _ _ _ _ f (ap (λ (m : StartMoment). m.at) moment) entries ∙ sym d.receipts),
+        same.1.own,
+      )
 
 -- ---- its entry
 
@@ -71,10 +73,14 @@ module _ (x : ObjectsOf) (o : Opening) (old new new' : Caller) (id : ℕ) where
       × (seen_of new.objects id ≡ seen_of new'.objects id)
   enters_once call call' a a' c d e f =
       let same = commits_once object_meaning old.objects new.objects old.objects new'.objects id call call' (row_same old.objects) e c.commits d.commits f in
-      let reply : a ≡ a' = c.reply ∙ (ap (λ s. object_answer s call) same.0 ∙ (ap (object_answer d.commits.state) e ∙ sym d.reply)) in
-      (reply, same.2, c.object_log ∙ (ap (λ l. old.object_log ++ entry_of id l call a ∷ []) f
-      ∙ (ap (λ k. old.object_log ++ entry_of id d.commits.adds.before k a ∷ []) e
-      ∙ (ap (λ r. old.object_log ++ entry_of id d.commits.adds.before call' r ∷ []) reply ∙ sym d.object_log))), same.1)
+      let reply : a ≡ a' = c.reply ∙ (ap (λ s. object_answer s call) same.0 ∙ (ap (object_answer d.commits.state) e ∙ sym d.reply)) in (
+        reply,
+        same.2,
+        c.object_log ∙ (ap (λ l. old.object_log ++ entry_of id l call a ∷ []) f
+            ∙ (ap (λ k. old.object_log ++ entry_of id d.commits.adds.before k a ∷ []) e
+            ∙ (ap (λ r. old.object_log ++ entry_of id d.commits.adds.before call' r ∷ []) reply ∙ sym d.object_log))),
+        same.1,
+      )
 
   pub same_found : (call call' : ObjectCall) (a a' : ObjectReply) (c : EntersCall x old new id call a) (d : EntersCall x old new' id call' a')
       → c.commits.adds.before ≡ d.commits.adds.before → c.commits.state ≡ d.commits.state
@@ -82,37 +88,43 @@ module _ (x : ObjectsOf) (o : Opening) (old new new' : Caller) (id : ℕ) where
 
   -- ---- looks
 
-  pub full_once : (n n' : ℕ) → FindsFull x old new id n → FindsFull x old new' id n' → seen_of new.objects id ≡ seen_of new'.objects id
+  pub full_once : (n n' : ℕ) → FindsHistoryFull x old new id n → FindsHistoryFull x old new' id n' → seen_of new.objects id ≡ seen_of new'.objects id
       → (n ≡ n') × SameWork new new' id
-  full_once n n' c d e = (c.stamp ∙ (ap length e ∙ sym d.stamp), record {
-    caller = record {
-      timers = looked_once _ _ _ _ (own_same old.timers) c.looks d.looks;
-      objects = (reads_once object_meaning old.objects new.objects new'.objects id c.reads d.reads e).1;
-      log = c.log ∙ sym d.log;
-      object_log = c.object_log ∙ sym d.object_log;
-    };
-    entries = e;
-  })
+  full_once n n' c d e = (
+    c.stamp ∙ (ap length e ∙ sym d.stamp),
+    record {
+      caller = record {
+        timers = looked_once _ _ _ _ (own_same old.timers) c.looks d.looks;
+        objects = (reads_once object_meaning old.objects new.objects new'.objects id c.reads d.reads e).1;
+        log = c.log ∙ sym d.log;
+        object_log = c.object_log ∙ sym d.object_log;
+      };
+      entries = e;
+    },
+  )
 
   pub look_once : (a a' : Object) (n n' : ℕ) → LooksAtObject old new id a n → LooksAtObject old new' id a' n'
       → seen_of new.objects id ≡ seen_of new'.objects id → (a ≡ a') × (n ≡ n') × SameWork new new' id
   look_once a a' n n' c d e =
-      let same = reads_once object_meaning old.objects new.objects new'.objects id c.reads d.reads e in
-      (c.state ∙ (same.0 ∙ sym d.state), c.stamp ∙ (ap length e ∙ sym d.stamp), record {
-        caller = record {
-          timers = looked_once _ _ _ _ (own_same old.timers) c.timers d.timers;
-          objects = same.1;
-          log = c.log ∙ sym d.log;
-          object_log = c.object_log ∙ sym d.object_log;
-        };
-        entries = e;
-      })
+      let same = reads_once object_meaning old.objects new.objects new'.objects id c.reads d.reads e in (
+        c.state ∙ (same.0 ∙ sym d.state),
+        c.stamp ∙ (ap length e ∙ sym d.stamp),
+        record {
+          caller = record {
+            timers = looked_once _ _ _ _ (own_same old.timers) c.timers d.timers;
+            objects = same.1;
+            log = c.log ∙ sym d.log;
+            object_log = c.object_log ∙ sym d.object_log;
+          };
+          entries = e;
+        },
+      )
 
-  pub full_looked : (a : Object) (n n' : ℕ) → FindsFull x old new id n → LooksAtObject old new' id a n' → n' < x.limit
+  pub full_looked : (a : Object) (n n' : ℕ) → FindsHistoryFull x old new id n → LooksAtObject old new' id a n' → n' < x.limit
       → seen_of new.objects id ≡ seen_of new'.objects id → ⊥
   full_looked a n n' c d few e = omega (arith, c.full, c.stamp, d.stamp, few, ap length e)
 
-  pub full_made : (call : ObjectCall) (a : ObjectReply) (n : ℕ) → FindsFull x old new id n → (d : EntersCall x old new' id call a)
+  pub full_made : (call : ObjectCall) (a : ObjectReply) (n : ℕ) → FindsHistoryFull x old new id n → (d : EntersCall x old new' id call a)
       → seen_of new.objects id ≡ d.commits.adds.before → ⊥
   full_made call a n c d e = omega (arith, c.full, c.stamp, d.room, ap length e)
 
@@ -129,16 +141,19 @@ module _ (x : ObjectsOf) (o : Opening) (old new new' : Caller) (id : ℕ) where
       let begun = looked_once _ _ _ _ (own_same old.timers) c.turn.begins.looks d.turn.begins.looks in
       let disarmed = disarms_once o c.begun d.begun c.disarmed d.disarmed begun id old.log c.cancel_log d.cancel_log c.disarms d.disarms at.1 in
       let armed = arms_once o c.disarmed d.disarmed c.worked d.worked disarmed.1 id (decl_at x id).base reading wanted wanted c.arm d.arm c.cancel_log d.cancel_log
-          new.log new'.log refl disarmed.0 c.arms d.arms at.2 in
-      let entered = enters_once (call c.arm) (call d.arm) a a' c.enters d.enters (ap call armed.0) at.0 in (entered.0, record {
-        caller = record {
-          timers = looked_once _ _ _ _ armed.2 c.turn.ends.looks d.turn.ends.looks;
-          objects = entered.1;
-          log = armed.1;
-          object_log = entered.2;
-        };
-        entries = entered.3;
-      })
+      new.log new'.log refl disarmed.0 c.arms d.arms at.2 in
+      let entered = enters_once (call c.arm) (call d.arm) a a' c.enters d.enters (ap call armed.0) at.0 in (
+        entered.0,
+        record {
+          caller = record {
+            timers = looked_once _ _ _ _ armed.2 c.turn.ends.looks d.turn.ends.looks;
+            objects = entered.1;
+            log = armed.1;
+            object_log = entered.2;
+          };
+          entries = entered.3;
+        },
+      )
 
   pub rearmed_once : (r : Rearming) (reading : ClockReading) (a a' : ObjectReply) (c : RearmingMade x o old new id r reading a)
       (d : RearmingMade x o old new' id r reading a') → AreOne (rearming_at x o old new id r reading a c) (rearming_at x o old new' id r reading a' d)
@@ -147,14 +162,16 @@ module _ (x : ObjectsOf) (o : Opening) (old new new' : Caller) (id : ℕ) where
       let found = same_found (rearming_call r reading c.arm) (rearming_call r reading d.arm) a a' c.enters d.enters at.0 in
       let begun = looked_once _ _ _ _ (own_same old.timers) c.turn.begins.looks d.turn.begins.looks in
       let armed = arms_once o c.begun d.begun c.worked d.worked begun id (decl_at x id).base reading (wanted_by r c.enters.commits.state reading)
-          (wanted_by r d.enters.commits.state reading) c.arm d.arm old.log old.log new.log new'.log (ap (λ s. wanted_by r s reading) found) refl c.arms d.arms at.2 in
-      let entered = enters_once (rearming_call r reading c.arm) (rearming_call r reading d.arm) a a' c.enters d.enters (ap (rearming_call r reading) armed.0) at.0 in
-      (entered.0, record {
-        caller = record {
-          timers = looked_once _ _ _ _ armed.2 c.turn.ends.looks d.turn.ends.looks;
-          objects = entered.1;
-          log = armed.1;
-          object_log = entered.2;
-        };
-        entries = entered.3;
-      })
+      (wanted_by r d.enters.commits.state reading) c.arm d.arm old.log old.log new.log new'.log (ap (λ s. wanted_by r s reading) found) refl c.arms d.arms at.2 in
+      let entered = enters_once (rearming_call r reading c.arm) (rearming_call r reading d.arm) a a' c.enters d.enters (ap (rearming_call r reading) armed.0) at.0 in (
+        entered.0,
+        record {
+          caller = record {
+            timers = looked_once _ _ _ _ armed.2 c.turn.ends.looks d.turn.ends.looks;
+            objects = entered.1;
+            log = armed.1;
+            object_log = entered.2;
+          };
+          entries = entered.3;
+        },
+      )

@@ -50,8 +50,14 @@ one_first o k base t g u h fresh knows (inr a) (inl b) = absurd (no_idle base h 
 shifted_once : (o : Opening) (v v' w w' : KnownOfTimers) (base : ℕ) (event : BaseEvent) → SameOwn v v' → w.seen ≡ w'.seen → ShiftsBase o v w base event
     → ShiftsBase o v' w' base event → (length (shifts_of base v.seen) ≡ length (shifts_of base v'.seen)) × SameOwn w w'
 shifted_once o v v' w w' base event own e a b =
-    let before : length (shifts_of base v.seen) ≡ length (shifts_of base v'.seen) = omega (arith, ap length a.own, ap length b.own,
-        ap (λ l. length (shifts_of base l)) e, length-append (shifts_of base v.seen) (event ∷ []), length-append (shifts_of base v'.seen) (event ∷ [])) in
+    let before : length (shifts_of base v.seen) ≡ length (shifts_of base v'.seen) = omega (
+      arith,
+      ap length a.own,
+      ap length b.own,
+      ap (λ l. length (shifts_of base l)) e,
+      length-append (shifts_of base v.seen) (event ∷ []),
+      length-append (shifts_of base v'.seen) (event ∷ []),
+    ) in
     let mine = a.mine in
     let mine' = b.mine in
     let places = own.mine in (before, record { mine = cc; id = a.id ∙ (own.id ∙ sym b.id); claims = a.claims ∙ (own.claims ∙ sym b.claims) })
@@ -63,10 +69,12 @@ module _ {A : Type 0} (put : A → Receipt → A) (o : Opening) (base heir : ℕ
       → (d : MovesTimer put o base heir reading v' w' u s' r') → c.at ≡ d.at → (t ≡ u) × SameOwn w w' × (r ≡ r')
   moved_once v v' w w' t u s s' r r' own sinks c d e =
       let timer = one_front o c.at d.at base t u e c.front d.front in
-      let es = ap (λ x. move_entries (timer_then o x t) heir reading) e ∙ ap (λ i. move_entries (timer_then o d.at i) heir reading) timer in
-      (timer, (made_once v v' w w' t u c.at d.at _ _ own c.made d.made timer e es (c.claims ∙ (own.claims ∙ sym d.claims))).own,
-      logged_once put o t u c.at d.at _ _ s r r' c.logged
-      (subst (λ x. IsLogged put o u d.at (move_entries (timer_then o d.at u) heir reading) x r') (sym sinks) d.logged) timer e es)
+      let es = ap (λ x. move_entries (timer_then o x t) heir reading) e ∙ ap (λ i. move_entries (timer_then o d.at i) heir reading) timer in (
+        timer,
+        (made_once v v' w w' t u c.at d.at _ _ own c.made d.made timer e es (c.claims ∙ (own.claims ∙ sym d.claims))).own,
+        logged_once put o t u c.at d.at _ _ s r r' c.logged
+            (subst (λ x. IsLogged put o u d.at (move_entries (timer_then o d.at u) heir reading) x r') (sym sinks) d.logged) timer e es,
+      )
 
   moves_once : (ts us : List ℕ) (v v' w w' : KnownOfTimers) (s s' r r' : A) → SameOwn v v' → s ≡ s' → (m : AreMoved put o base heir reading v ts w s r)
       → (n : AreMoved put o base heir reading v' us w' s' r') → moves_at put o base heir reading v ts w s r m ≡ moves_at put o base heir reading v' us w' s' r' n
@@ -194,7 +202,7 @@ module _ {A : Type 0} (put : A → Receipt → A) (o : Opening) (base heir : ℕ
         let q = d.evacuates in
         let moves = moves_once p.timers q.timers c.begins d.begins p.mid q.mid s s p.between q.between begins refl p.moves q.moves at in
         end_once p.mid q.mid w w' moves.1 e fresh knows _ _ _ _ p.between q.between r r' (ap (λ (l : List ℕ). 0 + length l) moves.0)
-            (ap (λ (l : List ℕ). nat_lt 0 (budget - length l)) moves.0) moves.2 a a' p.last q.last
+        (ap (λ (l : List ℕ). nat_lt 0 (budget - length l)) moves.0) moves.2 a a' p.last q.last
 
     pub offline_once : (a a' : OfflineAnswer) (c : OfflineFits put o base heir reading v w budget a s r)
         (d : OfflineFits put o base heir reading v w' budget a' s r')
@@ -219,15 +227,18 @@ on_line_once : (o : Opening) (v w : KnownOfTimers) (base : ℕ) → KnowsTimers 
 on_line_once o v w base knows shift none =
     let are = subst (AreShifts base first_standing) shift.own (shifts_by_turns o.bases (length o.timers) (first_system o.timers) base w.seen knows.history) in
     true≢false (sym (subst IsSome (ap (λ (s : Standing). s.heir) (sym (after_entries-shifts_of (first_system o.timers) base v.seen)) ∙ none)
-        (some_heir base first_standing (shifts_of base v.seen) are)))
+    (some_heir base first_standing (shifts_of base v.seen) are)))
 
 pub online_once : (o : Opening) (v w w' : KnownOfTimers) (base : ℕ) (a a' : OnlineAnswer) → KnowsTimers o w → KnowsTimers o w' → OnlineFits o v w base a
     → OnlineFits o v w' base a' → (a ≡ a') × SameOwn w w'
-online_once o v w w' base (ons.Online n) (ons.Online m) k l c d = (ap ons.Online (c.1 ∙ sym d.1), record {
-  mine = c.0.mine ∙ sym d.0.mine;
-  id = c.0.id ∙ sym d.0.id;
-  claims = c.0.claims ∙ sym d.0.claims;
-})
+online_once o v w w' base (ons.Online n) (ons.Online m) k l c d = (
+  ap ons.Online (c.1 ∙ sym d.1),
+  record {
+    mine = c.0.mine ∙ sym d.0.mine;
+    id = c.0.id ∙ sym d.0.id;
+    claims = c.0.claims ∙ sym d.0.claims;
+  },
+)
 online_once o v w w' base (ons.Online n) (ons.AlreadyOnline m) k l c d = absurd (on_line_once o v w base k c.0 d.2)
 online_once o v w w' base (ons.AlreadyOnline n) (ons.Online m) k l c d = absurd (on_line_once o v w' base l d.0 c.2)
 online_once o v w w' base (ons.AlreadyOnline n) (ons.AlreadyOnline m) k l c d =

@@ -24,7 +24,7 @@ use Rattle.timer_objects.specs.declared.wanting.Ended.TheVariants as ends
 use Rattle.timer_objects.specs.declared.wanting.Rearming.{Rearming}
 use Rattle.timer_objects.specs.declared.wanting.Rearming.TheVariants as rearmings
 use Rattle.timer_objects.specs.BlockingReads.{ReadsBlocking}
-use Rattle.timer_objects.specs.Calls.{Accepts, Caller, FindsFull, Gettimes, ReadsFd, RearmingMade, rearming_call}
+use Rattle.timer_objects.specs.Calls.{Accepts, Caller, FindsHistoryFull, Gettimes, ReadsFd, RearmingMade, rearming_call}
 use Rattle.timer_objects.specs.Known.{ObjectsOf, seen_of}
 use Rattle.answer_laws.specs.Objects.{AreOne, ObjectMoment, SameCaller, SameWork, accept_at, gettime_at, look_at, read_at, rearming_at}
 use Rattle.answer_laws.specs.ObjectReads.{blocking_at}
@@ -44,7 +44,7 @@ work_kept old new new' id e f = subst (λ c. SameWork c new' id) (sym e) (subst 
 
 -- how a call that may arm its timer again ends: it finds the history full, or makes an entry. The entry's number isn't told here.
 abbrev Rearms : (x : ObjectsOf) (o : Opening) (old new : Caller) (id : ℕ) (r : Rearming) (reading : ClockReading) → Ended → Type 0
-Rearms x o old new id r reading (ends.Full n) = FindsFull x old new id n
+Rearms x o old new id r reading (ends.Full n) = FindsHistoryFull x old new id n
 Rearms x o old new id r reading (ends.Made n reply) = RearmingMade x o old new id r reading reply × (n ≡ 0)
 
 abbrev rearms_at : (x : ObjectsOf) (o : Opening) (old new : Caller) (id : ℕ) (r : Rearming) (reading : ClockReading) (e : Ended)

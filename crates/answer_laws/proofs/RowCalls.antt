@@ -50,18 +50,21 @@ module _ {S C R : Type 0} (m : CallMeaning S C R) where
   locks_once p q r i h k a b e =
       let index : h.index ≡ k.index = a.index ∙ sym b.index in
       let seen : entries h.index q.knows.pass.seen ≡ entries k.index r.knows.pass.seen =
-          ap (λ j. entries j q.knows.pass.seen) a.index ∙ (e ∙ sym (ap (λ j. entries j r.knows.pass.seen) b.index)) in
+      ap (λ j. entries j q.knows.pass.seen) a.index ∙ (e ∙ sym (ap (λ j. entries j r.knows.pass.seen) b.index)) in
       let opening : q.knows.opening ≡ r.knows.opening = a.opening ∙ sym b.opening in
       let state : h.state ≡ k.state = state_once _ _ h.index _ _ _ _ opening seen a.now.state
-          (subst (λ j. StateAfter m r.knows.opening j (entries k.index r.knows.pass.seen) k.state) (sym index) b.now.state) in
+      (subst (λ j. StateAfter m r.knows.opening j (entries k.index r.knows.pass.seen) k.state) (sym index) b.now.state) in
       let stamp : h.stamp ≡ k.stamp = a.now.stamp ∙ (ap length seen ∙ sym b.now.stamp) in
-      let same : h ≡ k = locked_same h.index k.index h.stamp k.stamp h.state k.state index stamp state in (same, record {
-        row = a.row ∙ sym b.row;
-        opening = opening;
-        pass = looks_once _ _ _ a.pass b.pass;
-        claims = a.claims ∙ sym b.claims;
-        held = a.held ∙ (ap Some same ∙ sym b.held);
-      })
+      let same : h ≡ k = locked_same h.index k.index h.stamp k.stamp h.state k.state index stamp state in (
+        same,
+        record {
+          row = a.row ∙ sym b.row;
+          opening = opening;
+          pass = looks_once _ _ _ a.pass b.pass;
+          claims = a.claims ∙ sym b.claims;
+          held = a.held ∙ (ap Some same ∙ sym b.held);
+        },
+      )
 
   pub commits_once : (p q p' r : PassOfRow S C R) (i : ℕ) (call call' : C) → SameOfRow p p' → call ≡ call' → (a : Commits m p q i call)
       → (b : Commits m p' r i call') → a.adds.before ≡ b.adds.before
@@ -77,20 +80,27 @@ module _ {S C R : Type 0} (m : CallMeaning S C R) where
       let claims = a.claims in
       let claims' = b.claims in
       let own = alike.pass.mine in
-      let held = alike.claims in (state, cc, record {
-        row = a.row ∙ (alike.row ∙ sym b.row);
-        opening = a.opening ∙ (alike.opening ∙ sym b.opening);
-        pass = record { id = a.adds.id ∙ (alike.pass.id ∙ sym b.adds.id); mine = cc };
-        claims = cc;
-        held = a.idle ∙ sym b.idle;
-      })
+      let held = alike.claims in (
+        state,
+        cc,
+        record {
+          row = a.row ∙ (alike.row ∙ sym b.row);
+          opening = a.opening ∙ (alike.opening ∙ sym b.opening);
+          pass = record { id = a.adds.id ∙ (alike.pass.id ∙ sym b.adds.id); mine = cc };
+          claims = cc;
+          held = a.idle ∙ sym b.idle;
+        },
+      )
 
   pub reads_once : (p q r : PassOfRow S C R) (i : ℕ) (a : ReadsValue m p q i) (b : ReadsValue m p r i)
       → entries i q.knows.pass.seen ≡ entries i r.knows.pass.seen → (a.state ≡ b.state) × SameOfRow q r
-  reads_once p q r i a b e = (state_once _ _ i _ _ _ _ refl e a.at b.at, record {
-    row = a.row ∙ sym b.row;
-    opening = a.opening ∙ sym b.opening;
-    pass = looks_once _ _ _ a.pass b.pass;
-    claims = a.claims ∙ sym b.claims;
-    held = a.held ∙ sym b.held;
-  })
+  reads_once p q r i a b e = (
+    state_once _ _ i _ _ _ _ refl e a.at b.at,
+    record {
+      row = a.row ∙ sym b.row;
+      opening = a.opening ∙ sym b.opening;
+      pass = looks_once _ _ _ a.pass b.pass;
+      claims = a.claims ∙ sym b.claims;
+      held = a.held ∙ sym b.held;
+    },
+  )

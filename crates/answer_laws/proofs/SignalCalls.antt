@@ -33,8 +33,14 @@ places_same p = record { id = refl; mine = refl }
 
 no_room : (before seen : List Turn) (s : Signal) (room : ℕ) → seen ≡ before ++ Pushed s ∷ [] → length (waiting_after [] seen) ≤ room
     → length (waiting_after [] before) ≡ room → ⊥
-no_room before seen s room last few full = omega (arith, few, full, ap (λ l. length (waiting_after [] l)) last, ap length (waits_push [] before s),
-    length-append (waiting_after [] before) (s ∷ []))
+no_room before seen s room last few full = omega (
+  arith,
+  few,
+  full,
+  ap (λ l. length (waiting_after [] l)) last,
+  ap length (waits_push [] before s),
+  length-append (waiting_after [] before) (s ∷ []),
+)
 
 module _ (room : ℕ) (v w w' : QueueView) (s : Signal) where
   pub push_once : (a a' : Push) (p : PushesSignal room v w s a) (q : PushesSignal room v w' s a') → w.room ≡ room → w'.room ≡ room

@@ -25,9 +25,11 @@ use Rattle.answer_laws.proofs.Outcomes.{made_once}
 
 module _ (o : Opening) (v v' w w' : KnownOfTimers) (own : SameOwn v v') where
   pub peek_once : (t : ℕ) (p p' : Peek) (c : Peeks o v w t p) (d : Peeks o v' w' t p') → c.at ≡ d.at → (p ≡ p') × SameOutcome w w' t
-  peek_once t p p' c d e =
-      (c.fits ∙ (ap (λ x. seq.peek_of (timer_then o x t)) e ∙ sym d.fits), made_once v v' w w' t t c.at d.at [] [] own c.made d.made refl e refl
-      (c.claims ∙ (own.claims ∙ sym d.claims)))
+  peek_once t p p' c d e = (
+    c.fits ∙ (ap (λ x. seq.peek_of (timer_then o x t)) e ∙ sym d.fits),
+    made_once v v' w w' t t c.at d.at [] [] own c.made d.made refl e refl
+        (c.claims ∙ (own.claims ∙ sym d.claims)),
+  )
 
   module _ (t : ℕ) (asked asked' : Asked) (a a' : StartAnswer) (c : StartsTimer o v w t asked a) (d : StartsTimer o v' w' t asked' a') where
     pub same_start : asked ≡ asked' → start_moment o v w t asked a c ≡ start_moment o v' w' t asked' a' d → a ≡ a'
@@ -43,8 +45,11 @@ module _ (o : Opening) (v v' w w' : KnownOfTimers) (own : SameOwn v v') where
         ∙ ap (start_entries (timer_then o d.at t) asked' d.sent d.last) (same_start f e))
 
     pub start_once : asked ≡ asked' → start_moment o v w t asked a c ≡ start_moment o v' w' t asked' a' d → (a ≡ a') × SameOutcome w w' t
-    start_once f e = (same_start f e, made_once v v' w w' t t c.at d.at _ _ own c.made d.made refl (ap (λ (m : StartMoment). m.at) e) (same_start_entries f e)
-        (c.claims ∙ (own.claims ∙ sym d.claims)))
+    start_once f e = (
+      same_start f e,
+      made_once v v' w w' t t c.at d.at _ _ own c.made d.made refl (ap (λ (m : StartMoment). m.at) e) (same_start_entries f e)
+          (c.claims ∙ (own.claims ∙ sym d.claims)),
+    )
 
   module _ (t : ℕ) (a a' : CancelAnswer) (c : Cancels o v w t a) (d : Cancels o v' w' t a') (e : c.at ≡ d.at) where
     pub same_cancel : a ≡ a'
@@ -73,9 +78,11 @@ module _ (o : Opening) (v v' w w' : KnownOfTimers) (own : SameOwn v v') where
     pub finish_once : (a ≡ a') × SameOutcome w w' n.timer
     finish_once =
         let number : a.number ≡ a'.number = c.number ∙ (ap (λ x. (timer_then o x n.timer).stamp + 1) e ∙ sym d.number) in
-        let rearmed : a.rearmed ≡ a'.rearmed = c.rearmed ∙ (ap (λ x. rearmed_by (timer_then o x n.timer) restart) e ∙ sym d.rearmed) in
-        (finished_same a.number a'.number a.rearmed a'.rearmed number rearmed, made_once v v' w w' n.timer n.timer c.at d.at _ _ own c.made d.made refl e same_finish_entries
-        (c.claims ∙ (ap (without_first (is_base_claim n.timer n.generation n.base)) own.claims ∙ sym d.claims)))
+        let rearmed : a.rearmed ≡ a'.rearmed = c.rearmed ∙ (ap (λ x. rearmed_by (timer_then o x n.timer) restart) e ∙ sym d.rearmed) in (
+          finished_same a.number a'.number a.rearmed a'.rearmed number rearmed,
+          made_once v v' w w' n.timer n.timer c.at d.at _ _ own c.made d.made refl e same_finish_entries
+              (c.claims ∙ (ap (without_first (is_base_claim n.timer n.generation n.base)) own.claims ∙ sym d.claims)),
+        )
       where
         finished : ℕ → Rearmed → Finished
         finished m r = record { number = m; rearmed = r }

@@ -1,8 +1,8 @@
 -- The moment of a write of the clock.
 use Rattle.std.specs.Prelude.{◌≡◌, List, Result, Ok, Err}
 use Rattle.ktime.specs.Readings.{ClockReading}
-use Rattle.clock_model.specs.declared.write.ClockFault.{ClockFault}
-use Rattle.clock_model.specs.declared.write.Write.{Write}
+use Rattle.ktime.specs.declared.write.ClockFault.{ClockFault}
+use Rattle.ktime.specs.declared.write.Write.{Write}
 use Rattle.clock_cell.specs.declared.view.ClockView.{ClockView}
 use Rattle.clock_cell.specs.Views.{AnswersWrite, writes}
 

@@ -6,11 +6,11 @@ use Rattle.seq_timer.specs.declared.system.SystemEntry.{SystemEntry}
 use Rattle.base_row.specs.declared.log.Receipt.{Receipt}
 use Rattle.base_row.specs.declared.view.Opening.{Opening}
 use Rattle.hr_timers.specs.Known.{KnownOfTimers}
-use Rattle.expire_pass.specs.declared.expiry.ExpireAnswer.{ExpireAnswer}
-use Rattle.expire_pass.specs.declared.expiry.ExpireAnswer.TheVariants as expiries
-use Rattle.expire_pass.specs.declared.handler.Restart.{Restart}
-use Rattle.expire_pass.specs.Expiring.{Expires, Turns}
-use Rattle.expire_pass.specs.Handlers.{Meaning}
+use Rattle.hr_timers.specs.declared.expiry.ExpireAnswer.{ExpireAnswer}
+use Rattle.hr_timers.specs.declared.expiry.ExpireAnswer.TheVariants as expiries
+use Rattle.hr_timers.specs.declared.handler.Restart.{Restart}
+use Rattle.hr_timers.specs.Expiring.{Expires, Turns}
+use Rattle.hr_timers.specs.Handlers.{Meaning}
 
 -- when a timer was claimed, what its function asked for, and when it was finished
 pub record TurnMoment : Type 0 where

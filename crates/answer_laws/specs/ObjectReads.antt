@@ -9,7 +9,7 @@ use Rattle.base_row.specs.declared.view.Opening.{Opening}
 use Rattle.counted_row.specs.declared.view.Entry.{Entry}
 use Rattle.hr_timers.specs.declared.numbers.ClaimNumbers.{ClaimNumbers}
 use Rattle.hr_timers.specs.Known.{KnownOfTimers}
-use Rattle.expire_pass.specs.declared.handler.Restart.{Restart}
+use Rattle.hr_timers.specs.declared.handler.Restart.{Restart}
 use Rattle.signal_queue.specs.Rules.{turns}
 use Rattle.signal_queue.specs.declared.signal.Turn.{Turn}
 use Rattle.signal_queue.specs.declared.view.QueueView.{QueueView}

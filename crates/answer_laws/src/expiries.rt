@@ -4,13 +4,13 @@ ghost use Rattle.ktime.specs.Readings.{ClockReading};
 ghost use Rattle.base_row.specs.Calls.{AreFresh};
 ghost use Rattle.base_row.specs.declared.log.Receipt.{Receipt};
 ghost use Rattle.base_row.specs.declared.view.Opening.{Opening};
-ghost use Rattle.expire_pass.specs.Expiring.{Expires};
-ghost use Rattle.expire_pass.specs.declared.expiry.ExpireAnswer as expiries;
+ghost use Rattle.hr_timers.specs.Expiring.{Expires};
+ghost use Rattle.hr_timers.specs.declared.expiry.ExpireAnswer as expiries;
 ghost use Rattle.hr_timers.specs.Known.{KnownOfTimers, KnowsTimers};
 ghost use Rattle.seq_timer.specs.declared.context.Context as contexts;
 ghost use Rattle.answer_laws.specs.Expiries.{run_at};
 
-use expire_pass::Handler;
+use hr_timers::Handler;
 
 /// By the moments of its claims and finishes, by what its functions asked for, and by what was then seen, a run of expiries has one answer and one log. What
 /// its functions did beside that is said by the handler alone.

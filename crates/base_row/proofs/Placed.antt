@@ -11,7 +11,7 @@ use Rattle.seq_timer.specs.Histories as seq
 use Rattle.seq_timer.proofs.Effects.{HasLeft, by_effect, placed_by}
 use Rattle.seq_timer.proofs.Limits.{left-after}
 use Rattle.seq_timer.specs.Histories.{peek_of}
-use Rattle.timer_word.specs.Words.{IsWord, packed}
+use Rattle.seq_timer.specs.Words.{IsWord, packed}
 use Rattle.seq_timer.specs.declared.observation.Peek.{Peek}
 use Rattle.seq_timer.specs.Tables.{IsNextDue, IsStopped, IsUnused, in_context, is_armed_on, no_timer, runs_on, timer_at}
 use Rattle.ktime.specs.declared.clock_id.ClockId.{ClockId}

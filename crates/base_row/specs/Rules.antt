@@ -10,7 +10,7 @@ use Rattle.pass_names.specs.Names.{IsPassTree}
 use Rattle.pass_names.specs.Passes.{Begins, within, is_place}
 use Rattle.seq_timer.specs.Steps.{Timer}
 use Rattle.seq_timer.specs.Histories.{peek_of}
-use Rattle.timer_word.specs.Words.{packed}
+use Rattle.seq_timer.specs.Words.{packed}
 use Rattle.seq_timer.specs.declared.system.SystemEntry.{SystemEntry}
 use Rattle.seq_timer.specs.declared.standing.Standing.{Standing}
 use Rattle.base_row.specs.declared.plays.About.{About}

@@ -7,9 +7,8 @@ ghost use Rattle.seq_timer.specs.Systems.{no_base};
 
 use crate::cell::BaseCell;
 use crate::slot::BaseSlot;
-use seq_timer::{Standing, TimerState};
+use seq_timer::{Standing, TimerState, pack, word_of};
 use std::alloc::{AllocError, Global};
-use timer_word::{pack, word_of};
 
 /// The place of the heir in a base's word.
 const HEIR: u64 = 65536;

@@ -25,12 +25,11 @@ use crate::steps::{absorb, enter, free, look, tell};
 use atomic_table::{Refused, Table};
 use ktime::Reading;
 use pass_names::Retries;
-use seq_timer::{Context, Declared, Event, Peek, Reply, Terms, TimerState, make_timers};
+use seq_timer::{Context, Declared, Event, Peek, Reply, Terms, TimerState, make_timers, read};
 use std::alloc::{AllocError, Global};
 use std::marker::{Brand, Model};
 use std::snapshot::Snapshot;
 use std::sync::Wait;
-use timer_word::read;
 
 /// Bases and timers that many threads share.
 #[derive(Drop)]

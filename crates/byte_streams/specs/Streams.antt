@@ -18,12 +18,12 @@ pub record HasCause {T E : Type 0} (before now : ℕ) (result : Result T E) : Ty
   pub failed : OnErr result (now ≡ one_more before)
 
 -- what a sink took grew by these bytes, where it tells that still; one that doesn't tell never will
-abbrev pub Adds : Option (List ℕ) → Option (List ℕ) → List ℕ → Type 0
-Adds None now bytes = now ≡ None
-Adds (Some old) None bytes = ⊤
-Adds (Some old) (Some new) bytes = new ≡ old ++ bytes
+abbrev pub GrowsBy : Option (List ℕ) → Option (List ℕ) → List ℕ → Type 0
+GrowsBy None now bytes = now ≡ None
+GrowsBy (Some old) None bytes = ⊤
+GrowsBy (Some old) (Some new) bytes = new ≡ old ++ bytes
 
 -- what a sink took grew by a prefix of this text
 pub record AddsPrefix (taken now : Option (List ℕ)) (text : List ℕ) : Type 0 where
   pub count : ℕ
-  pub front : Adds taken now (take count text)
+  pub front : GrowsBy taken now (take count text)

@@ -3,7 +3,7 @@ ghost use Rattle.std.specs.Prelude.{◌≡◌, ◌+◌, ◌-◌, ◌^◌, ◌<�
 ghost use Rattle.std.specs.Io.{ReadsAtMost, WritesAtMost};
 ghost use Rattle.std.specs.Io.KnownBytes.{ReadConsumes};
 ghost use Rattle.std.specs.declared.option.Option.{Option};
-ghost use Rattle.byte_streams.specs.Streams.{HasCause, Adds};
+ghost use Rattle.byte_streams.specs.Streams.{HasCause, GrowsBy};
 
 use crate::stream::{Failed, Sink, Source};
 use std::alloc::Global;
@@ -152,7 +152,7 @@ impl Kept {
 
     /// Adds the piece.
     pub fn keep(&mut self, piece: &[u8])
-        ensures { Adds self.old self.new piece.now }
+        ensures { GrowsBy self.old self.new piece.now }
     {
         if self.bytes.extend_from_slice(piece).is_err() {
             self.lost = true;
@@ -200,7 +200,7 @@ impl<'a> Sink for BytesSink<'a> {
         ensures bound { WritesAtMost result piece.now }
         ensures few { IfOk result (λ n. n ≤ max self.old.most 1) }
         ensures some { 0 < length piece.now → IfOk result (λ n. 0 < n) }
-        ensures bytes { IfOk result (λ n. Adds self.old.kept self.new.kept (take n piece.now)) }
+        ensures bytes { IfOk result (λ n. GrowsBy self.old.kept self.new.kept (take n piece.now)) }
         ensures none { OnErr result (self.new.kept ≡ self.old.kept) }
         ensures cause { HasCause self.old.plan.faults self.new.plan.faults result }
         ensures listed { IsErr result ↔ Contains self.old.plan.failing.now self.new.plan.calls }

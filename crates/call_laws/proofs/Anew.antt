@@ -32,11 +32,11 @@ use Rattle.run_history.proofs.ObjectsMade.{FoundIdle, IsAnew, anew_actions}
 use Rattle.run_history.proofs.OthersMade.{plain}
 use Rattle.run_history.proofs.Reached.{as_wider, was_wider}
 use Rattle.lane_notes.specs.Objects.{arm_noted}
-use Rattle.lane_world.specs.Called.{LaneOf, LeavesSignals, ReadsClock, lane_caller, with_done}
-use Rattle.lane_world.specs.Worlds.{WorldOf}
-use Rattle.lane_world.proofs.Declared.{declared_base}
-use Rattle.lane_world.proofs.Kept.{Follows, IsNextCall, KeepsCall, seen_by}
-use Rattle.lane_world.proofs.SeenMore.{begins_same, goes_before}
+use Rattle.lane_notes.specs.Called.{LaneOf, LeavesSignals, ReadsClock, lane_caller, with_done}
+use Rattle.lane_notes.specs.Worlds.{WorldOf}
+use Rattle.lane_notes.proofs.Declared.{declared_base}
+use Rattle.lane_notes.proofs.Kept.{Follows, IsNextCall, KeepsCall, seen_by}
+use Rattle.lane_notes.proofs.SeenMore.{begins_same, goes_before}
 use Rattle.call_laws.proofs.Armed.{IsArmedSo, TimerPart, TimersPart, WantsAtMost, disarmed_part, start_at_most}
 use Rattle.call_laws.proofs.Signals.{IsNoTrigger, turns_alone}
 use Rattle.run_history.specs.Signals.{popped_by}

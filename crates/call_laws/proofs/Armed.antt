@@ -36,12 +36,12 @@ use Rattle.script_text.specs.declared.script.Script.{Script}
 use Rattle.lane_notes.specs.Objects.{arm_noted}
 use Rattle.run_history.specs.Witnesses.{Witness}
 use Rattle.run_history.specs.Receipts.{PlacedEntry}
-use Rattle.run_history.specs.Promises.{GoesOn}
+use Rattle.run_history.specs.Promises.{RunGoesOn}
 use Rattle.run_history.specs.Runs.{witness_of, Ending, IsJoined}
 use Rattle.run_history.specs.Truths.{IsTrueStart, WasOffLine}
 use Rattle.run_history.proofs.Reached.{was_wider}
-use Rattle.lane_world.proofs.Kept.{IsNextCall}
-use Rattle.lane_world.proofs.SeenMore.{begins_same}
+use Rattle.lane_notes.proofs.Kept.{IsNextCall}
+use Rattle.lane_notes.proofs.SeenMore.{begins_same}
 use Rattle.run_history.proofs.Stamped.{HaveReadings}
 use Rattle.call_laws.proofs.Parts.{IsPart, part_at, part_none}
 use Rattle.call_laws.proofs.Entering.{looks_made}
@@ -57,8 +57,8 @@ use Rattle.run_history.specs.ObjectCalls.{cancels}
 use Rattle.run_history.specs.Objects.{ArmedAs}
 use Rattle.script_text.specs.declared.script.Call.{Call}
 use Rattle.run_history.specs.Witnesses as witnesses
-use Rattle.lane_world.specs.Called.{LaneOf}
-use Rattle.lane_world.specs.Worlds.{WorldOf}
+use Rattle.lane_notes.specs.Called.{LaneOf}
+use Rattle.lane_notes.specs.Worlds.{WorldOf}
 use Rattle.call_laws.proofs.CallKept.{opened_timers}
 use Rattle.pass_names.specs.Passes.{Begins}
 use Rattle.std.proofs.Common.{if◌then◌else◌}
@@ -81,7 +81,7 @@ IsArmedSo (arms.Unarmed stamp) s = (s.stamp ≡ stamp) × Holds s observations.S
 -- it was started so, or not at all, in every run that goes on from there
 abbrev pub ArmsIn : Script → KnownOfTimers → KnownOfTimers → ℕ → Option Wanted → ℕ → ClockReading → Arm → List Action → Type 0
 ArmsIn s begin w t wanted base reading arm start =
-    (e : Ending) → IsJoined s e → GoesOn w.seen e
+    (e : Ending) → IsJoined s e → RunGoesOn w.seen e
     → ArmsAs (WasOffLine (witness_of s e) (length begin.seen) (length w.seen)) s.limit t wanted reading.stamp base (arm_noted arm) start
 
 -- no start was made

@@ -29,8 +29,8 @@ use Rattle.hr_timers.specs.Ways.{asking, start_on}
 use Rattle.hr_timers.specs.declared.answer.StartAnswer.{StartAnswer}
 use Rattle.hr_timers.specs.declared.answer.StartAnswer.TheVariants as starts
 use Rattle.hr_timers.specs.declared.numbers.ClaimNumbers.{ClaimNumbers}
-use Rattle.expire_pass.specs.Handlers.{asks}
-use Rattle.expire_pass.specs.declared.handler.Restart.{Restart}
+use Rattle.hr_timers.specs.Handlers.{asks}
+use Rattle.hr_timers.specs.declared.handler.Restart.{Restart}
 use Rattle.timer_objects.specs.Callbacks.{forward_noted, IsUnsent, look_receipt, RunsCallback, start_noted}
 use Rattle.base_row.specs.Logs.{receipts_of}
 use Rattle.record_text.specs.declared.record.CallbackReply.TheVariants as replies
@@ -40,7 +40,7 @@ use Rattle.record_text.specs.declared.record.Label.{Label}
 use Rattle.seq_timer.specs.declared.event.Restarted.{Restarted}
 use Rattle.script_text.specs.Declarations.{declareds_of, terms_of, kind_of}
 use Rattle.run_history.specs.Actions.{Action, Entered, Looked, made}
-use Rattle.run_history.specs.Told.{IsBelowLimit, observed}
+use Rattle.run_history.specs.Told.{IsArmedBelowLimit, observed}
 use Rattle.script_text.specs.declared.script.Callback.TheVariants as callbacks
 use Rattle.script_text.specs.declared.script.Callback.{Callback}
 use Rattle.script_text.specs.declared.script.Kind.TheVariants as kinds
@@ -48,12 +48,12 @@ use Rattle.script_text.specs.declared.script.Script.{Script}
 use Rattle.lane_notes.specs.Entries.{look_noted}
 use Rattle.run_history.specs.Deeds.{IsBody}
 use Rattle.run_history.specs.Truths.{WasOffLine}
-use Rattle.run_history.specs.Receipts.{count}
-use Rattle.run_history.specs.Promises.{GoesOn}
+use Rattle.run_history.specs.Receipts.{count_owned}
+use Rattle.run_history.specs.Promises.{RunGoesOn}
 use Rattle.run_history.specs.Runs.{witness_of, Ending, IsJoined}
 use Rattle.run_history.specs.Witnesses.{TimersList}
-use Rattle.lane_world.proofs.SeenMore.{begins_same, count_begins}
-use Rattle.lane_world.specs.Worlds.{callback_of, opening_for}
+use Rattle.lane_notes.proofs.SeenMore.{begins_same, count_begins}
+use Rattle.lane_notes.specs.Worlds.{callback_of, opening_for}
 use Rattle.call_laws.proofs.Entering.{enters_none, stamp_counts}
 use Rattle.run_history.proofs.Stamped.{HasReading, entry_stamped}
 use Rattle.call_laws.proofs.Parts.{BodyKept, ClockHas, IsClaimed, fired_of, part_at, part_claimed, part_looked}
@@ -75,7 +75,7 @@ module _ (s : Script) (o : Opening) (is : o ≡ opening_for s) (some : 1 ≤ s.l
 
   -- the function's actions are those of the timer's callback
   abbrev Does : List Action → Type 0
-  Does body = (e : Ending) → IsJoined s e → GoesOn w.seen e → (finish : ℕ) (restarted : Restarted)
+  Does body = (e : Ending) → IsJoined s e → RunGoesOn w.seen e → (finish : ℕ) (restarted : Restarted)
       → IsBody (WasOffLine (witness_of s e) (length v.seen) (length w.seen)) s.limit (kind_of s c.timer) reading.stamp
       (fired_of c body finish (asks restart) restarted)
 
@@ -83,10 +83,10 @@ module _ (s : Script) (o : Opening) (is : o ≡ opening_for s) (some : 1 ≤ s.l
   looked_kept : {at : List SystemEntry} {number : ℕ} (event : Event) (observation : Observation) (reply : CallbackReply) → MadeAt v w c.timer at []
       → look_noted observation ≡ Some reply → observed reply ≡ observation
       → h'.log.receipts ≡ h.log.receipts ++ look_receipt c number event observation ∷ [] → number ≡ (timer_then o at c.timer).stamp
-      → Holds (timer_then o at c.timer) observation → IsBelowLimit s.limit number reply → Does (Looked c.timer number reply ∷ [])
+      → Holds (timer_then o at c.timer) observation → IsArmedBelowLimit s.limit number reply → Does (Looked c.timer number reply ∷ [])
       → BodyKept s label claim restart w h h'
   looked_kept {at = at} {number = number} event observation reply made noted observes logs stamp holds below does =
-      let counted : number ≡ count (TimersList c.timer) at = stamp ∙ stamp_counts o (declareds_of s) (terms_of s) at c.timer on in
+      let counted : number ≡ count_owned (TimersList c.timer) at = stamp ∙ stamp_counts o (declareds_of s) (terms_of s) at c.timer on in
       let looks = looks_made made in
       record {
         body = Looked c.timer number reply ∷ [];

@@ -8,7 +8,7 @@ use Rattle.std.specs.List.Sorted.{IsPermutation}
 use Rattle.std.proofs.lemmas.List.Sorted.{IsPermutation-map, sum_by-IsPermutation}
 use Rattle.std.proofs.lemmas.Option.{slice_get_within}
 use Rattle.ktime.specs.Readings.{ClockReading}
-use Rattle.clock_model.specs.Clocks.{at_stamp, clock_after}
+use Rattle.ktime.specs.Clocks.{at_stamp, clock_after}
 use Rattle.clock_cell.specs.Views.{writes}
 use Rattle.pass_names.specs.Counts.{count, one_if, total}
 use Rattle.pass_names.specs.Passes.{Begins, GoesOn, is_place, Looks}
@@ -33,12 +33,12 @@ use Rattle.run_history.proofs.Known.{AreMade}
 use Rattle.run_history.proofs.Promise.{kept_from, reading_seen}
 use Rattle.run_history.specs.Signals.{popped_by, pushed_in}
 use Rattle.call_laws.proofs.Signals.{falls_between, TurnsPart}
-use Rattle.lane_world.specs.Called.{LaneOf, LeavesClock, ReadsClock}
-use Rattle.lane_world.proofs.Kept.{base_note_place, entries_told, note_place, places_noted, told_in, of_base, of_entry, of_write, ToldNote, Follows, IsNextCall, log_of, seen_by, SeesOn, StandAt, turn_notes}
-use Rattle.lane_world.proofs.SeenMore.{begins_same}
-use Rattle.lane_world.specs.Worlds.{WorldOf}
-use Rattle.lane_world.specs.declared.WorldPass.{WorldPass}
-use Rattle.lane_world.proofs.Kept.{told_notes}
+use Rattle.lane_notes.specs.Called.{LaneOf, LeavesClock, ReadsClock}
+use Rattle.lane_notes.proofs.Kept.{base_note_place, entries_told, note_place, places_noted, told_in, of_base, of_entry, of_write, ToldNote, Follows, IsNextCall, log_of, seen_by, SeesOn, StandAt, turn_notes}
+use Rattle.lane_notes.proofs.SeenMore.{begins_same}
+use Rattle.lane_notes.specs.Worlds.{WorldOf}
+use Rattle.lane_notes.specs.declared.lane.WorldPass.{WorldPass}
+use Rattle.lane_notes.proofs.Kept.{told_notes}
 use Rattle.std.proofs.lemmas.Simd.{map-map}
 use Rattle.std.proofs.lemmas.List.{append-nil, take_all, map-append}
 use Rattle.lane_notes.specs.declared.notes.WriteNote.{WriteNote}
@@ -50,7 +50,7 @@ use Rattle.run_history.specs.Objects.{present}
 use Rattle.lane_notes.proofs.Receipts.{present-append}
 use Rattle.pass_names.proofs.Passes.{begins_length}
 use Rattle.std.proofs.Common.{false}
-use Rattle.clock_model.specs.declared.write.Write.{Write}
+use Rattle.ktime.specs.declared.write.Write.{Write}
 use Rattle.clock_cell.specs.Views.{reading_after}
 use Rattle.seq_timer.specs.Systems.{openings}
 use Rattle.base_row.specs.declared.view.Opening.{Opening}

@@ -3,8 +3,8 @@ use Rattle.std.proofs.Common.{◌≡◌, ◌<◌, ◌+◌, ℕ, Bool, List, [], 
 use Rattle.std.proofs.lemmas.List.{take_more}
 use Rattle.base_row.specs.declared.log.Receipt.{Receipt}
 use Rattle.run_history.specs.Actions.{also}
-use Rattle.lane_world.specs.Called.{claimed_in, is_claim_event}
-use Rattle.lane_world.proofs.PartLists.{also-append}
+use Rattle.lane_notes.specs.Called.{claimed_in, is_claim_event}
+use Rattle.lane_notes.proofs.PartLists.{also-append}
 
 pub claimed_in-append : (xs ys : List Receipt) → claimed_in (xs ++ ys) ≡ claimed_in xs ++ claimed_in ys
 claimed_in-append [] ys = refl

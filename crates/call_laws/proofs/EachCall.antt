@@ -12,11 +12,11 @@ use Rattle.call_laws.proofs.Turns.{next_begun, turn_plain, turn_read}
 use Rattle.call_laws.proofs.Writing.{keeps_write}
 use Rattle.clock_cell.specs.Views.{writes}
 use Rattle.ktime.specs.Readings.{ClockReading}
-use Rattle.lane_world.proofs.Declared.{declared_over, over_of}
-use Rattle.lane_world.proofs.Kept.{IsNextCall, KeepsCall, KeepsTurn}
-use Rattle.lane_world.proofs.PartLists.{no_notes-joins}
-use Rattle.lane_world.specs.Called.{Called, CalledThen, CallsReading, lane_caller, LaneOf, CallsObject, TakesReading, gettime_told}
-use Rattle.lane_world.specs.Worlds.{WorldOf}
+use Rattle.lane_notes.proofs.Declared.{declared_over, over_of}
+use Rattle.lane_notes.proofs.Kept.{IsNextCall, KeepsCall, KeepsTurn}
+use Rattle.lane_notes.proofs.PartLists.{no_notes-joins}
+use Rattle.lane_notes.specs.Called.{Called, CalledThen, CallsReading, lane_caller, LaneOf, CallsObject, ReadsClockFirst, gettime_told}
+use Rattle.lane_notes.specs.Worlds.{WorldOf}
 use Rattle.posix_timer.specs.States.{PosixTimer, setting_of}
 use Rattle.record_text.specs.declared.record.Answer.TheVariants as answers
 use Rattle.record_text.specs.declared.record.Answer.{Answer}
@@ -121,7 +121,7 @@ keeps_gettime {s = s} {x = x} {l = l} {m = m} {a = a} {timer = timer} next calle
     by_kind (kinds.Sleeper base) is c = absurd c.does.0
 
 -- law: a call by a reading that was taken is kept by itself
-keeps_then : {s : Script} {x : WorldOf} {l m : LaneOf} {call : Call} {a : Answer} → TakesReading call → IsNextCall s x l call → CalledThen x l call a m
+keeps_then : {s : Script} {x : WorldOf} {l m : LaneOf} {call : Call} {a : Answer} → ReadsClockFirst call → IsNextCall s x l call → CalledThen x l call a m
     → KeepsCall s l call a m × (m.pass.clock ≡ l.pass.clock)
 keeps_then {call = calls.Start timer request} takes next c = (keeps_start next c, c.reads.same)
 keeps_then {call = calls.Expire context base budget} takes next c = (keeps_expire next c, c.reads.same)
@@ -141,7 +141,7 @@ keeps_then {call = calls.Overrun timer} takes next c = absurd (true≢false (sym
 keeps_then {call = calls.Slept timer} takes next c = absurd (true≢false (sym takes))
 keeps_then {call = calls.Online base} takes next c = absurd (true≢false (sym takes))
 
-keeps_reading : {s : Script} {x : WorldOf} {l m : LaneOf} {call : Call} {a : Answer} → TakesReading call → reads_clock call ≡ true → IsNextCall s x l call
+keeps_reading : {s : Script} {x : WorldOf} {l m : LaneOf} {call : Call} {a : Answer} → ReadsClockFirst call → reads_clock call ≡ true → IsNextCall s x l call
     → CallsReading x l m call a → KeepsTurn s l call a m
 keeps_reading takes reads next c =
     let kept = keeps_then takes (next_begun c.reads next) c.called in turn_read c.reads reads kept.1 kept.0

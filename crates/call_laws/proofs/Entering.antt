@@ -30,7 +30,7 @@ use Rattle.hr_timers.specs.Known.{KnownOfTimers, MadeAt, timer_then}
 use Rattle.record_text.specs.declared.record.ClockLine.{ClockLine}
 use Rattle.record_text.specs.declared.record.RunRecord.{RunRecord}
 use Rattle.run_history.proofs.Stamped.{all_stamped_shown, entry_stamped, HasReading, HaveReadings}
-use Rattle.run_history.specs.Receipts.{count, PlacedEntry, receipt, ShowsEntry}
+use Rattle.run_history.specs.Receipts.{count_owned, PlacedEntry, receipt, ShowsEntry}
 use Rattle.run_history.proofs.Known.{adds_made, AreEntries, AreMade, made-append, made_goes_on, made_wider, none_made, numbered, shows_made}
 use Rattle.run_history.proofs.Known.{one_note, rise_made}
 use Rattle.script_text.proofs.Lists.{All-append}
@@ -84,7 +84,7 @@ made_places s t k (e ∷ es) = ap (λ ps. (t, k + 1) ∷ ps) (made_places s t (k
 
 -- a timer's stamp is the number of its entries
 pub stamp_counts : (o : Opening) (clocks : List Declared) (terms : Terms) (x : List SystemEntry) (t : ℕ) → o.timers ≡ openings clocks terms
-    → (timer_then o x t).stamp ≡ count (TimersList t) x
+    → (timer_then o x t).stamp ≡ count_owned (TimersList t) x
 stamp_counts o clocks terms x t is = omega (arith, stamp_then o x t, ap (λ ts. (timer_at ts t).stamp) is ∙ first_stamp clocks terms t)
 
 -- law: the entries that a call made of a timer at a moment are receipts that stand in what its pass has seen, behind what it had seen before
@@ -92,7 +92,7 @@ pub enters_at : (s : Script) (IsSo : List ClockLine → Type 0) (o : Opening) {v
     → o.timers ≡ openings (declareds_of s) (terms_of s) → MadeAt v w t x es → ((clock : List ClockLine) → IsSo clock → HaveReadings clock es)
     → (notes : List PlacedEntry) × EntersNotes s IsSo v w notes × (map receipt notes ≡ numbered t (timer_then o x t).stamp (map entry_stamped es))
 enters_at s IsSo o {v = v} {w = w} {t = t} {x = x} {es = es} is made reads =
-    let stamp : count (TimersList t) x ≡ (timer_then o x t).stamp = sym (stamp_counts o (declareds_of s) (terms_of s) x t is) in
+    let stamp : count_owned (TimersList t) x ≡ (timer_then o x t).stamp = sym (stamp_counts o (declareds_of s) (terms_of s) x t is) in
     let shown = map entry_stamped es in
     let adds = adds_made x made.seen.rest t es shown (ap (entries_of t) (sym made.seen.whole) ∙ made.own) (length-map es entry_stamped) in
     let there : AreMade w.seen (length x) (length w.seen) adds.0 =
@@ -102,7 +102,7 @@ enters_at s IsSo o {v = v} {w = w} {t = t} {x = x} {es = es} is made reads =
       record {
         seen = begins_trans made.from made.seen;
         made = made_wider w.seen (length v.seen) (length x) (length w.seen) (length w.seen) adds.0 (begins_length made.from) (omega arith) there;
-        mine = made.mine ∙ ap (λ ps. v.mine ++ ps) (made_places s t (count (TimersList t) x) es
+        mine = made.mine ∙ ap (λ ps. v.mine ++ ps) (made_places s t (count_owned (TimersList t) x) es
             ∙ ap present (ap (map (place_told s)) (sym adds.2) ∙ map-map (place_told s) receipt adds.0));
         shows = λ r order later whole so. shows_made r order w.seen later t (timer_then o x t).stamp adds.0 es shown whole
             (subst (λ xs. AreEntries xs adds.0 (map (timers_entry t) es)) (sym made.seen.whole) adds.3) are (all_stamped_shown r.clock es (reads r.clock so));

@@ -3,7 +3,7 @@ use Rattle.std.proofs.lemmas.Bool.{cases_lt}
 use Rattle.std.proofs.Common.{⊎_elim}
 use Rattle.std.proofs.Common.{ne_eqb}
 use Rattle.call_laws.proofs.Parts.{part_as}
-use Rattle.hr_timers.specs.Moves.{IsFront as IsFrontOf}
+use Rattle.hr_timers.specs.Moves.{IsFront}
 use Rattle.call_laws.proofs.Noted.{entered_on, notes_of}
 use Rattle.call_laws.proofs.Stays.{system_stays, timer_stays}
 use Rattle.call_laws.proofs.Parts.{part_logged}
@@ -44,19 +44,19 @@ use Rattle.script_text.specs.Declarations.{declared_of, declareds_of, terms_of}
 use Rattle.script_text.specs.declared.script.Call.{Call}
 use Rattle.script_text.specs.declared.script.Script.{Script}
 use Rattle.run_history.specs.Deeds.{KeepsExpiries, evacuates}
-use Rattle.run_history.specs.Truths.{IsFront, WasFront}
+use Rattle.run_history.specs.Truths.{WasNextOff, WasFront}
 use Rattle.run_history.specs.Histories.{history_of, lines_of_timer, timer_after}
-use Rattle.run_history.specs.Promises.{GoesOn}
+use Rattle.run_history.specs.Promises.{RunGoesOn}
 use Rattle.run_history.specs.Receipts.{PlacedEntry}
 use Rattle.run_history.specs.Runs.{Ending, IsJoined, witness_of}
 use Rattle.run_history.specs.Witnesses.{Evacuation, TimersList, Witness}
 use Rattle.run_history.proofs.OwnHistories.{entries_on, history_shown, own_entry}
-use Rattle.lane_world.specs.Called.{LaneOf}
-use Rattle.lane_world.specs.Worlds.{WorldOf}
+use Rattle.lane_notes.specs.Called.{LaneOf}
+use Rattle.lane_notes.specs.Worlds.{WorldOf}
 use Rattle.call_laws.proofs.CallKept.{opened_timers}
 use Rattle.call_laws.proofs.Entering.{stamp_counts}
-use Rattle.lane_world.proofs.Kept.{IsNextCall}
-use Rattle.lane_world.proofs.SeenMore.{begins_same, goes_before}
+use Rattle.lane_notes.proofs.Kept.{IsNextCall}
+use Rattle.lane_notes.proofs.SeenMore.{begins_same, goes_before}
 use Rattle.call_laws.proofs.Parts.{ClockHas, IsPart, part_at, part_none}
 use Rattle.timer_objects.specs.Known.{ObjectsPass}
 
@@ -82,7 +82,7 @@ first_of false b c is = absurd (cc)
 
 module _ {s : Script} {x : WorldOf} {l : LaneOf} {call : Call} (next : IsNextCall s x l call) (e : Ending) (joined : IsJoined s e) where
   -- law: an armed timer is there
-  pub armed_there : (seen : List SystemEntry) → GoesOn seen e → (base t : ℕ) → is_armed_on base (timer_then x.timers.about seen t) ≡ true
+  pub armed_there : (seen : List SystemEntry) → RunGoesOn seen e → (base t : ℕ) → is_armed_on base (timer_then x.timers.about seen t) ≡ true
       → t < length (declareds_of s)
   armed_there seen goes base t armed = ⊎_elim (λ less. less) (λ past.
       let u = timer_then x.timers.about seen t in
@@ -95,7 +95,7 @@ module _ {s : Script} {x : WorldOf} {l : LaneOf} {call : Call} (next : IsNextCal
       (cases_lt t (length (declareds_of s)))
 
   -- law: it is, by its own lines, what a pass has seen of it
-  pub own_timer : (seen : List SystemEntry) → GoesOn seen e → (t : ℕ) → t < length (declareds_of s)
+  pub own_timer : (seen : List SystemEntry) → RunGoesOn seen e → (t : ℕ) → t < length (declareds_of s)
       → timer_after s e.run t (timer_then x.timers.about seen t).stamp ≡ timer_then x.timers.about seen t
   own_timer seen goes t there =
       let w = witness_of s e in
@@ -131,7 +131,7 @@ move_shown heir reading t u on =
 
 -- law: a timer that a pass saw to be the next one of a base is that in the run
 pub front_seen : {s : Script} {x : WorldOf} {l : LaneOf} {call : Call} (next : IsNextCall s x l call) (e : Ending) (joined : IsJoined s e)
-    (seen : List SystemEntry) → GoesOn seen e → (base t : ℕ) → IsFrontOf x.timers.about seen base t → IsFront (witness_of s e) base t (length seen)
+    (seen : List SystemEntry) → RunGoesOn seen e → (base t : ℕ) → IsFront x.timers.about seen base t → WasNextOff (witness_of s e) base t (length seen)
 front_seen next e joined seen goes base t front =
     (front.0, ap (λ (u : System). front_of (u.bases base).content) (system_stays next.world.timers joined seen goes) ∙ front.1)
 
@@ -160,9 +160,9 @@ module _ {s : Script} {x : WorldOf} {l : LaneOf} {call : Call} (next : IsNextCal
     pub adds : new.receipts ≡ old.receipts ++ log
     pub notes : List PlacedEntry
     pub part : IsPart s (ClockHas reading) l.label v p w p (flat_map (evacuates heir reading.stamp) moved) notes (notes_of l.label log [])
-    pub keeps : (e : Ending) → IsJoined s e → GoesOn w.seen e
+    pub keeps : (e : Ending) → IsJoined s e → RunGoesOn w.seen e
         → AllByRecursion (λ y. KeepsExpiries base (timer_after s e.run y.timer y.before) y) moved
-    pub turns : (e : Ending) → IsJoined s e → GoesOn w.seen e → AllByRecursion (WasFront (witness_of s e) (length v.seen) (length w.seen) base) moved
+    pub turns : (e : Ending) → IsJoined s e → RunGoesOn w.seen e → AllByRecursion (WasFront (witness_of s e) (length v.seen) (length w.seen) base) moved
 
   -- law: one timer
   one_moved : {v w : KnownOfTimers} (t : ℕ) (old new : LogOf Receipt) → MovesTimer kept x.timers.about base heir reading v w t old new

@@ -12,9 +12,9 @@ use Rattle.seq_timer.specs.declared.context.Context.{Context}
 use Rattle.seq_timer.specs.Tables.{IsStopped, in_context, runs_on, seen_in}
 use Rattle.seq_timer.specs.declared.system.SystemEntry.{SystemEntry}
 use Rattle.hr_timers.specs.Known.{KnownOfTimers}
-use Rattle.expire_pass.specs.declared.expiry.ExpireAnswer.{ExpireAnswer}
-use Rattle.expire_pass.specs.declared.expiry.ExpireAnswer.TheVariants as expiries
-use Rattle.expire_pass.specs.Expiring.{Expires, Turns}
+use Rattle.hr_timers.specs.declared.expiry.ExpireAnswer.{ExpireAnswer}
+use Rattle.hr_timers.specs.declared.expiry.ExpireAnswer.TheVariants as expiries
+use Rattle.hr_timers.specs.Expiring.{Expires, Turns}
 use Rattle.base_row.specs.declared.log.Receipt.{Receipt}
 use Rattle.timer_objects.specs.QueuedFirings.{queued_firing}
 use Rattle.signal_queue.specs.Rules.{turns}
@@ -39,10 +39,10 @@ use Rattle.run_history.specs.Receipts.{PlacedEntry}
 use Rattle.run_history.specs.Runs.{witness_of, Ending, IsJoined, moves_spans, signal_spans}
 use Rattle.run_history.proofs.Expires.{expire_busy, expire_done, expire_more, expiring, HaveRun}
 use Rattle.run_history.proofs.Kept.{IsKept}
-use Rattle.lane_world.specs.Called.{CallsExpire, claimed_in, expire_told, LaneOf}
-use Rattle.lane_world.proofs.Kept.{Follows, IsNextCall, KeepsCall, seen_by}
-use Rattle.lane_world.proofs.SeenMore.{goes_before}
-use Rattle.lane_world.specs.Worlds.{WorldOf}
+use Rattle.lane_notes.specs.Called.{CallsExpire, claimed_in, expire_told, LaneOf}
+use Rattle.lane_notes.proofs.Kept.{Follows, IsNextCall, KeepsCall, seen_by}
+use Rattle.lane_notes.proofs.SeenMore.{goes_before}
+use Rattle.lane_notes.specs.Worlds.{WorldOf}
 use Rattle.pass_names.proofs.Passes.{begins_length}
 use Rattle.call_laws.proofs.CallKept.{clock_left, reading_goes_on}
 use Rattle.call_laws.proofs.PartKept.{keeps_part}

@@ -6,7 +6,7 @@ use Rattle.call_laws.proofs.Noted.{HasWholeTurns, notes_of, one_noted, whole_tur
 use Rattle.call_laws.proofs.Parts.{part_entry, part_noted, part_then}
 use Rattle.lane_notes.specs.Notes.{both_noted}
 use Rattle.lane_notes.specs.Objects.{object_note, skip_note}
-use Rattle.lane_world.proofs.PartLists.{notes_same}
+use Rattle.lane_notes.proofs.PartLists.{notes_same}
 use Rattle.std.proofs.lemmas.List.Sorted.{IsPermutation-sym, IsPermutation-trans}
 use Rattle.std.proofs.Common.{◌≡◌, ◌≤◌, ℕ, ◌+◌, unwrap_or, List, [], ◌∷◌, ◌++◌, length, length-append, map, get_or, arith, refl, sym, ap, ◌∙◌, subst, zero, suc, Option}
 use Rattle.std.specs.List.Sorted.{IsPermutation}
@@ -24,9 +24,9 @@ use Rattle.base_row.specs.declared.view.Opening.{Opening}
 use Rattle.hr_timers.specs.Calls.{ClaimsNextDue}
 use Rattle.hr_timers.specs.Known.{KnownOfTimers, timer_then}
 use Rattle.hr_timers.specs.declared.numbers.ClaimNumbers.{ClaimNumbers}
-use Rattle.expire_pass.specs.Expiring.{claim_receipt, finish_receipt, Turn, Turns}
-use Rattle.expire_pass.specs.Handlers.{asks}
-use Rattle.expire_pass.specs.declared.handler.Restart.{Restart}
+use Rattle.hr_timers.specs.Expiring.{claim_receipt, finish_receipt, Turn, Turns}
+use Rattle.hr_timers.specs.Handlers.{asks}
+use Rattle.hr_timers.specs.declared.handler.Restart.{Restart}
 use Rattle.base_row.specs.declared.log.Receipt.{Receipt}
 use Rattle.timer_objects.specs.Callbacks.{RunsCallback}
 use Rattle.timer_objects.specs.QueuedFirings.{FiresAll, FiresKind, QueuedFiring, queued_firing}
@@ -53,10 +53,10 @@ use Rattle.run_history.specs.Runs.{witness_of, Ending, IsJoined}
 use Rattle.run_history.proofs.Expires.{claim_of, finish_of, HaveRun, holds_wider, run_hears, run_push}
 use Rattle.run_history.proofs.Known.{made_goes_on}
 use Rattle.run_history.proofs.Reached.{body_wider, was_wider}
-use Rattle.lane_world.specs.Called.{claimed_in}
-use Rattle.lane_world.proofs.SeenMore.{count_begins, goes_before, begins_same}
-use Rattle.lane_world.specs.Worlds.{callback_of, HasQueue, IsWorldOf, WorldOf}
-use Rattle.lane_world.proofs.Declared.{declared_callback, declared_over, over_of, room_known}
+use Rattle.lane_notes.specs.Called.{claimed_in}
+use Rattle.lane_notes.proofs.SeenMore.{count_begins, goes_before, begins_same}
+use Rattle.lane_notes.specs.Worlds.{callback_of, HasQueue, IsWorldOf, WorldOf}
+use Rattle.lane_notes.proofs.Declared.{declared_callback, declared_over, over_of, room_known}
 use Rattle.pass_names.proofs.Passes.{begins_length}
 use Rattle.call_laws.proofs.Triggered.{queued_kept, trigger_kept}
 use Rattle.std.specs.Prelude.{flat_map}
@@ -64,7 +64,7 @@ use Rattle.std.proofs.lemmas.List.Concat.{flat_map-append}
 use Rattle.call_laws.proofs.Claimed.{claimed_in-append}
 use Rattle.call_laws.proofs.Bodies.{callback_kept}
 use Rattle.call_laws.proofs.Parts.{BodyKept, fired_of, ClockHas, IsClaimed, IsPart, part_none, turns_of}
-use Rattle.lane_world.proofs.PartLists.{notes-append}
+use Rattle.lane_notes.proofs.PartLists.{notes-append}
 use Rattle.call_laws.proofs.Entering.{enters_once}
 use Rattle.seq_timer.specs.declared.event.Restarted.{Restarted}
 use Rattle.seq_timer.specs.declared.event.Reply.TheVariants as replies
@@ -104,7 +104,7 @@ pub record RunKept (s : Script) (label : Label) (context : Context) (base : ℕ)
   pub whole : HasWholeTurns (flat_map (fires base reading.stamp) fired)
   pub turned : List (ℕ × signal_turn.Turn)
   pub turns : TurnsPart s u u' (pushed_in s (flat_map (fires base reading.stamp) fired)) turned
-  pub have : (e : Ending) → IsJoined s e → promises.GoesOn k'.seen e → promises.GoesOnSignals (turns_in u') e
+  pub have : (e : Ending) → IsJoined s e → promises.RunGoesOn k'.seen e → promises.GoesOnSignals (turns_in u') e
       → HaveRun (witness_of s e) e.order context base reading.stamp (length (turns_in u), length (turns_in u')) (length k.seen) fired notes (length k'.seen)
 
 -- as what a timer was opened
@@ -192,7 +192,7 @@ module _ (s : Script) (x : WorldOf) (is : IsWorldOf s x) (queue : HasQueue x.obj
       (own : (declared_of s c.timer).context ≡ context)
       (finish : EntersOne s (ClockHas reading) w k'
       (number, OfTimer c.timer (record { event = events.Finish (asks restart); reply = replies.Finish c.generation restarted }))) (low : ℕ)
-      → low ≤ length (turns_of h) → (e : Ending) → IsJoined s e → promises.GoesOn k'.seen e → promises.GoesOnSignals (turns_of h') e
+      → low ≤ length (turns_of h) → (e : Ending) → IsJoined s e → promises.RunGoesOn k'.seen e → promises.GoesOnSignals (turns_of h') e
       → (ran : expires.Ran (witness_of s e) e.order context base reading.stamp (low, length (turns_of h')) (fired_of c b.body number
       (asks restart) restarted) (length k.seen)
       (length k'.seen)) × (claim.entered.0 ∷ b.notes ++ finish.0 ∷ [] ≡ expires.notes_of ran)

@@ -19,11 +19,11 @@ use Rattle.lane_notes.specs.Entries.{entry_note, entry_notes, look_note, look_no
 use Rattle.lane_notes.specs.Notes.{NotesOf, both_noted, no_notes}
 use Rattle.lane_notes.specs.Objects.{object_note, object_notes, skip_note, skip_notes}
 use Rattle.lane_notes.proofs.Standing.{All-permuted}
-use Rattle.lane_world.specs.Called.{with_done, with_shift}
+use Rattle.lane_notes.specs.Called.{with_done, with_shift}
 use Rattle.seq_timer.specs.declared.standing.BaseEvent.{BaseEvent}
 use Rattle.run_history.specs.Witnesses.{OfBase, OfRise, OfTimer, Shown}
-use Rattle.lane_world.proofs.Kept.{BaseNotes, EntryNotes, LookNotes, NoteKind, NoteOf, ObjectNotes, SkipNotes, WriteNotes, each_both, each_none, entries_told, label_of, list_of, looks_on, made_on, of_base, of_entry, of_object, of_turn, of_write, skips_on, told_in, turn_notes}
-use Rattle.lane_world.proofs.PartLists.{both_noted-assoc, notes-append, notes_same, same_order, turns_by_kind}
+use Rattle.lane_notes.proofs.Kept.{BaseNotes, EntryNotes, LookNotes, NoteKind, NoteOf, ObjectNotes, SkipNotes, WriteNotes, each_both, each_none, entries_told, label_of, list_of, looks_on, made_on, of_base, of_entry, of_object, of_turn, of_write, skips_on, told_in, turn_notes}
+use Rattle.lane_notes.proofs.PartLists.{both_noted-assoc, notes-append, notes_same, same_order, turns_by_kind}
 use Rattle.std.proofs.lemmas.Simd.{map-map}
 
 -- ---- of actions

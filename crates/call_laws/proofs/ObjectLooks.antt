@@ -23,11 +23,11 @@ use Rattle.run_history.specs.Truths.{HadEntries}
 use Rattle.run_history.specs.Runs.{witness_of, Ending}
 use Rattle.call_laws.proofs.ObjectTurns.{entries_had}
 use Rattle.run_history.specs.Signals.{popped_by}
-use Rattle.lane_world.specs.Called.{lane_caller, LaneOf, LeavesSignals, with_done}
-use Rattle.lane_world.proofs.Kept.{Follows, IsNextCall, KeepsCall}
-use Rattle.lane_world.specs.Worlds.{WorldOf}
+use Rattle.lane_notes.specs.Called.{lane_caller, LaneOf, LeavesSignals, with_done}
+use Rattle.lane_notes.proofs.Kept.{Follows, IsNextCall, KeepsCall}
+use Rattle.lane_notes.specs.Worlds.{WorldOf}
 use Rattle.call_laws.proofs.CallKept.{LooksAtClock}
-use Rattle.lane_world.proofs.ObjectSeen.{object_after, object_seen}
+use Rattle.lane_notes.proofs.ObjectSeen.{object_after, object_seen}
 use Rattle.call_laws.proofs.Sights.{DoesNothing, IsToldSo, keeps_sight, LooksOnly, notes_alone}
 use Rattle.script_text.specs.declared.script.Kind.{Kind}
 use Rattle.record_text.specs.declared.record.RunRecord.{RunRecord}

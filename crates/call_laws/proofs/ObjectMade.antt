@@ -23,7 +23,7 @@ use Rattle.run_history.specs.Runs.{witness_of, Ending, IsJoined, moves_spans, si
 use Rattle.run_history.specs.Truths.{IsTrueStart}
 use Rattle.run_history.specs.Actions.{Began}
 use Rattle.run_history.specs.Witnesses.{OfRise}
-use Rattle.run_history.specs.Promises.{GoesOn}
+use Rattle.run_history.specs.Promises.{RunGoesOn}
 use Rattle.run_history.specs.Receipts.{PlacedEntry}
 use Rattle.run_history.specs.ObjectCalls.{cancels}
 use Rattle.run_history.proofs.Known.{AreMade, behind_all, made-append, made_goes_on}
@@ -35,10 +35,10 @@ use Rattle.run_history.proofs.OthersMade.{turning}
 use Rattle.run_history.specs.Signals.{popped_by, pushed_in}
 use Rattle.signal_queue.specs.declared.signal.Turn.{Turn}
 use Rattle.call_laws.proofs.Signals.{IsNoTrigger, pushed_turn, TurnsPart}
-use Rattle.lane_world.specs.Called.{lane_caller, LaneOf, ReadsClock, with_done}
-use Rattle.lane_world.proofs.Kept.{Follows, IsNextCall, KeepsCall, seen_by}
-use Rattle.lane_world.proofs.SeenMore.{goes_before}
-use Rattle.lane_world.specs.Worlds.{WorldOf}
+use Rattle.lane_notes.specs.Called.{lane_caller, LaneOf, ReadsClock, with_done}
+use Rattle.lane_notes.proofs.Kept.{Follows, IsNextCall, KeepsCall, seen_by}
+use Rattle.lane_notes.proofs.SeenMore.{goes_before}
+use Rattle.lane_notes.specs.Worlds.{WorldOf}
 use Rattle.pass_names.proofs.Passes.{begins_length}
 use Rattle.timer_setting.specs.declared.arming.Arm.{Arm}
 use Rattle.timer_setting.specs.declared.object_call.ObjectReply.{ObjectReply}
@@ -54,7 +54,7 @@ use Rattle.call_laws.proofs.PartKept.{keeps_part}
 use Rattle.call_laws.proofs.Parts.{IsNotedAs}
 use Rattle.std.proofs.lemmas.List.{append-nil}
 use Rattle.timer_objects.specs.Steps.{object_answer}
-use Rattle.lane_world.specs.Runs.{ObjectMove}
+use Rattle.lane_notes.specs.Runs.{ObjectMove}
 use Rattle.std.proofs.Common.{length-append}
 use Rattle.std.specs.List.{AllByRecursion}
 use Rattle.counted_row.specs.Views.{StateAfter}
@@ -66,7 +66,7 @@ use Rattle.script_text.specs.Declarations.{kind_of}
 use Rattle.script_text.specs.declared.script.Kind.TheVariants as kinds
 use Rattle.script_text.specs.declared.script.Kind.{Kind}
 use Rattle.record_text.specs.declared.record.RunRecord.{RunRecord}
-use Rattle.lane_world.proofs.ObjectSeen.{object_after, object_seen}
+use Rattle.lane_notes.proofs.ObjectSeen.{object_after, object_seen}
 use Rattle.timer_setting.specs.declared.phase.Phase.{Phase}
 
 -- how an object after its first so many entries has armed its timer
@@ -147,7 +147,7 @@ module _ {s : Script} {x : WorldOf} {l : LaneOf} (m : LaneOf) {call : Call} (nex
   -- ---- in a run that goes on from there
 
   module _ {e : Ending} (follows : Follows m.pass e) (joined : IsJoined s e) where
-    worked : GoesOn w.seen e
+    worked : RunGoesOn w.seen e
     worked = goes_before turn.ends.looks.seen follows.timers
 
     timer_now : witnesses.timer_along (witness_of s e) (length w.seen) timer ≡ timer_then x.timers.about w.seen timer

@@ -4,7 +4,7 @@ use Rattle.std.proofs.Common.{◌≡◌, ℕ, suc, ◌+◌, List, length, arith,
 use Rattle.base_row.specs.Plays.{RisesFrom}
 use Rattle.hr_timers.specs.Known.{KnownOfTimers}
 use Rattle.record_text.specs.declared.record.ClockLine.{ClockLine}
-use Rattle.run_history.specs.Promises.{GoesOn}
+use Rattle.run_history.specs.Promises.{RunGoesOn}
 use Rattle.run_history.specs.Runs.{Ending, IsJoined, witness_of}
 use Rattle.run_history.specs.Truths.{HadEntries}
 use Rattle.run_history.specs.Witnesses.{OfRise}
@@ -18,7 +18,7 @@ one_more : (i : ℕ) → i + 1 ≡ suc i
 one_more i = omega arith
 
 -- law: a pass that was told of so many entries of an object, and of no turn beside, is at a moment at which the object had so many
-pub entries_had : {s : Script} {e : Ending} (i n : ℕ) (k : KnownOfTimers) → IsJoined s e → GoesOn k.seen e → turns_told i k ≡ n + n
+pub entries_had : {s : Script} {e : Ending} (i n : ℕ) (k : KnownOfTimers) → IsJoined s e → RunGoesOn k.seen e → turns_told i k ≡ n + n
     → HadEntries (witness_of s e) i n (length k.seen)
 entries_had i n k joined goes told = rises_along (suc i) k.seen joined goes ∙ subst (λ c. rises_of c k.seen ≡ n + n) (one_more i) told
 

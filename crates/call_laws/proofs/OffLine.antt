@@ -12,7 +12,7 @@ use Rattle.call_laws.proofs.Parts.{part_shift}
 use Rattle.call_laws.proofs.Sights.{keeps_sight}
 use Rattle.call_laws.proofs.Stays.{standing_stays, timer_stays}
 use Rattle.lane_notes.specs.Notes.{both_noted}
-use Rattle.lane_world.proofs.PartLists.{both_noted-assoc}
+use Rattle.lane_notes.proofs.PartLists.{both_noted-assoc}
 use Rattle.std.proofs.Common.{◌≡◌, ◌≤◌, ◌<◌, ℕ, ◌+◌, ◌-◌, nat_lt, List, [], ◌∷◌, ◌++◌, length, arith, refl, sym, ap, ◌∙◌, subst, inl, inr, ⊎_elim}
 use Rattle.std.specs.Prelude.{IsSome, flat_map}
 use Rattle.std.proofs.lemmas.Bool.{ltb-true}
@@ -49,19 +49,19 @@ use Rattle.run_history.specs.Actions.{Shifted}
 use Rattle.run_history.specs.Receipts.{PlacedEntry}
 use Rattle.run_history.specs.Calls.{Does, AnswerHolds}
 use Rattle.run_history.specs.Deeds.{evacuates}
-use Rattle.run_history.specs.Truths.{MayGo, RunsNone, WasOffLine}
+use Rattle.run_history.specs.Truths.{MayGo, RanNone, WasOffLine}
 use Rattle.run_history.specs.Runs.{Ending, IsJoined, witness_of}
-use Rattle.run_history.specs.Promises.{GoesOn}
+use Rattle.run_history.specs.Promises.{RunGoesOn}
 use Rattle.run_history.specs.Witnesses.{Evacuation, Trace, standing_along, timer_along}
 use Rattle.run_history.proofs.OffLineMade.{evacuating, offline_made, online_made, shift_by}
 use Rattle.run_history.proofs.OthersMade.{plain}
 use Rattle.run_history.specs.Signals.{popped_by, pushed_in}
 use Rattle.call_laws.proofs.Signals.{pushed-append, turns_alone}
-use Rattle.lane_world.specs.Called.{CallsOffline, CallsOnline, LaneOf, LeavesSignals, ReadsClock, offline_told, online_told, with_done, with_offline_told, with_online_told}
-use Rattle.lane_world.specs.Worlds.{WorldOf}
+use Rattle.lane_notes.specs.Called.{CallsOffline, CallsOnline, LaneOf, LeavesSignals, ReadsClock, offline_told, online_told, with_done, with_offline_told, with_online_told}
+use Rattle.lane_notes.specs.Worlds.{WorldOf}
 use Rattle.call_laws.proofs.CallKept.{LooksAtClock, clock_left, opened_timers, reading_goes_on}
 use Rattle.call_laws.proofs.Evacuated.{all_moved, armed_there, front_seen, front_wider}
-use Rattle.lane_world.proofs.Kept.{Follows, IsNextCall, KeepsCall}
+use Rattle.lane_notes.proofs.Kept.{Follows, IsNextCall, KeepsCall}
 use Rattle.call_laws.proofs.PartKept.{keeps_part}
 use Rattle.call_laws.proofs.Parts.{ClockHas, IsPart, part_none, part_then}
 use Rattle.call_laws.proofs.Sights.{looks_alone, notes_alone}
@@ -70,9 +70,9 @@ use Rattle.seq_timer.specs.Steps.{opening}
 use Rattle.seq_timer.specs.declared.context.Terms.{Terms}
 use Rattle.std.proofs.Common.{false}
 use Rattle.std.proofs.lemmas.Bool.Decides.{nat_tests}
-use Rattle.lane_world.specs.Called.{with_shift}
-use Rattle.lane_world.proofs.SeenMore.{goes_before}
-use Rattle.lane_world.proofs.PartLists.{no_notes-joins}
+use Rattle.lane_notes.specs.Called.{with_shift}
+use Rattle.lane_notes.proofs.SeenMore.{goes_before}
+use Rattle.lane_notes.proofs.PartLists.{no_notes-joins}
 
 -- ---- what a call saw of bases and timers
 
@@ -85,7 +85,7 @@ module _ {s : Script} {x : WorldOf} {l : LaneOf} {call : Call} (next : IsNextCal
     timer_last : (t : ℕ) → timer_along (witness_of s e) (length seen) t ≡ timer_then x.timers.about seen t
     timer_last t = timer_stays next.world.timers joined seen follows.timers t
 
-    runs_none : (base : ℕ) → ((u : ℕ) → runs_on base (timer_then x.timers.about seen u) ≡ false) → RunsNone (witness_of s e) base (length seen)
+    runs_none : (base : ℕ) → ((u : ℕ) → runs_on base (timer_then x.timers.about seen u) ≡ false) → RanNone (witness_of s e) base (length seen)
     runs_none base none = λ u. ap (runs_on base) (timer_last u) ∙ none u
 
   -- law: a lane keeps a call that only looked, and saw nothing more of bases, by how these stood before
@@ -130,7 +130,7 @@ module _ {s : Script} {x : WorldOf} {l : LaneOf} (m : LaneOf) {base heir budget 
   Might e = MayGo (witness_of s e) base heir (length l.pass.timers.known.seen)
 
   -- law: it might, in every run that goes on from there
-  might : (e : Ending) → IsJoined s e → GoesOn l.pass.timers.known.seen e → Might e
+  might : (e : Ending) → IsJoined s e → RunGoesOn l.pass.timers.known.seen e → Might e
   might e joined goes =
       let then : (b : ℕ) → standing_along (witness_of s e) (length l.pass.timers.known.seen) b ≡ standing_then x.timers.about l.pass.timers.known.seen b =
       standing_stays next.world.timers joined l.pass.timers.known.seen goes in

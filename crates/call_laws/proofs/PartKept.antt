@@ -1,5 +1,5 @@
 -- What a lane keeps of a call that is a part: of any call but a write of the clock.
-use Rattle.lane_world.proofs.Kept.{WriteNotes}
+use Rattle.lane_notes.proofs.Kept.{WriteNotes}
 use Rattle.std.proofs.Common.{◌≡◌, List, length, map, arith, refl, sym, ap, ◌∙◌, subst}
 use Rattle.clock_cell.specs.Views.{writes}
 use Rattle.pass_names.specs.Counts.{count, one_if}
@@ -13,10 +13,10 @@ use Rattle.run_history.specs.Witnesses.{Trace}
 use Rattle.run_history.specs.Promises as promises
 use Rattle.run_history.specs.Receipts.{PlacedEntry, Rises}
 use Rattle.run_history.specs.Runs.{Ending}
-use Rattle.lane_world.specs.Called.{LaneOf}
+use Rattle.lane_notes.specs.Called.{LaneOf}
 use Rattle.std.specs.List.{AllByRecursion}
-use Rattle.lane_world.proofs.Kept.{IsNextCall, IsNoteSeen, list_of, EntryNotes, LookNotes, ObjectNotes, SkipNotes, BaseNotes, KeepsCall, log_of, SeesOn}
-use Rattle.lane_world.specs.Worlds.{WorldOf}
+use Rattle.lane_notes.proofs.Kept.{IsNextCall, IsNoteSeen, list_of, EntryNotes, LookNotes, ObjectNotes, SkipNotes, BaseNotes, KeepsCall, log_of, SeesOn}
+use Rattle.lane_notes.specs.Worlds.{WorldOf}
 use Rattle.call_laws.proofs.CallKept.{FitsOn, logged_from, LooksAtClock, places_told, promised_from, stand_from}
 use Rattle.call_laws.proofs.Noted.{HasWholeTurns, each_same, noted_by, noted_bears, noted_entries, noted_looks, noted_made, noted_skips, noted_writes, one_noted, told_same}
 use Rattle.lane_notes.specs.Notes.{both_noted, NotesOf}
@@ -27,9 +27,9 @@ use Rattle.run_history.specs.Actions.{Action, Entered, Looked, Made, Shifted, Sk
 use Rattle.hr_timers.specs.Known.{KnownOfTimers}
 use Rattle.timer_objects.specs.Known.{ObjectsPass}
 use Rattle.record_text.specs.declared.record.Label.{Label}
-use Rattle.lane_world.specs.declared.WorldPass.{WorldPass}
+use Rattle.lane_notes.specs.declared.lane.WorldPass.{WorldPass}
 use Rattle.run_history.specs.Receipts.{receipt}
-use Rattle.lane_world.proofs.Kept.{each_both, each_none, entries_told, looks_on, made_on, NoteKind, skips_on}
+use Rattle.lane_notes.proofs.Kept.{each_both, each_none, entries_told, looks_on, made_on, NoteKind, skips_on}
 use Rattle.std.proofs.Common.{[], ◌∷◌, ◌++◌}
 use Rattle.call_laws.proofs.Parts.{IsActionSeen, IsPart, object_place}
 use Rattle.call_laws.proofs.Signals.{TurnsPart}

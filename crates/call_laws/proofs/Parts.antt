@@ -21,32 +21,32 @@ use Rattle.run_history.specs.Histories.{reading_at}
 use Rattle.ktime.specs.Readings.{ClockReading}
 use Rattle.lane_notes.specs.Objects.{object_entry_noted, skip_generation}
 use Rattle.lane_notes.specs.declared.notes.ObjectNote.{ObjectNote}
-use Rattle.run_history.specs.Receipts.{count, PlacedEntry, receipt}
+use Rattle.run_history.specs.Receipts.{count_owned, PlacedEntry, receipt}
 use Rattle.run_history.specs.Traces.{all_entered}
 use Rattle.run_history.proofs.Actions.{all_entered-append, made-append}
 use Rattle.run_history.proofs.Lists.{at_seam}
-use Rattle.lane_world.specs.Runs.{ObjectMove, ShowsObjectCall}
-use Rattle.lane_world.proofs.SeenMore.{begins_same, count_begins}
+use Rattle.lane_notes.specs.Runs.{ObjectMove, ShowsObjectCall}
+use Rattle.lane_notes.proofs.SeenMore.{begins_same, count_begins}
 use Rattle.call_laws.proofs.Entering.{enters-append, enters_at, enters_none, EntersNotes, EntersOne}
 use Rattle.call_laws.proofs.Noted.{HasWholeTurns, entered_all, entered_noted, entered_on, entered_only, noted_by, noted_by-append, notes_of, notes_of-append, one_noted, same-both, same_notes, SameNotes}
 use Rattle.lane_notes.specs.Notes.{both_noted, no_notes, NotesOf}
 use Rattle.script_text.specs.Declarations.{declareds_of, terms_of}
 use Rattle.run_history.specs.Actions.{Shifted, Skipped, Wrote}
 use Rattle.run_history.specs.Witnesses.{OfBase, OfRise}
-use Rattle.lane_world.proofs.PartLists.{no_notes-joins}
-use Rattle.lane_world.proofs.SeenMore.{stands_on}
+use Rattle.lane_notes.proofs.PartLists.{no_notes-joins}
+use Rattle.lane_notes.proofs.SeenMore.{stands_on}
 use Rattle.run_history.proofs.Stamped.{HaveReadings}
 use Rattle.pass_names.proofs.Passes.{begins_length, begins_trans}
 use Rattle.record_text.specs.declared.record.ObjectEntry.{ObjectEntry}
 use Rattle.timer_setting.specs.declared.object_call.ObjectCall.{ObjectCall}
 use Rattle.timer_setting.specs.declared.object_call.ObjectReply.{ObjectReply}
-use Rattle.lane_world.proofs.PartLists.{each_joined, looked-append, one_rises, rises_on, RisesTo}
+use Rattle.lane_notes.proofs.PartLists.{each_joined, looked-append, one_rises, rises_on, RisesTo}
 use Rattle.seq_timer.specs.Events.{Event}
 use Rattle.seq_timer.specs.declared.observation.Observation.{Observation}
 use Rattle.hr_timers.specs.declared.numbers.ClaimNumbers.{ClaimNumbers}
-use Rattle.expire_pass.specs.Expiring.{claim_receipt}
-use Rattle.expire_pass.specs.Handlers.{asks}
-use Rattle.expire_pass.specs.declared.handler.Restart.{Restart}
+use Rattle.hr_timers.specs.Expiring.{claim_receipt}
+use Rattle.hr_timers.specs.Handlers.{asks}
+use Rattle.hr_timers.specs.declared.handler.Restart.{Restart}
 use Rattle.timer_objects.specs.Callbacks.{look_receipt}
 use Rattle.timer_objects.specs.QueuedFirings.{QueuedFiring}
 use Rattle.signal_queue.specs.Rules.{turns}
@@ -67,7 +67,7 @@ use Rattle.run_history.specs.Witnesses.{Fired, OfTimer, Shown, TimersList}
 use Rattle.run_history.specs.Promises as promises
 use Rattle.run_history.specs.Runs.{witness_of, Ending, IsJoined}
 use Rattle.run_history.proofs.Expires.{ReplyHolds}
-use Rattle.lane_world.proofs.PartLists.{rises_none}
+use Rattle.lane_notes.proofs.PartLists.{rises_none}
 
 -- ---- entries of objects
 
@@ -98,7 +98,7 @@ noted_at reading call reply entry noted no_skip shows =
 
 -- what an action did stands in what was seen; parts make no write
 abbrev pub IsActionSeen : (List ClockLine → Type 0) → ObjectsPass → KnownOfTimers → ObjectsPass → Action → Type 0
-IsActionSeen IsSo p w q (Looked t number reply) = (0 < number) × (number ≤ count (TimersList t) w.seen)
+IsActionSeen IsSo p w q (Looked t number reply) = (0 < number) × (number ≤ count_owned (TimersList t) w.seen)
 IsActionSeen IsSo p w q (Made i number entry) = IsMadeIn IsSo p q i number entry
 IsActionSeen IsSo p w q (Skipped i number generation) = (0 < number) × (number ≤ length (seen_of q i))
 IsActionSeen IsSo p w q (Wrote number write) = ⊥
@@ -118,7 +118,7 @@ pub record IsPart (s : Script) (IsSo : List ClockLine → Type 0) (label : Label
   pub opening : q.knows.opening ≡ p.knows.opening
   pub mine : q.knows.pass.mine ≡ p.knows.pass.mine ++ map object_place (noted_by label actions).objects
   pub each : AllByRecursion (IsActionSeen IsSo p w q) actions
-  pub looks_rise : (t : ℕ) → RisesTo (count (TimersList t) v.seen + 1) (looked t actions) (count (TimersList t) w.seen + 1)
+  pub looks_rise : (t : ℕ) → RisesTo (count_owned (TimersList t) v.seen + 1) (looked t actions) (count_owned (TimersList t) w.seen + 1)
   pub rise : (i : ℕ) → RisesTo (length (seen_of p i) + 1) (made i actions) (length (seen_of q i) + 1)
 
 -- what passes of objects have seen goes on
@@ -324,7 +324,7 @@ pub record IsClaimed (s : Script) (base : ℕ) (c : ClaimNumbers) (reading : Clo
   pub entered : EntersOne s (ClockHas reading) k v (c.number, OfTimer c.timer (claim_in base reading.stamp c))
   pub there : c.base ≡ base
   pub some : 0 < c.number
-  pub more : count (TimersList c.timer) k.seen < count (TimersList c.timer) v.seen
+  pub more : count_owned (TimersList c.timer) k.seen < count_owned (TimersList c.timer) v.seen
 
 -- the pushes and pops that the handler's pass of the queue has seen
 abbrev pub turns_of : QueuedFiring → List Turn
@@ -345,7 +345,7 @@ pub record BodyKept (s : Script) (label : Label) {base : ℕ} {c : ClaimNumbers}
       (Entered c.timer c.number (claim_in base reading.stamp c) ∷ body) (claim.entered.0 ∷ notes) (notes_of label (claim_receipt reading c ∷ more) object_more)
   pub turned : List (ℕ × Turn)
   pub turns : TurnsPart s h.signal_pass.now.knows h'.signal_pass.now.knows (pushed_in s body) turned
-  pub ran : (e : Ending) → IsJoined s e → promises.GoesOn w.seen e → promises.GoesOnSignals (turns_of h') e → (finish : ℕ) (restarted : Restarted)
+  pub ran : (e : Ending) → IsJoined s e → promises.RunGoesOn w.seen e → promises.GoesOnSignals (turns_of h') e → (finish : ℕ) (restarted : Restarted)
       → IsBody (WasOffLine (witness_of s e) (length v.seen) (length w.seen)) s.limit (kind_of s c.timer) reading.stamp
       (fired_of c body finish (asks restart) restarted)
       × ReplyHolds (witness_of s e) (length (turns_of h), length (turns_of h')) (length w.seen) body
@@ -363,7 +363,7 @@ module _ {s : Script} {label : Label} {base : ℕ} {c : ClaimNumbers} {reading :
 
   -- law: a claim, and behind it a look at its timer
   pub part_looked : (number : ℕ) (event : Event) (observation : Observation) (reply : CallbackReply) → Begins v.seen w.seen → w.mine ≡ v.mine
-      → look_noted observation ≡ Some reply → count (TimersList c.timer) v.seen ≤ number → number ≤ count (TimersList c.timer) w.seen
+      → look_noted observation ≡ Some reply → count_owned (TimersList c.timer) v.seen ≤ number → number ≤ count_owned (TimersList c.timer) w.seen
       → IsPart s (ClockHas reading) label k p w p (Entered c.timer c.number (claim_in base reading.stamp c) ∷ Looked c.timer number reply ∷ [])
       (claim.entered.0 ∷ []) (notes_of label (claim_receipt reading c ∷ look_receipt c number event observation ∷ []) [])
   part_looked number event observation reply seen mine noted low high =
@@ -376,7 +376,7 @@ module _ {s : Script} {label : Label} {base : ℕ} {c : ClaimNumbers} {reading :
         opening = refl;
         mine = claimed.mine;
         each = (tt, ((omega (arith, claim.more, low), high), tt));
-        looks_rise = one_rises c.timer number reply (λ t. count (TimersList t) k.seen + 1) (λ t. count (TimersList t) w.seen + 1)
+        looks_rise = one_rises c.timer number reply (λ t. count_owned (TimersList t) k.seen + 1) (λ t. count_owned (TimersList t) w.seen + 1)
             (omega (arith, claim.more, low)) (omega (arith, high)) (λ t. let le = count_begins (TimersList t) claimed.enters.seen in omega (arith, le));
         rise = claimed.rise;
       }

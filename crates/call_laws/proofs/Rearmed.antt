@@ -23,10 +23,10 @@ use Rattle.timer_objects.specs.declared.wanting.Rearming.{Rearming}
 use Rattle.run_history.specs.Objects.{armed_in_phase}
 use Rattle.script_text.specs.declared.script.Call.{Call}
 use Rattle.script_text.specs.declared.script.Script.{Script}
-use Rattle.lane_world.specs.Called.{LaneOf}
-use Rattle.lane_world.proofs.Kept.{IsNextCall}
-use Rattle.lane_world.proofs.SeenMore.{begins_same}
-use Rattle.lane_world.specs.Worlds.{WorldOf}
+use Rattle.lane_notes.specs.Called.{LaneOf}
+use Rattle.lane_notes.proofs.Kept.{IsNextCall}
+use Rattle.lane_notes.proofs.SeenMore.{begins_same}
+use Rattle.lane_notes.specs.Worlds.{WorldOf}
 use Rattle.call_laws.proofs.Armed.{IsLike, start_none, start_part, TimerPart}
 use Rattle.call_laws.proofs.Parts.{part_none}
 

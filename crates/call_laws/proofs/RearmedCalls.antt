@@ -1,6 +1,6 @@
 -- Calls on objects that may arm their timer again, as their lanes keep them: an acceptance, a read, and a gettime of either kind.
 use Rattle.run_history.proofs.Reached.{arms_wider, was_wider}
-use Rattle.lane_world.proofs.SeenMore.{goes_before}
+use Rattle.lane_notes.proofs.SeenMore.{goes_before}
 use Rattle.std.proofs.Common.{◌≡◌, ◌≤◌, ℕ, Some, option_map, List, [], length, refl, sym, ap, subst}
 use Rattle.ktime.specs.Readings.{ClockReading}
 use Rattle.timer_setting.specs.declared.answers.AcceptAnswer.TheVariants as accept_answers
@@ -34,9 +34,9 @@ use Rattle.script_text.specs.declared.script.Call.TheVariants as calls
 use Rattle.script_text.specs.declared.script.Kind.TheVariants as kinds
 use Rattle.script_text.specs.declared.script.Script.{Script}
 use Rattle.run_history.proofs.ObjectsMade.{accept_made, gettime_made, read_made}
-use Rattle.lane_world.specs.Called.{accept_told, CalledThen, lane_caller, CallsObject, gettime_told, LaneOf, LeavesSignals, read_told, ReadsClock, with_done}
-use Rattle.lane_world.proofs.Kept.{IsNextCall, KeepsCall, Follows, seen_by}
-use Rattle.lane_world.specs.Worlds.{WorldOf}
+use Rattle.lane_notes.specs.Called.{accept_told, CalledThen, lane_caller, CallsObject, gettime_told, LaneOf, LeavesSignals, read_told, ReadsClock, with_done}
+use Rattle.lane_notes.proofs.Kept.{IsNextCall, KeepsCall, Follows, seen_by}
+use Rattle.lane_notes.specs.Worlds.{WorldOf}
 use Rattle.call_laws.proofs.Sights.{keeps_full, keeps_same}
 use Rattle.std.proofs.Common.{false, arith}
 use Rattle.ktime.specs.declared.mode.Mode.TheVariants as modes
@@ -60,7 +60,7 @@ use Rattle.call_laws.proofs.Signals.{IsNoTrigger, popped_accept, popped_read, tu
 use Rattle.pass_names.proofs.Passes.{begins_length, begins_refl}
 use Rattle.call_laws.proofs.CallKept.{clock_left}
 use Rattle.call_laws.proofs.Parts.{noted_at}
-use Rattle.lane_world.proofs.Declared.{declared_base}
+use Rattle.lane_notes.proofs.Declared.{declared_base}
 use Rattle.call_laws.proofs.ObjectMade.{keeps_made, made_unpushed, receipts, start_is, stop_first, stop_last, turn_found, turn_place}
 use Rattle.call_laws.proofs.Rearmed.{like_restart, rearm_part, RearmPart, wanted_timely}
 use Rattle.script_text.specs.declared.script.Call.{Call}
@@ -71,7 +71,7 @@ use Rattle.timer_setting.specs.declared.object_call.ObjectReply.{ObjectReply}
 use Rattle.lane_notes.specs.Objects.{accept_noted, arm_noted, object_entry_noted, read_noted, skip_generation}
 use Rattle.run_history.specs.ObjectEntries.{accept_shown, arm_shown, read_shown}
 use Rattle.timer_setting.specs.Kinds.{arm_told}
-use Rattle.lane_world.specs.Runs.{ShowsObjectCall}
+use Rattle.lane_notes.specs.Runs.{ShowsObjectCall}
 use Rattle.std.proofs.Common.{None}
 use Rattle.record_text.specs.declared.record.ClockLine.{ClockLine}
 

@@ -25,10 +25,10 @@ use Rattle.run_history.specs.Histories.{reading_at}
 use Rattle.lane_notes.specs.Objects.{arm_noted}
 use Rattle.run_history.specs.Witnesses.{Witness}
 use Rattle.run_history.proofs.ObjectsMade.{RefusedBy}
-use Rattle.lane_world.specs.Called.{settime_told}
+use Rattle.lane_notes.specs.Called.{settime_told}
 use Rattle.call_laws.proofs.Parts.{IsNotedAs, noted_at}
 use Rattle.lane_notes.specs.Objects.{object_entry_noted, skip_generation}
-use Rattle.lane_world.specs.Runs.{ShowsObjectCall}
+use Rattle.lane_notes.specs.Runs.{ShowsObjectCall}
 use Rattle.record_text.specs.declared.record.ClockLine.{ClockLine}
 use Rattle.record_text.specs.declared.record.ObjectEntry.{ObjectEntry}
 use Rattle.call_laws.proofs.Armed.{IsArmedSo}

@@ -13,11 +13,11 @@ use Rattle.record_text.specs.declared.record.Answer.TheVariants as answers
 use Rattle.run_history.specs.ObjectCalls.{settime_flags}
 use Rattle.script_text.specs.declared.script.Kind.TheVariants as kinds
 use Rattle.script_text.specs.declared.script.Kind.{Kind}
-use Rattle.lane_world.specs.Called.{settime_told}
+use Rattle.lane_notes.specs.Called.{settime_told}
 use Rattle.call_laws.proofs.Armed.{IsLike}
-use Rattle.lane_world.proofs.Declared.{declared_over, over_of}
+use Rattle.lane_notes.proofs.Declared.{declared_over, over_of}
 use Rattle.script_text.specs.declared.script.Script.{Script}
-use Rattle.lane_world.specs.Worlds.{IsWorldOf, WorldOf}
+use Rattle.lane_notes.specs.Worlds.{IsWorldOf, WorldOf}
 use Rattle.std.proofs.Common.{◌∙◌}
 use Rattle.run_history.specs.Told.{IsArmedLike}
 use Rattle.timer_objects.specs.Calls.{BearsStart}

@@ -18,9 +18,9 @@ use Rattle.script_text.specs.declared.script.Script.{Script}
 use Rattle.run_history.specs.ObjectCalls.{AreValidFor, nanoseconds_of}
 use Rattle.run_history.specs.Runs.{witness_of}
 use Rattle.run_history.proofs.ObjectsMade.{settime_made, start_of}
-use Rattle.lane_world.specs.Called.{CalledThen, CallsObject, LaneOf, lane_caller, settime_told}
-use Rattle.lane_world.specs.Worlds.{WorldOf}
-use Rattle.lane_world.proofs.Kept.{IsNextCall, KeepsCall}
+use Rattle.lane_notes.specs.Called.{CalledThen, CallsObject, LaneOf, lane_caller, settime_told}
+use Rattle.lane_notes.specs.Worlds.{WorldOf}
+use Rattle.lane_notes.proofs.Kept.{IsNextCall, KeepsCall}
 use Rattle.call_laws.proofs.Anew.{keeps_anew}
 use Rattle.call_laws.proofs.Armed.{wants_unless}
 use Rattle.call_laws.proofs.CallKept.{clock_left}

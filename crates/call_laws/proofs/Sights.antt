@@ -6,7 +6,7 @@ use Rattle.pass_names.specs.Passes.{Begins}
 use Rattle.base_row.specs.Logs.{receipts_of}
 use Rattle.base_row.specs.declared.log.Receipt.{Receipt}
 use Rattle.seq_timer.specs.Histories as seq
-use Rattle.timer_objects.specs.Calls.{Caller, FindsFull}
+use Rattle.timer_objects.specs.Calls.{Caller, FindsHistoryFull}
 use Rattle.timer_objects.specs.declared.log.ObjectReceipt.{ObjectReceipt}
 use Rattle.record_text.specs.declared.record.Answer.{Answer}
 use Rattle.script_text.specs.declared.script.Call.{Call}
@@ -20,12 +20,12 @@ use Rattle.call_laws.proofs.ObjectTurns.{entries_had}
 use Rattle.run_history.proofs.OthersMade.{plain, quiet_made}
 use Rattle.run_history.specs.Signals.{popped_by, pushed_in}
 use Rattle.call_laws.proofs.Signals.{pushed_quiet, turns_alone, TurnsPart}
-use Rattle.lane_world.specs.Called.{lane_caller, LaneOf, LeavesSignals, with_done}
-use Rattle.lane_world.proofs.Kept.{Follows, IsNextCall, KeepsCall, log_of}
-use Rattle.lane_world.proofs.SeenMore.{begins_same}
-use Rattle.lane_world.specs.Worlds.{WorldOf}
+use Rattle.lane_notes.specs.Called.{lane_caller, LaneOf, LeavesSignals, with_done}
+use Rattle.lane_notes.proofs.Kept.{Follows, IsNextCall, KeepsCall, log_of}
+use Rattle.lane_notes.proofs.SeenMore.{begins_same}
+use Rattle.lane_notes.specs.Worlds.{WorldOf}
 use Rattle.call_laws.proofs.CallKept.{clock_left, FitsOn, LooksAtClock, same_objects}
-use Rattle.lane_world.proofs.PartLists.{no_notes-joins}
+use Rattle.lane_notes.proofs.PartLists.{no_notes-joins}
 use Rattle.call_laws.proofs.PartKept.{keeps_part}
 use Rattle.call_laws.proofs.Parts.{part_seen, IsPart}
 use Rattle.hr_timers.specs.Known.{MadeAt, timer_then}
@@ -36,7 +36,7 @@ use Rattle.record_text.specs.declared.record.ClockLine.{ClockLine}
 use Rattle.run_history.specs.Actions.{made}
 use Rattle.run_history.specs.Promises.{GoesOnClock}
 use Rattle.run_history.specs.Receipts.{PlacedEntry}
-use Rattle.lane_world.specs.Called.{LooksAtTimer}
+use Rattle.lane_notes.specs.Called.{LooksAtTimer}
 use Rattle.call_laws.proofs.Entering.{looks_made}
 use Rattle.run_history.proofs.Stamped.{HaveReadings}
 use Rattle.call_laws.proofs.CallKept.{opened_timers}
@@ -112,7 +112,7 @@ keeps_sight next a popped only does seen =
 -- law: a lane keeps a call on an object that found its history full
 pub keeps_full : {s : Script} {x : WorldOf} {l m : LaneOf} {call : Call} {log : List Receipt} {object_log : List ObjectReceipt}
     (next : IsNextCall s x l call) (a : Answer) → popped_by a ≡ [] → (i n : ℕ)
-    → FindsFull x.objects (lane_caller l.pass [] []) (lane_caller m.pass log object_log) i n
+    → FindsHistoryFull x.objects (lane_caller l.pass [] []) (lane_caller m.pass log object_log) i n
     → LooksAtClock l.pass m.pass → LeavesSignals l.pass m.pass → m.notes ≡ with_done l.notes l.label log object_log
     → DoesNothing s m call a → ((e : Ending) → SawFull (witness_of s e) i n (length m.pass.timers.known.seen) → IsToldSo s l m call a e)
     → KeepsCall s l call a m

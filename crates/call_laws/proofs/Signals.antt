@@ -38,11 +38,11 @@ use Rattle.script_text.specs.declared.script.Kind.TheVariants as kinds
 use Rattle.script_text.specs.declared.script.Kind.{Kind}
 use Rattle.script_text.specs.declared.script.Script.{Script}
 use Rattle.script_text.specs.Declarations.{kind_of}
-use Rattle.lane_world.proofs.Kept.{IsTurnSeen, turn_place}
-use Rattle.lane_world.proofs.PartLists.{each_joined, rises_none, rises_on, RisesTo}
-use Rattle.lane_world.proofs.SeenMore.{begins_same, stands_on}
-use Rattle.lane_world.specs.Called.{LeavesSignals}
-use Rattle.lane_world.specs.declared.WorldPass.{WorldPass}
+use Rattle.lane_notes.proofs.Kept.{IsTurnSeen, turn_place}
+use Rattle.lane_notes.proofs.PartLists.{each_joined, rises_none, rises_on, RisesTo}
+use Rattle.lane_notes.proofs.SeenMore.{begins_same, stands_on}
+use Rattle.lane_notes.specs.Called.{LeavesSignals}
+use Rattle.lane_notes.specs.declared.lane.WorldPass.{WorldPass}
 use Rattle.call_laws.proofs.Noted.{HasNoTurns, turns_made}
 
 -- ---- a part of a call

@@ -17,7 +17,7 @@ use Rattle.signal_queue.specs.Calls.{FindsEmpty, TakesTurn}
 use Rattle.timer_setting.specs.declared.answers.AcceptAnswer.TheVariants as accept_answers
 use Rattle.timer_setting.specs.declared.object_call.ObjectCall.TheVariants as object_calls
 use Rattle.timer_setting.specs.declared.object_call.ObjectReply.TheVariants as replies
-use Rattle.timer_objects.specs.Calls.{Caller, FindsFull}
+use Rattle.timer_objects.specs.Calls.{Caller, FindsHistoryFull}
 use Rattle.timer_objects.specs.Known.{seen_of}
 use Rattle.timer_objects.specs.Meaning.{object_meaning, opened_objects}
 use Rattle.timer_objects.specs.Signals as signals
@@ -42,20 +42,20 @@ use Rattle.seq_timer.specs.declared.context.Context.TheVariants as contexts
 use Rattle.run_history.specs.Histories.{reading_at}
 use Rattle.run_history.specs.Objects.{queued_after}
 use Rattle.run_history.specs.Runs.{CallLog, Ending, IsJoined, IsOfQueued}
-use Rattle.run_history.specs.Signals.{IsQueued, most_signals, popped_by, turns_in}
+use Rattle.run_history.specs.Signals.{SendsSignals, most_signals, popped_by, turns_in}
 use Rattle.run_history.proofs.Kept.{call_made}
 use Rattle.run_history.proofs.Lists.{all_at, at_left}
 use Rattle.run_history.proofs.ObjectsMade.{signal_made}
 use Rattle.run_history.proofs.OthersMade.{quiet_made, turning}
-use Rattle.lane_world.specs.Called.{CallsSigwait, lane_caller, LaneOf, next_told, SeesEntry, SeesSent, SeesStale}
-use Rattle.lane_world.specs.Runs.{ObjectMove}
-use Rattle.lane_world.specs.Worlds.{decl_of, WorldOf}
-use Rattle.lane_world.specs.declared.WorldPass.{WorldPass}
-use Rattle.lane_world.proofs.Declared.{declared_over, over_of}
-use Rattle.lane_world.proofs.Kept.{FollowsObject, IsNextCall, KeepsCall}
-use Rattle.lane_world.proofs.ObjectSeen.{object_after, object_seen}
-use Rattle.lane_world.proofs.PartLists.{no_notes-joins}
-use Rattle.lane_world.proofs.SeenMore.{begins_same, follows_object, goes_before}
+use Rattle.lane_notes.specs.Called.{CallsSigwait, lane_caller, LaneOf, next_told, SeesEntry, SeesSent, SeesStale}
+use Rattle.lane_notes.specs.Runs.{ObjectMove}
+use Rattle.lane_notes.specs.Worlds.{decl_of, WorldOf}
+use Rattle.lane_notes.specs.declared.lane.WorldPass.{WorldPass}
+use Rattle.lane_notes.proofs.Declared.{declared_over, over_of}
+use Rattle.lane_notes.proofs.Kept.{FollowsObject, IsNextCall, KeepsCall}
+use Rattle.lane_notes.proofs.ObjectSeen.{object_after, object_seen}
+use Rattle.lane_notes.proofs.PartLists.{no_notes-joins}
+use Rattle.lane_notes.proofs.SeenMore.{begins_same, follows_object, goes_before}
 use Rattle.lane_notes.specs.Notes.{no_notes}
 use Rattle.call_laws.proofs.CallKept.{clock_left, FitsOn}
 use Rattle.call_laws.proofs.ObjectLooks.{queued_looked}
@@ -69,28 +69,28 @@ use Rattle.call_laws.proofs.Signals.{popped_pushed, turns_looked, turns_one, Tur
 -- ---- which timers are queued
 
 -- law: the objects of a script's world send their signals to the queue that the script declares so
-queued_kind : (k : Kind) → over_of k ≡ over.Queued → IsQueued k
+queued_kind : (k : Kind) → over_of k ≡ over.Queued → SendsSignals k
 queued_kind (kinds.Queued base) is = tt
 queued_kind k is = absurd (cc)
 
-queued_over : (k : Kind) → IsQueued k → over_of k ≡ over.Queued
+queued_over : (k : Kind) → SendsSignals k → over_of k ≡ over.Queued
 queued_over (kinds.Queued base) is = refl
 queued_over k is = absurd is
 
-declared_queued : (s : Script) (i : ℕ) → IsQueued (kind_of s i) → i < length s.timers
+declared_queued : (s : Script) (i : ℕ) → SendsSignals (kind_of s i) → i < length s.timers
 declared_queued s i is =
     ⊎_elim (λ less. less)
     (λ (past : length s.timers ≤ i).
     let none : kind_of s i ≡ kinds.Raw contexts.Hard callbacks.Once =
     get_or_past (map (λ d. d.kind) s.timers) i _ (omega (arith, past, length-map s.timers (λ (d : Declaration). d.kind))) in
-    absurd (subst IsQueued none is))
+    absurd (subst SendsSignals none is))
     (cases_lt i (length s.timers))
 
 module _ {s : Script} {x : WorldOf} {l : LaneOf} (next : IsNextCall s x l calls.Sigwait) where
-  kind_there : (timer : ℕ) → signals.IsQueued x.objects timer → IsQueued (kind_of s timer)
+  kind_there : (timer : ℕ) → signals.IsQueued x.objects timer → SendsSignals (kind_of s timer)
   kind_there timer is = queued_kind (kind_of s timer) (sym (declared_over s x timer next.world) ∙ is.kind)
 
-  object_there : (timer : ℕ) → IsQueued (kind_of s timer) → signals.IsQueued x.objects timer
+  object_there : (timer : ℕ) → SendsSignals (kind_of s timer) → signals.IsQueued x.objects timer
   object_there timer is = record {
     within = omega (arith, declared_queued s timer is, ap length next.world.decls, length-map s.timers decl_of);
     kind = declared_over s x timer next.world ∙ queued_over (kind_of s timer) is;
@@ -104,20 +104,20 @@ module _ {s : Script} {x : WorldOf} {l : LaneOf} (next : IsNextCall s x l calls.
       queued_looked s e.run timer (length seen) (kind_of s timer) (sym is ∙ object_seen s x next.world timer seen object at e follows)
 
   -- a signal that was seen not to be pending there isn't pending at the record's
-  stale_at : (e : Ending) (timer number : ℕ) (seen : List ObjectMove) (object : Object) → IsQueued (kind_of s timer)
+  stale_at : (e : Ending) (timer number : ℕ) (seen : List ObjectMove) (object : Object) → SendsSignals (kind_of s timer)
       → StateAfter object_meaning (opened_objects x.objects.decls x.objects.limit) timer seen object → FollowsObject e timer seen
       → object_fresh object number ≡ false → is_fresh (queued_after s e.run timer (base_of (kind_of s timer)) (length seen)) number ≡ false
   stale_at e timer number seen object queued at follows stale =
       sym (of_kind (kind_of s timer) queued) ∙ sym (ap (λ o. object_fresh o number) (object_seen s x next.world timer seen object at e follows)) ∙ stale
     where
-      of_kind : (k : Kind) → IsQueued k
+      of_kind : (k : Kind) → SendsSignals k
           → object_fresh (object_after s e.run timer (length seen) k) number ≡ is_fresh (queued_after s e.run timer (base_of k) (length seen)) number
       of_kind (kinds.Queued base) is = refl
       of_kind k is = absurd is
 
   -- what was popped off the queue was a queued timer's signal
   popped_queued : (e : Ending) → IsJoined s e → (ts : List Turn) (later : List Turn) → turns_in e.signals ≡ ts ++ later → (p timer number : ℕ)
-      → slice_get ts p ≡ Some (Popped (record { timer = timer; number = number })) → IsQueued (kind_of s timer)
+      → slice_get ts p ≡ Some (Popped (record { timer = timer; number = number })) → SendsSignals (kind_of s timer)
   popped_queued e joined ts later goes p timer number at =
       let all = turns_in e.signals in
       let there : slice_get all p ≡ Some (Popped (record { timer = timer; number = number })) =
@@ -201,7 +201,7 @@ module _ {s : Script} {x : WorldOf} {l m : LaneOf} {a : Answer} (next : IsNextCa
 
     -- its timer's history was full
     keeps_spent : {mid : WorldPass} {n : ℕ} → signals.IsQueued x.objects timer
-        → FindsFull x.objects (lane_caller l.pass [] []) (lane_caller mid c.log c.object_log) timer n → SeesEntry mid m.pass timer number
+        → FindsHistoryFull x.objects (lane_caller l.pass [] []) (lane_caller mid c.log c.object_log) timer n → SeesEntry mid m.pass timer number
         → KeepsCall s l calls.Sigwait (answers.SpentSignal timer number) m
     keeps_spent {mid} queued full sees =
         let by : LooksBy mid = record {

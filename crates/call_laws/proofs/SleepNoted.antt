@@ -28,7 +28,7 @@ use Rattle.record_text.specs.declared.record.SleepReply.{SleepReply}
 use Rattle.run_history.specs.Witnesses.{Witness, timer_along}
 use Rattle.run_history.proofs.ObjectsMade.{UnsleptBy}
 use Rattle.lane_notes.specs.Objects.{arm_noted}
-use Rattle.lane_world.specs.Called.{interrupt_told, sleep_told}
+use Rattle.lane_notes.specs.Called.{interrupt_told, sleep_told}
 use Rattle.call_laws.proofs.Armed.{IsArmedSo}
 use Rattle.call_laws.proofs.Parts.{ClockHas, IsNotedAs, noted_at}
 

@@ -27,14 +27,14 @@ use Rattle.script_text.specs.Declarations.{base_of, kind_of}
 use Rattle.script_text.specs.declared.script.Call.TheVariants as calls
 use Rattle.script_text.specs.declared.script.Script.{Script}
 use Rattle.run_history.specs.Objects.{sleeper_after}
-use Rattle.run_history.specs.ObjectCalls.{IsValidSleep, nanoseconds_of}
+use Rattle.run_history.specs.ObjectCalls.{IsProperSleep, nanoseconds_of}
 use Rattle.run_history.specs.Runs.{Ending, witness_of}
 use Rattle.run_history.proofs.ObjectsMade.{interrupt_made, sleep_made, start_of}
-use Rattle.lane_world.specs.Called.{CalledThen, CallsLook, CallsObject, LaneOf, interrupt_told, lane_caller, sleep_told, slept_told, with_done}
-use Rattle.lane_world.specs.Worlds.{WorldOf}
-use Rattle.lane_world.proofs.Kept.{IsNextCall, KeepsCall}
-use Rattle.lane_world.proofs.ObjectSeen.{object_after}
-use Rattle.lane_world.proofs.PartLists.{no_notes-joins}
+use Rattle.lane_notes.specs.Called.{CalledThen, CallsLook, CallsObject, LaneOf, interrupt_told, lane_caller, sleep_told, slept_told, with_done}
+use Rattle.lane_notes.specs.Worlds.{WorldOf}
+use Rattle.lane_notes.proofs.Kept.{IsNextCall, KeepsCall}
+use Rattle.lane_notes.proofs.ObjectSeen.{object_after}
+use Rattle.lane_notes.proofs.PartLists.{no_notes-joins}
 use Rattle.call_laws.proofs.Anew.{keeps_anew}
 use Rattle.call_laws.proofs.Armed.{wants_unless}
 use Rattle.call_laws.proofs.CallKept.{clock_left}
@@ -48,14 +48,14 @@ use Rattle.call_laws.proofs.Signals.{popped_interrupt, popped_sleep}
 
 -- arguments of a sleep that are refused are no valid ones, and the answer says so
 abbrev IsRefusal : ℕ → TimeSpec → SleepAnswer → Type 0
-IsRefusal flags time refusal = (sleep_told refusal ≡ answers.Invalid) × (IsValidSleep flags time → ⊥)
+IsRefusal flags time refusal = (sleep_told refusal ≡ answers.Invalid) × (IsProperSleep flags time → ⊥)
 
 -- the arguments of a sleep are valid, or refused with the answer that says so
-checked : (flags : ℕ) (time : TimeSpec) → MatchOption (sleep_arguments_refusal flags time) (IsValidSleep flags time) (IsRefusal flags time)
+checked : (flags : ℕ) (time : TimeSpec) → MatchOption (sleep_arguments_refusal flags time) (IsProperSleep flags time) (IsRefusal flags time)
 checked flags time = by_tests (nat_eq (bits_beyond abstime flags) 0) (is_bad time) refl refl
   where
     by_tests : (a b : Bool) → nat_eq (bits_beyond abstime flags) 0 ≡ a → is_bad time ≡ b
-        → MatchOption (if not a then Some begins.BadFlags else (if b then Some begins.BadTime else None)) (IsValidSleep flags time) (IsRefusal flags time)
+        → MatchOption (if not a then Some begins.BadFlags else (if b then Some begins.BadTime else None)) (IsProperSleep flags time) (IsRefusal flags time)
     by_tests false b known bad = (refl, λ v. true≢false (sym (ap (λ n. nat_eq n 0) v.0) ∙ known))
     by_tests true true known bad = (refl, λ v. true≢false (sym bad ∙ v.1))
     by_tests true false known bad = (eqb-true (bits_beyond abstime flags) 0 known, bad)
@@ -76,7 +76,7 @@ keeps_sleep {s = s} {x = x} {l = l} {m = m} {a = a} {timer = timer} {flags = fla
     slept : (answer : SleepAnswer)
         → ArmsAnew x.objects x.timers.about (lane_caller l.pass [] []) (lane_caller m.pass c.log c.object_log) timer (sleep_by flags (time_of time) c.reading)
         (sleep_start (decl_at x.objects timer).clock flags (time_of time) c.reading) c.reading (replies.Sleep answer)
-        → IsValidSleep flags time → KeepsCall s l (calls.Sleep timer flags time) (sleep_told answer) m
+        → IsProperSleep flags time → KeepsCall s l (calls.Sleep timer flags time) (sleep_told answer) m
     slept answer made valid =
         let noted : SleepNoted flags (time_of time) c.reading answer made.arm (replies.Sleep answer) =
         subst (SleepNoted flags (time_of time) c.reading answer made.arm) (sym made.enters.reply)
@@ -90,7 +90,7 @@ keeps_sleep {s = s} {x = x} {l = l} {m = m} {a = a} {timer = timer} {flags = fla
         sleep_made noted.told kept low is valid (noted.refused (witness_of s e) timer is.ends armed)))
 
     occupied : (n : ℕ) → FindsSleeper x.objects (lane_caller l.pass [] []) (lane_caller m.pass c.log c.object_log) timer n false
-        → IsValidSleep flags time → KeepsCall s l (calls.Sleep timer flags time) (answers.Occupied n) m
+        → IsProperSleep flags time → KeepsCall s l (calls.Sleep timer flags time) (answers.Occupied n) m
     occupied n found valid =
         keeps_look m next (answers.Occupied n) refl found.1 (clock_left c.reads.same) c.signals c.notes
         (λ e. (refl, (valid, subst (λ limit. n < limit) next.world.limit found.2)))
@@ -99,7 +99,7 @@ keeps_sleep {s = s} {x = x} {l = l} {m = m} {a = a} {timer = timer} {flags = fla
           ap (λ (u : Sleeper). is_free u.sleep) (sym (sleeper_looked s e.run timer n (kind_of s timer) is)) ∙ found.3,
         ))
 
-    by_answer : (answer : SleepAnswer) → IsValidSleep flags time → Made answer → KeepsCall s l (calls.Sleep timer flags time) (sleep_told answer) m
+    by_answer : (answer : SleepAnswer) → IsProperSleep flags time → Made answer → KeepsCall s l (calls.Sleep timer flags time) (sleep_told answer) m
     by_answer begins.BadFlags valid made = absurd made
     by_answer begins.BadTime valid made = absurd made
     by_answer (begins.Spent n) valid full =
@@ -107,7 +107,7 @@ keeps_sleep {s = s} {x = x} {l = l} {m = m} {a = a} {timer = timer} {flags = fla
     by_answer (begins.Occupied n) valid found = occupied n found valid
     by_answer answer valid made = slept answer made valid
 
-    by_arguments : (refusal : Option SleepAnswer) → MatchOption refusal (IsValidSleep flags time) (IsRefusal flags time)
+    by_arguments : (refusal : Option SleepAnswer) → MatchOption refusal (IsProperSleep flags time) (IsRefusal flags time)
         → MatchOption refusal (Made called.0) (λ r. (called.0 ≡ r) × (lane_caller m.pass c.log c.object_log ≡ lane_caller l.pass [] []))
         → KeepsCall s l (calls.Sleep timer flags time) (sleep_told called.0) m
     by_arguments None valid made = by_answer called.0 valid made

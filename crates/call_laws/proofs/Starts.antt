@@ -1,5 +1,5 @@
 -- What a start of a timer tells: its entries as the record has them, and its answer.
-use Rattle.lane_world.specs.Worlds.{opening_for}
+use Rattle.lane_notes.specs.Worlds.{opening_for}
 use Rattle.base_row.proofs.Placed.{terms_now}
 use Rattle.call_laws.proofs.Noted.{entered_on}
 use Rattle.run_history.specs.Actions.{Entered}
@@ -26,9 +26,9 @@ use Rattle.record_text.specs.declared.record.Answer.TheVariants as answers
 use Rattle.record_text.specs.declared.record.ClockLine.{ClockLine}
 use Rattle.script_text.specs.declared.script.StartRequest.{StartRequest}
 use Rattle.run_history.specs.Histories.{reading_at}
-use Rattle.run_history.specs.Starts.{Arming, arming_actions, first_number, IsArming, IsJustBefore, IsSentBy, SentTo, was_armed_before}
+use Rattle.run_history.specs.Starts.{Arming, arming_actions, first_number, IsArming, IsJustBefore, IsSentByHeirs, SentTo, was_armed_before}
 use Rattle.run_history.proofs.Stamped.{HaveReadings}
-use Rattle.lane_world.specs.Called.{asked_in, start_told}
+use Rattle.lane_notes.specs.Called.{asked_in, start_told}
 
 -- ---- limits
 
@@ -92,11 +92,11 @@ stepped s (b ∷ bs) e = stepped (after s (events.Out b)) bs e
 
 -- law: a start is made as it is asked for, by a way that its bases have, where the timer's history isn't full
 pub is_arming : (Reached : ℕ → ℕ → Type 0) (limit base : ℕ) (s : Timer) (asked : Asked) (sent : List ℕ) (last : ℕ) → s.stamp < limit
-    → IsSentBy Reached base sent last → IsArming Reached limit base (arming_of s asked sent last)
+    → IsSentByHeirs Reached base sent last → IsArming Reached limit base (arming_of s asked sent last)
 is_arming Reached limit base s asked sent last few way = record {
   below = omega (arith, few, outs_first s sent);
   next = outs_next s sent;
-  way = subst (λ bs. IsSentBy Reached base bs last) (sym (outs_bases s sent)) way;
+  way = subst (λ bs. IsSentByHeirs Reached base bs last) (sym (outs_bases s sent)) way;
 }
 
 -- ---- its entries and its answer

@@ -25,9 +25,9 @@ use Rattle.script_text.specs.declared.script.Script.{Script}
 use Rattle.run_history.specs.Runs.{witness_of}
 use Rattle.run_history.specs.Truths.{WasOffLine}
 use Rattle.run_history.proofs.OthersMade.{cancelled_made, plain, started_made}
-use Rattle.lane_world.specs.Called.{asked_in, CallsCancel, CallsStart, cancel_told, LaneOf, start_told, with_done}
-use Rattle.lane_world.proofs.Kept.{IsNextCall, KeepsCall}
-use Rattle.lane_world.specs.Worlds.{WorldOf}
+use Rattle.lane_notes.specs.Called.{asked_in, CallsCancel, CallsStart, cancel_told, LaneOf, start_told, with_done}
+use Rattle.lane_notes.proofs.Kept.{IsNextCall, KeepsCall}
+use Rattle.lane_notes.specs.Worlds.{WorldOf}
 use Rattle.call_laws.proofs.CallKept.{clock_left, reading_goes_on}
 use Rattle.call_laws.proofs.Sights.{keeps_entered, keeps_sight, looks_at, notes_alone}
 use Rattle.call_laws.proofs.Stays.{saw_quiet, timer_quiet}

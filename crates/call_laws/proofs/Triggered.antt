@@ -11,9 +11,9 @@ use Rattle.timer_setting.specs.declared.object_call.ObjectCall.TheVariants as ob
 use Rattle.timer_setting.specs.declared.object_call.ObjectReply.TheVariants as replies
 use Rattle.hr_timers.specs.Known.{KnownOfTimers}
 use Rattle.hr_timers.specs.declared.numbers.ClaimNumbers.{ClaimNumbers}
-use Rattle.expire_pass.specs.Handlers.{asks}
-use Rattle.expire_pass.specs.declared.handler.Restart.TheVariants as wishes
-use Rattle.expire_pass.specs.declared.handler.Restart.{Restart}
+use Rattle.hr_timers.specs.Handlers.{asks}
+use Rattle.hr_timers.specs.declared.handler.Restart.TheVariants as wishes
+use Rattle.hr_timers.specs.declared.handler.Restart.{Restart}
 use Rattle.timer_objects.specs.Known.{ObjectsOf, ObjectsPass, seen_of}
 use Rattle.timer_objects.specs.Steps.{object_answer, ObjectAllows, object_timer}
 use Rattle.timer_objects.proofs.AsKind.{objects_are_a_kind}
@@ -31,17 +31,17 @@ use Rattle.script_text.specs.declared.script.Script.{Script}
 use Rattle.run_history.specs.Deeds.{IsBody, IsQueuedTrigger, IsTrigger}
 use Rattle.run_history.specs.Witnesses.{Fired}
 use Rattle.run_history.specs.Witnesses.{TimersList}
-use Rattle.lane_world.specs.Runs.{ObjectMove}
-use Rattle.lane_world.proofs.SeenMore.{count_begins}
+use Rattle.lane_notes.specs.Runs.{ObjectMove}
+use Rattle.lane_notes.proofs.SeenMore.{count_begins}
 use Rattle.call_laws.proofs.ObjectTurns.{enters_entry, enters_turn, entries_had}
 use Rattle.timer_objects.specs.QueuedFirings.{QueuedFiring}
-use Rattle.timer_objects.specs.Signals.{FiresQueued, IsSentBy, object_sends, Overflows, Sends}
+use Rattle.timer_objects.specs.Signals.{FiresQueued, IsPushedBy, object_sends, Overflows, Sends}
 use Rattle.timer_objects.specs.declared.object.Kind.TheVariants as over
 use Rattle.timer_objects.specs.declared.object.Object.TheVariants as objects
 use Rattle.timer_objects.specs.Known.{decl_at}
 use Rattle.timer_objects.specs.Steps.{kind_over}
 use Rattle.signal_queue.specs.declared.signal.Turn.{Turn}
-use Rattle.run_history.specs.Signals.{IsQueued, most_signals, pushed_in, pushed_with}
+use Rattle.run_history.specs.Signals.{SendsSignals, most_signals, pushed_in, pushed_with}
 use Rattle.script_text.specs.declared.script.Kind.TheVariants as kinds
 use Rattle.call_laws.proofs.Signals.{pushed_none, TurnsPart, turns_looked, turns_none, turns_one, waited}
 use Rattle.pass_names.proofs.Passes.{begins_length}
@@ -53,7 +53,7 @@ use Rattle.run_history.proofs.Expires.{ReplyHolds}
 use Rattle.seq_timer.specs.declared.event.Restarted.{Restarted}
 use Rattle.record_text.specs.declared.record.ObjectEntry.{ObjectEntry}
 use Rattle.call_laws.proofs.Entering.{enters_none}
-use Rattle.lane_world.proofs.PartLists.{rises_none}
+use Rattle.lane_notes.proofs.PartLists.{rises_none}
 use Rattle.call_laws.proofs.Parts.{BodyKept, fired_of, ClockHas, IsClaimed, IsNotedAs, noted_at, objects_grow, part_began, part_claimed, part_made, part_then, turns_of}
 
 -- ---- the note of a trigger
@@ -105,7 +105,7 @@ module _ (s : Script) (x : ObjectsOf) (limit : x.limit ≡ s.limit) (some : 1 �
 
   -- what the function did is what its timer declares, and what it was told holds
   abbrev RanSo : List Action → Type 0
-  RanSo body = (e : Ending) → IsJoined s e → promises.GoesOn w.seen e → promises.GoesOnSignals (turns_of h') e → (finish : ℕ) (restarted : Restarted)
+  RanSo body = (e : Ending) → IsJoined s e → promises.RunGoesOn w.seen e → promises.GoesOnSignals (turns_of h') e → (finish : ℕ) (restarted : Restarted)
       → IsBody (WasOffLine (witness_of s e) (length v.seen) (length w.seen)) s.limit (kind_of s c.timer) reading.stamp
       (fired_of c body finish (asks restart) restarted)
       × ReplyHolds (witness_of s e) (length (turns_of h), length (turns_of h')) (length w.seen) body
@@ -208,10 +208,10 @@ module _ (s : Script) (x : ObjectsOf) (limit : x.limit ≡ s.limit) (some : 1 �
     is_queued Reached f is = subst (λ k. IsBody Reached s.limit k reading.stamp f) (sym kind) is
 
     -- the signal of an expiry, where it counts
-    sent_turns : (number : ℕ) (counted : Bool) → IsSentBy counted h.signal_pass.now.knows h'.signal_pass.now.knows c.timer number
+    sent_turns : (number : ℕ) (counted : Bool) → IsPushedBy counted h.signal_pass.now.knows h'.signal_pass.now.knows c.timer number
         → (turned : List (ℕ × Turn)) × TurnsPart s h.signal_pass.now.knows h'.signal_pass.now.knows
         (pushed_with (kinds.Queued asked) c.timer number (object_entries.Trigger c.generation reading.stamp counted) ++ []) turned
-    sent_turns number true sent = (_, turns_one _ sent.0 (subst IsQueued (sym kind) tt))
+    sent_turns number true sent = (_, turns_one _ sent.0 (subst SendsSignals (sym kind) tt))
     sent_turns number false same = ([], turns_none same)
 
     sends_kept : Sends x p q h.object_log.receipts h'.object_log.receipts v w h.signal_pass.now.knows h'.signal_pass.now.knows c.timer c.generation reading
@@ -221,7 +221,7 @@ module _ (s : Script) (x : ObjectsOf) (limit : x.limit ≡ s.limit) (some : 1 �
         let n = object_triggered t.commits.state c.generation reading t.may in
         let many = length t.commits.adds.before in
         let entry = object_entries.Trigger c.generation reading.stamp n.counted in
-        let sent = sent_turns (many + 1) n.counted (subst (λ b. IsSentBy b h.signal_pass.now.knows h'.signal_pass.now.knows c.timer (many + 1))
+        let sent = sent_turns (many + 1) n.counted (subst (λ b. IsPushedBy b h.signal_pass.now.knows h'.signal_pass.now.knows c.timer (many + 1))
         (sends_as t.commits.state c.generation reading (sym t.declared.kind ∙ declared) ∙ n.is) its.sent) in
         entered_body t entry n.noted sent.0
         (subst (λ k. TurnsPart s h.signal_pass.now.knows h'.signal_pass.now.knows (pushed_with k c.timer (many + 1) entry ++ []) sent.0) (sym kind) sent.1)

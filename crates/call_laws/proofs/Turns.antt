@@ -13,23 +13,23 @@ use Rattle.run_history.specs.Actions.{wrote}
 use Rattle.run_history.specs.Calls.{reads_clock}
 use Rattle.run_history.specs.Fits.{FitsCall, HasRead, ReadsInTurn}
 use Rattle.run_history.specs.Order.{calls_of, NeverFall}
-use Rattle.run_history.specs.Promises.{GoesOn, HasLog}
+use Rattle.run_history.specs.Promises.{RunGoesOn, HasLog}
 use Rattle.run_history.specs.Runs.{Ending, IsJoined, witness_of}
 use Rattle.run_history.specs.Witnesses.{writes_along}
 use Rattle.run_history.proofs.Promise.{seen_first}
 use Rattle.script_text.specs.declared.script.Call.{Call}
 use Rattle.script_text.specs.declared.script.Script.{Script}
-use Rattle.lane_world.proofs.Kept.{Follows, IsNextCall, KeepsCall, KeepsTurn, log_of, seen_by}
-use Rattle.lane_world.proofs.SeenMore.{begins_same, goes_before}
+use Rattle.lane_notes.proofs.Kept.{Follows, IsNextCall, KeepsCall, KeepsTurn, log_of, seen_by}
+use Rattle.lane_notes.proofs.SeenMore.{begins_same, goes_before}
 use Rattle.signal_queue.specs.Rules.{turns}
-use Rattle.lane_world.specs.Called.{LaneOf, ReadsFirst}
-use Rattle.lane_world.specs.Worlds.{WorldOf}
+use Rattle.lane_notes.specs.Called.{LaneOf, ReadsFirst}
+use Rattle.lane_notes.specs.Worlds.{WorldOf}
 use Rattle.call_laws.proofs.CallKept.{same_objects}
 
 -- ---- the order's writes
 
 -- law: of the first entries, which a pass has seen, as many are writes as were seen
-pub writes_seen : {s : Script} {e : Ending} (seen : List SystemEntry) → IsJoined s e → (goes : GoesOn seen e)
+pub writes_seen : {s : Script} {e : Ending} (seen : List SystemEntry) → IsJoined s e → (goes : RunGoesOn seen e)
     → writes_along (witness_of s e) (length seen) ≡ rises_of 0 seen
 writes_seen seen joined goes =
     ap (λ es. rises_of 0 (take (length seen) es)) (seen_first seen joined goes) ∙ ap (rises_of 0) (take-append_seam seen goes.0)

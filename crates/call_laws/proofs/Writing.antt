@@ -1,17 +1,17 @@
 -- Writes of the clock, as their lanes keep them.
 use Rattle.lane_notes.specs.declared.notes.WriteNote.{WriteNote}
-use Rattle.lane_world.proofs.Kept.{NoteKind, NoteOf}
+use Rattle.lane_notes.proofs.Kept.{NoteKind, NoteOf}
 use Rattle.call_laws.proofs.Sights.{keeps_sight}
 use Rattle.std.proofs.lemmas.List.{take_all}
 use Rattle.std.proofs.Common.{◌≡◌, ℕ, ◌+◌, ◌<◌, ◌≤◌, List, [], ◌∷◌, ◌++◌, length, length-append, take, Ok, Err, Result, Some, arith, refl, sym, ap, ◌∙◌, subst}
 use Rattle.std.specs.List.{slice_get}
 use Rattle.std.proofs.lemmas.List.{append-nil, append_assoc, length-map}
 use Rattle.ktime.specs.Readings.{ClockReading}
-use Rattle.clock_model.specs.Clocks.{IsRefusedAs, after_write, greatest, last_stamp}
-use Rattle.clock_model.specs.declared.write.ClockFault.{ClockFault}
-use Rattle.clock_model.specs.declared.write.ClockFault.TheVariants as faults
-use Rattle.clock_model.specs.declared.write.Write.{Write}
-use Rattle.clock_model.proofs.Writes.{stamp_after}
+use Rattle.ktime.specs.Clocks.{IsRefusedAs, after_write, greatest, last_stamp}
+use Rattle.ktime.specs.declared.write.ClockFault.{ClockFault}
+use Rattle.ktime.specs.declared.write.ClockFault.TheVariants as faults
+use Rattle.ktime.specs.declared.write.Write.{Write}
+use Rattle.ktime.proofs.Writes.{stamp_after}
 use Rattle.clock_cell.specs.Views.{AcceptsWrite, AnswersWrite, reading_after, seen_reading, writes}
 use Rattle.record_text.specs.declared.record.Answer.TheVariants as answers
 use Rattle.record_text.specs.declared.record.Answer.{Answer}
@@ -29,7 +29,7 @@ use Rattle.seq_timer.specs.Systems.{rises_of}
 use Rattle.seq_timer.specs.declared.system.SystemEntry.TheVariants as entries
 use Rattle.run_history.specs.Receipts.{PlacedEntry}
 use Rattle.run_history.specs.Witnesses.{OfRise, Trace}
-use Rattle.lane_world.specs.declared.WorldPass.{WorldPass}
+use Rattle.lane_notes.specs.declared.lane.WorldPass.{WorldPass}
 use Rattle.std.proofs.Math.Seq.{take-append_seam}
 use Rattle.std.proofs.lemmas.Option.{slice_get_within}
 use Rattle.call_laws.proofs.Turns.{next_begun, turn_by_itself, turn_read, writes_seen}
@@ -38,16 +38,16 @@ use Rattle.run_history.specs.Promises.{GoesOnClock, IsRightLog}
 use Rattle.run_history.specs.Runs.{CallLog, Ending}
 use Rattle.run_history.proofs.Lists.{at_left, at_seam}
 use Rattle.run_history.proofs.OthersMade.{plain, wrote_made}
-use Rattle.lane_world.specs.Called.{CallsWrite, LaneOf, LeavesSignals, ReadsFirst, line_of_write, with_write_told, write_told}
+use Rattle.lane_notes.specs.Called.{CallsWrite, LaneOf, LeavesSignals, ReadsFirst, written_line, with_write_told, write_told}
 use Rattle.call_laws.proofs.Signals.{falls_between, turns_none, TurnsPart}
 use Rattle.signal_queue.specs.Rules.{turns}
 use Rattle.std.specs.List.{AllByRecursion}
-use Rattle.lane_world.proofs.Kept.{IsNoteSeen, label_of, list_of, WriteNotes, IsNextCall, KeepsCall, KeepsTurn, StandAt, log_of, seen_by, SeesOn}
-use Rattle.lane_world.proofs.SeenMore.{begins_same, goes_before}
-use Rattle.lane_world.specs.Worlds.{WorldOf}
+use Rattle.lane_notes.proofs.Kept.{IsNoteSeen, label_of, list_of, WriteNotes, IsNextCall, KeepsCall, KeepsTurn, StandAt, log_of, seen_by, SeesOn}
+use Rattle.lane_notes.proofs.SeenMore.{begins_same, goes_before}
+use Rattle.lane_notes.specs.Worlds.{WorldOf}
 use Rattle.pass_names.proofs.Passes.{begins_length}
 use Rattle.call_laws.proofs.CallKept.{clock_left, no_places, promised_from, same_objects, reading_of_seen}
-use Rattle.lane_world.proofs.PartLists.{notes_same, same_order}
+use Rattle.lane_notes.proofs.PartLists.{notes_same, same_order}
 use Rattle.call_laws.proofs.Sights.{LooksOnly, looks_alone, keeps_looking}
 
 -- the notes of a write alone
@@ -109,7 +109,7 @@ module _ (s : Script) (x : WorldOf) (l m : LaneOf) (write : Write) (next : IsNex
   ws = writes q.clock.knows
 
   abbrev line : ClockLine
-  line = line_of_write l.label write r
+  line = written_line l.label write r
 
   -- how many writes there were before, and the write's place among the entries of timers
   abbrev many : ℕ

@@ -6,8 +6,8 @@ use Rattle.std.proofs.lemmas.List.Elements.{All-weaker}
 use mathlib.Core.Option.{some}
 use lib.ListN.{get_elem?}
 use Rattle.atomic_table.proofs.Lists.{at_set, at_snoc}
-use Rattle.clock_model.specs.Clocks.{at_stamp, AreAccepted}
-use Rattle.clock_model.specs.declared.write.Write.{Write}
+use Rattle.ktime.specs.Clocks.{at_stamp, AreAccepted}
+use Rattle.ktime.specs.declared.write.Write.{Write}
 use Rattle.pass_names.specs.Counts.{one_if}
 use Rattle.pass_names.specs.Names.{IsPassTree}
 use Rattle.pass_names.specs.Passes.{Begins, entries, GoesOn, within}

@@ -3,7 +3,7 @@ use Rattle.std.proofs.Common.{◌≡◌, ◌≤◌, Bool, true, false, if◌then
 use Rattle.std.specs.Prelude.{nat_lt, All}
 use Rattle.std.proofs.lemmas.Bool.Decides.{nat_tests}
 use Rattle.std.proofs.lemmas.List.Elements.{All-nil, All-cons, All-head, All-tail}
-use Rattle.clock_model.specs.declared.write.Write.{Write}
+use Rattle.ktime.specs.declared.write.Write.{Write}
 use Rattle.pass_names.specs.Passes.{Begins, GoesOn, Looks, Retires, Meets}
 use Rattle.pass_names.proofs.Passes.{begins_refl, begins_nil, begins_trans}
 use Rattle.clock_cell.specs.declared.view.ClockView.{ClockView}

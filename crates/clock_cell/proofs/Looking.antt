@@ -7,8 +7,8 @@ use mathlib.Core.Option.{some}
 use lib.ListN.{get_elem?}
 use lib.Pointwise.{pointwise, bytes_decides}
 use Rattle.crossbeam_utils.specs.Register.{Turns}
-use Rattle.clock_model.specs.Clocks.{at_stamp, after_write, IsAccepted, AreAccepted}
-use Rattle.clock_model.specs.declared.write.Write.{Write}
+use Rattle.ktime.specs.Clocks.{at_stamp, after_write, IsAccepted, AreAccepted}
+use Rattle.ktime.specs.declared.write.Write.{Write}
 use Rattle.ktime.specs.Readings.{ClockReading}
 use Rattle.pass_names.specs.Counts.{one_if, count}
 use Rattle.pass_names.specs.Names.{IsLast}
@@ -21,7 +21,7 @@ use Rattle.clock_cell.specs.Views.{reading_after, KnowsClock, having_read}
 use Rattle.clock_cell.specs.Words.{cell_words, reading_in}
 use Rattle.clock_cell.specs.Rules.{clock_pass_id, clock_places, ClockInvariant}
 use Rattle.clock_cell.specs.Plays.{IsRestingView, Loaded, Exchanged}
-use Rattle.clock_model.proofs.Writes.{after_write_counts, clock_after-append, accepted_push}
+use Rattle.ktime.proofs.Writes.{after_write_counts, clock_after-append, accepted_push}
 use Rattle.clock_cell.proofs.Frames.{goes_one, turned}
 
 -- what is known of a pass that has seen all writes

@@ -7,7 +7,7 @@ use mathlib.Core.Option.{some}
 use lib.ListN.{get_elem?}
 use Rattle.crossbeam_utils.specs.Register.{Forks, Merges}
 use Rattle.atomic_table.proofs.Lists.{at_map, at_set, at_snoc, set_again, set_else}
-use Rattle.clock_model.specs.declared.write.Write.{Write}
+use Rattle.ktime.specs.declared.write.Write.{Write}
 use Rattle.pass_names.specs.declared.PassId.{PassId}
 use Rattle.pass_names.specs.Counts.{one_if, total}
 use Rattle.pass_names.specs.Names.{IsPassTree, gone_pass_id, AnswersFor, same, occurrences}

@@ -3,7 +3,7 @@ use Rattle.std.proofs.Common.{◌≡◌, ◌≢◌, ℕ, ◌+◌, Bool, true, fa
 use Rattle.std.specs.Prelude.{MatchBool, All}
 use Rattle.std.proofs.lemmas.List.Elements.{All-weaker}
 use Rattle.ktime.specs.Readings.{ClockReading}
-use Rattle.clock_model.specs.declared.write.Write.{Write}
+use Rattle.ktime.specs.declared.write.Write.{Write}
 use Rattle.pass_names.specs.Passes.{Begins, Looks, places}
 use Rattle.pass_names.proofs.Passes.{begins_trans, goes_trans}
 use Rattle.clock_cell.specs.declared.view.ClockView.{ClockView}
@@ -11,8 +11,8 @@ use Rattle.clock_cell.specs.Views.{writes, seen_reading, KnowsClock, Hears, Acce
 use Rattle.clock_cell.specs.Words.{cell_words, reading_in}
 use Rattle.clock_cell.specs.Plays.{Loaded, MadeWrite}
 use Rattle.clock_cell.specs.Turns.{Misses}
-use Rattle.clock_model.specs.Clocks.{last_stamp}
-use Rattle.clock_model.proofs.Writes.{shown_by, stamp_after}
+use Rattle.ktime.specs.Clocks.{last_stamp}
+use Rattle.ktime.proofs.Writes.{shown_by, stamp_after}
 
 module _ (w : Write) (old new : ClockView) (r : ClockReading) where
   -- the stamp of the reading after the write is its place

@@ -1,7 +1,7 @@
 -- What each step on a clock's cell tells the caller, and how views are cut and put together.
 use Rattle.std.specs.Prelude.{◌≡◌, ℕ, ◌+◌, true, List, [], ◌∷◌, slice_index}
-use Rattle.clock_model.specs.Clocks.{at_stamp, AreAccepted, IsAccepted}
-use Rattle.clock_model.specs.declared.write.Write.{Write}
+use Rattle.ktime.specs.Clocks.{at_stamp, AreAccepted, IsAccepted}
+use Rattle.ktime.specs.declared.write.Write.{Write}
 use Rattle.pass_names.specs.Names.{gone_pass_id}
 use Rattle.pass_names.specs.Passes.{Looks, Adds}
 use Rattle.clock_cell.specs.declared.view.ClockView.{ClockView}

@@ -2,8 +2,8 @@
 use Rattle.std.specs.Prelude.{◌≡◌, ℕ, false, List, [], ◌∷◌, length, map, All}
 use mathlib.Core.Option.{some}
 use lib.ListN.{get_elem?}
-use Rattle.clock_model.specs.Clocks.{at_stamp, AreAccepted}
-use Rattle.clock_model.specs.declared.write.Write.{Write}
+use Rattle.ktime.specs.Clocks.{at_stamp, AreAccepted}
+use Rattle.ktime.specs.declared.write.Write.{Write}
 use Rattle.pass_names.specs.declared.PassId.{PassId}
 use Rattle.pass_names.specs.Counts.{one_if, total, count}
 use Rattle.pass_names.specs.Names.{IsPassTree}

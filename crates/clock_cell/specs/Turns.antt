@@ -1,7 +1,7 @@
 -- What one turn of a write came to.
 use Rattle.std.specs.Prelude.{◌≢◌, ◌<◌, length, Err}
 use Rattle.ktime.specs.Readings.{ClockReading}
-use Rattle.clock_model.specs.declared.write.Write.{Write}
+use Rattle.ktime.specs.declared.write.Write.{Write}
 use Rattle.pass_names.specs.Passes.{Looks}
 use Rattle.clock_cell.specs.declared.shared.Turn.{Turn}
 use Rattle.clock_cell.specs.declared.shared.Turn.TheVariants.{Made, Refused, Again}

@@ -2,9 +2,9 @@
 use Rattle.std.specs.Prelude.{◌≡◌, nat_lt, if◌then◌else◌, List, [], ◌∷◌, ◌++◌, length, All, Result, IfOk, OnErr}
 use Rattle.atomic_table.specs.Seated.{TableId}
 use Rattle.ktime.specs.Readings.{ClockReading}
-use Rattle.clock_model.specs.Clocks.{at_stamp, clock_after, AreAccepted, IsAccepted, IsRefusedAs}
-use Rattle.clock_model.specs.declared.write.Write.{Write}
-use Rattle.clock_model.specs.declared.write.ClockFault.{ClockFault}
+use Rattle.ktime.specs.Clocks.{at_stamp, clock_after, AreAccepted, IsAccepted, IsRefusedAs}
+use Rattle.ktime.specs.declared.write.Write.{Write}
+use Rattle.ktime.specs.declared.write.ClockFault.{ClockFault}
 use Rattle.pass_names.specs.Names.{IsLast, after_retire}
 use Rattle.pass_names.specs.Passes.{Begins, entries, HasEach, Looks, Adds, first_pass, splitter, split_off}
 use Rattle.clock_cell.specs.declared.view.ClockView.{ClockView}

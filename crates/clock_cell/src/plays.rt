@@ -26,13 +26,13 @@ impl Outcome<[u64; 5], ClockView> for Look {
 
 /// Which write an exchange makes. Each exchange picks it.
 pub trait WritePick {
-    ghost use Rattle.clock_model.specs.declared.write.Write.{Write};
+    ghost use Rattle.ktime.specs.declared.write.Write.{Write};
 
     ghost write: { Write };
 }
 
 impl WritePick for Brand {
-    ghost use Rattle.clock_model.specs.declared.write.Write.TheVariants.{Advance};
+    ghost use Rattle.ktime.specs.declared.write.Write.TheVariants.{Advance};
 
     ghost write = { Advance 0 };
 }

@@ -2,8 +2,8 @@
 ghost use Rattle.std.specs.Prelude.{◌≡◌, length, IfOk, [], MatchBool};
 ghost use Rattle.pass_names.specs.Names.{AnswersFor, IsLast};
 ghost use Rattle.pass_names.specs.Passes.{Looks, Retires, Meets, GoesOn};
-ghost use Rattle.clock_model.specs.Clocks.{at_stamp, after_write, AreAccepted, IsAccepted};
-ghost use Rattle.clock_model.specs.declared.write.Write.TheVariants.{Advance, Set, Suspend};
+ghost use Rattle.ktime.specs.Clocks.{at_stamp, after_write, AreAccepted, IsAccepted};
+ghost use Rattle.ktime.specs.declared.write.Write.TheVariants.{Advance, Set, Suspend};
 ghost use Rattle.clock_cell.specs.Turns.{Misses, Turned};
 ghost use Rattle.clock_cell.specs.Views.{IsPassOfClock, AreOfOne, AnswersWrite, Hears, KnowsClock, AcceptsWrite, writes, seen_reading, first_clock_view, split_clock_view, new_clock_view, told_clock_view, joined_clock_view};
 
@@ -11,8 +11,7 @@ use crate::pass::ClockPass;
 use crate::plays::Child;
 use crate::steps::{ClockCell, absorb, enter, look, tell};
 use crate::words::{cell_words, reading_in};
-use clock_model::{Clock, ClockFault, Write};
-use ktime::Reading;
+use ktime::{Clock, ClockFault, Reading, Write};
 use std::alloc::{AllocError, Global};
 use std::marker::{Brand, Model};
 use std::sync::Wait;

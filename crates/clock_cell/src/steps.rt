@@ -1,7 +1,7 @@
 //! Single steps on a clock's cell, each for a seat whose view the caller knows.
 ghost use Rattle.std.specs.Prelude.{◌≡◌, ◌≢◌, true, [], MatchBool};
 ghost use Rattle.crossbeam_utils.specs.Seq.{cell_view};
-ghost use Rattle.clock_model.specs.Clocks.{after_write, IsAccepted};
+ghost use Rattle.ktime.specs.Clocks.{after_write, IsAccepted};
 ghost use Rattle.pass_names.specs.Names.{AnswersFor};
 ghost use Rattle.clock_cell.specs.Views.{told_clock_view, joined_clock_view};
 ghost use Rattle.clock_cell.specs.Plays.{Loaded, MadeWrite};
@@ -10,9 +10,8 @@ ghost use Rattle.clock_cell.specs.Words.{cell_words};
 use crate::plays::{Child, ClockRule, Enter, Look, Note, Whole, WritePick};
 use crate::view::ClockView;
 use crate::words::cell_words;
-use clock_model::Write;
 use crossbeam_utils::atomic::seq_cell::{Pass, RuledSeqCell};
-use ktime::Reading;
+use ktime::{Reading, Write};
 use std::sync::Wait;
 
 pub type ClockCell = RuledSeqCell<[u64; 5], ClockView, ClockRule, 5>;

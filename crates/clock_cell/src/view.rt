@@ -1,5 +1,5 @@
 //! What is known of a clock by a pass, as plain data. No value of it is made.
-use clock_model::Write;
+use ktime::Write;
 use pass_names::Pass;
 use std::collections::LinkedList;
 

@@ -10,10 +10,10 @@ mod turns;
 
 use bench_cases::Task;
 use counted_row::{Row, RowPass};
-use table_uses::Counter;
 use report::{VALUES, report};
 use std::alloc::{AllocError, Global};
 use std::io;
+use table_uses::Counter;
 
 /// So many counters at 0, and the first pass.
 fn counters(alloc: Global, count: usize) -> Result<(Row<Counter>, RowPass<Counter>), AllocError>

@@ -5,11 +5,11 @@ ghost use Rattle.counted_row_bench.specs.Alone.{IsAlone};
 use crate::turns::{Ending, run};
 use bench_cases::{Figure, Least, Task};
 use counted_row::{Row, RowPass};
-use table_uses::Counter;
 use std::io;
 use std::sync::Wait;
 use std::thread::Threads;
 use std::time::{Clock, Instant};
+use table_uses::Counter;
 
 /// How many values the row has: as many as the greatest row that is promised.
 pub const VALUES: usize = 4096;

@@ -5,9 +5,9 @@ ghost use Rattle.table_uses.specs.Counters.{Made};
 ghost use Rattle.counted_row_bench.specs.Alone.{IsAlone};
 
 use counted_row::{Row, RowPass};
-use table_uses::{Counter, count};
 use std::sync::Wait;
 use std::thread::{Threads, join_mut};
+use table_uses::{Counter, count};
 
 /// How a lock is let go.
 #[derive(Clone, Copy, Debug, PartialEq, Eq)]

@@ -32,7 +32,7 @@ use Rattle.record_text.specs.declared.record.ObjectEntry.{ObjectEntry}
 use Rattle.run_history.specs.Told.{observed}
 use Rattle.run_history.specs.Histories.{answers_of, reading_at, timer_after, timer_labels}
 use Rattle.script_text.specs.Declarations.{declared_of, terms_of}
-use Rattle.run_history.specs.Order.{CallInRound, calls_of, is_before, is_label, IsInOrder, IsLabel, IsPoint, IsWithin, made_by, round_of}
+use Rattle.run_history.specs.Order.{CallInRound, calls_of, is_before, is_label, IsInOrder, IsLabel, IsPoint, StandsWithin, made_by, round_of}
 use Rattle.run_history.specs.Witnesses.{Witness, Move, OfTimer, Shown, labels, owner_of, timer_along, TimersList, witness_with}
 use Rattle.fit_laws.specs.EachTimer.{HasTimers, FitsTimers, IsOwnPoint, TookNextDue, WasRefused, WasSo, WasTold}
 use Rattle.run_history.specs.Fits.{Fits, FitsCall, FitsIn, FitsLane, Seen, unseen}
@@ -142,7 +142,7 @@ ordered s (l ∷ ls) zero (suc q) x y order at_p at_q less =
 ordered s (l ∷ ls) (suc p) (suc q) x y order at_p at_q less = ordered s ls p q x y order.1 at_p at_q (omega (arith, less))
 
 -- the place of an own entry is within the call's bounds
-pub within_at : (s : Script) (c : Label) (ls : List Label) (p : ℕ) → IsInOrder s ls → slice_get ls p ≡ Some c → IsWithin s c p ls
+pub within_at : (s : Script) (c : Label) (ls : List Label) (p : ℕ) → IsInOrder s ls → slice_get ls p ≡ Some c → StandsWithin s c p ls
 within_at s c ls p order there = record {
   small = omega (arith, slice_get_within ls p c there);
   before = each_take (λ x. is_before s c x ≡ false) p ls (λ q x at less. ordered s ls q p x c order at there less);

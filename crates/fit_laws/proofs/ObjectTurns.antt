@@ -10,7 +10,7 @@ use Rattle.run_history.specs.Fits.{FitsIn}
 use Rattle.run_history.specs.Objects.{lines_of_object}
 use Rattle.run_history.specs.Truths.{HadEntries}
 use Rattle.run_history.specs.Witnesses.{CountersList, Move, Owner, ShownLine, Witness, is_owner, line_of_object, lines_at, moves_from, moves_on, owner_of, twice}
-use Rattle.fit_laws.specs.ObjectTurns.{BeginsTurn, EndsTurn}
+use Rattle.fit_laws.specs.ObjectTurns.{TurnBeginsAt, TurnEndsAt}
 use Rattle.fit_laws.proofs.Moments.{rises_counted}
 use Rattle.fit_laws.proofs.OwnPoints.{before_there}
 use Rattle.fit_laws.proofs.OwnParts.{before_at, on_here, on_place, on_rises}
@@ -55,8 +55,8 @@ second_of b zero (suc (suc p)) (l ∷ lines) m even at = absurd (omega (arith, e
 second_of b (suc k) (suc (suc p)) (l ∷ lines) m even at = second_of (b + 1 + 1) k p lines m (omega (arith, even)) at
 
 -- law: a turn that began before such a moment has ended before it
-pub turn_ended : (w : Witness) → FitsIn w → (i entries n : ℕ) → HadEntries w i entries n → (c : Label) (stamp begun : ℕ) → BeginsTurn w i c stamp begun
-    → begun < n → (ended : ℕ) × (begun < ended) × (ended < n) × EndsTurn w i c stamp ended
+pub turn_ended : (w : Witness) → FitsIn w → (i entries n : ℕ) → HadEntries w i entries n → (c : Label) (stamp begun : ℕ) → TurnBeginsAt w i c stamp begun
+    → begun < n → (ended : ℕ) × (begun < ended) × (ended < n) × TurnEndsAt w i c stamp ended
 turn_ended w f i entries n had c stamp begun turn less =
     let o = CountersList (suc i) in
     let lines = map (line_of_object i) (lines_of_object w.run i) in

@@ -28,15 +28,15 @@ use Rattle.run_history.specs.Actions.{Action, Made, also, made, own}
 use Rattle.run_history.specs.Fits.{Fits, FitsCall, FitsIn, FitsLane, Seen, unseen}
 use Rattle.run_history.specs.Histories.{answers_of}
 use Rattle.run_history.specs.Objects.{lines_of_object, object_labels}
-use Rattle.run_history.specs.Order.{CallInRound, calls_of, is_before, is_label, IsLabel, IsWithin}
-use Rattle.run_history.specs.Signals.{IsQueued, most_signals, SignalMove, popped_by, pushed_in, pushed_with, signal_labels, turns_in, waiting_at}
+use Rattle.run_history.specs.Order.{CallInRound, calls_of, is_before, is_label, IsLabel, StandsWithin}
+use Rattle.run_history.specs.Signals.{SendsSignals, most_signals, SignalMove, popped_by, pushed_in, pushed_with, signal_labels, turns_in, waiting_at}
 use Rattle.run_history.specs.Calls.{AnswerHolds, Does}
 use Rattle.run_history.specs.Truths.{IsTrueEntry, SawWaiting, WasOffLine}
 use Rattle.run_history.specs.Witnesses.{Evacuation, Fired, Witness, witness_with}
 use Rattle.run_history.proofs.Items.{Among, RiseIn, own_rises, stands_own}
 use Rattle.run_history.proofs.Labels.{label_itself, same_label}
 use Rattle.run_history.proofs.Lists.{all_at, at_map}
-use Rattle.fit_laws.specs.Signals.{AreDistinct, FoundFull, IsAnswer, IsCounted, IsNamedBy, IsOverflow, NamedBefore, NamedNoLater, Names, Sent, SentBefore, SentNoLater}
+use Rattle.fit_laws.specs.Signals.{AreDistinct, FoundFull, WasAnswered, IsCounted, IsNamedBy, IsOverflow, NamedBefore, NamedNoLater, Names, Sent, SentBefore, SentNoLater}
 use Rattle.fit_laws.proofs.ObjectOrder.{objects_called}
 use Rattle.fit_laws.proofs.EachTimer.{not_before_itself, ordered, true_at, within_at}
 use Rattle.fit_laws.proofs.SignalLists.{HasTurn, HasTurnAt, among_all, among_either, among_left, among_numbered, among_right, among_things, at_early, at_late, distinct_first, distinct_left, distinct_right, each_among, few_among, first_turn, is_popped, is_pushed, none_among, none_from, not_in_both, one_later, own_line, popped_is, popped_once, pushed_is, room_found, same_before, split_first, split_turns, turn_among, turn_first, whole_at}
@@ -92,11 +92,11 @@ none_pushed a = refl
 
 -- an entry pushed this signal
 pushes : (k : Kind) (i number : ℕ) (entry : ObjectEntry) (t : Turn) → Among t (pushed_with k i number entry)
-    → IsQueued k × IsCounted entry × (t ≡ Pushed (record { timer = i; number = number }))
+    → SendsSignals k × IsCounted entry × (t ≡ Pushed (record { timer = i; number = number }))
 pushes (kinds.Queued base) i number (entries.Trigger generation reading true) t here = (tt, tt, ⊎_elim (λ is. is) (λ none. absurd none) here)
 pushes k i number entry t here = absurd here
 
-counted_pushes : (k : Kind) (i number : ℕ) (entry : ObjectEntry) → IsQueued k → IsCounted entry
+counted_pushes : (k : Kind) (i number : ℕ) (entry : ObjectEntry) → SendsSignals k → IsCounted entry
     → pushed_with k i number entry ≡ Pushed (record { timer = i; number = number }) ∷ []
 counted_pushes (kinds.Queued base) i number (entries.Trigger generation reading true) queued counted = refl
 counted_pushes (kinds.Queued base) i number entry queued counted = absurd counted
@@ -104,7 +104,7 @@ counted_pushes k i number entry queued counted = absurd queued
 
 -- a call made a queued timer's entry that counted
 pub record MadeCounted (s : Script) (ds : List Action) (x : Signal) : Type 0 where
-  pub queued : IsQueued (kind_of s x.timer)
+  pub queued : SendsSignals (kind_of s x.timer)
   pub entry : ObjectEntry
   pub counted : IsCounted entry
   pub among : Among (x.number, entry) (made x.timer ds)
@@ -128,7 +128,7 @@ pushed_made s (Made i number entry ∷ ds) x here = ⊎_elim
     (λ more. made_more i number entry (pushed_made s ds x more))
     (among_either (Pushed x) (pushed_with (kind_of s i) i number entry) (pushed_in s ds) here)
   where
-    by_this : IsQueued (kind_of s i) × IsCounted entry × (Pushed x ≡ Pushed (record { timer = i; number = number }))
+    by_this : SendsSignals (kind_of s i) × IsCounted entry × (Pushed x ≡ Pushed (record { timer = i; number = number }))
         → MadeCounted s (Made i number entry ∷ ds) x
     by_this is =
         let same : record { timer = i; number = number } ≡ x = cc in
@@ -142,7 +142,7 @@ pushed_made s (d ∷ ds) x here =
     let m = pushed_made s ds x here in record { queued = m.queued; entry = m.entry; counted = m.counted; among = m.among }
 
 -- and by each such entry it pushed
-pub made_pushed : (s : Script) (ds : List Action) (i number : ℕ) (entry : ObjectEntry) → Among (number, entry) (made i ds) → IsQueued (kind_of s i)
+pub made_pushed : (s : Script) (ds : List Action) (i number : ℕ) (entry : ObjectEntry) → Among (number, entry) (made i ds) → SendsSignals (kind_of s i)
     → IsCounted entry → Among (Pushed (record { timer = i; number = number })) (pushed_in s ds)
 made_pushed s [] i number entry here queued counted = absurd here
 made_pushed s (Made j n e ∷ ds) i number entry here queued counted =
@@ -158,7 +158,7 @@ made_pushed s (Made j n e ∷ ds) i number entry here queued counted =
     by_this : j ≡ i → number ≡ n → entry ≡ e → Among (Pushed (record { timer = i; number = number })) (pushed_in s (Made j n e ∷ ds))
     by_this of same such =
         let one : pushed_with (kind_of s j) j n e ≡ Pushed (record { timer = j; number = n }) ∷ [] =
-        counted_pushes (kind_of s j) j n e (subst (λ j. IsQueued (kind_of s j)) (sym of) queued) (subst IsCounted such counted) in
+        counted_pushes (kind_of s j) j n e (subst (λ j. SendsSignals (kind_of s j)) (sym of) queued) (subst IsCounted such counted) in
         among_left _ (pushed_with (kind_of s j) j n e) (pushed_in s ds) (subst (Among (Pushed (record { timer = i; number = number }))) (sym one)
         (inl (ap {A = ℕ} (λ k. Pushed (record { timer = k; number = number })) (sym of) ∙ ap {A = ℕ} (λ k. Pushed (record { timer = j; number = k })) same)))
 made_pushed s (d ∷ ds) i number entry here queued counted = made_pushed s ds i number entry here queued counted
@@ -246,11 +246,11 @@ answer_at w lane start (suc k) before (p ∷ ps) (g ∷ given) fits less =
 
 module _ (w : Witness) (f : FitsIn w) where
   -- law: each answer is that of a call that fits
-  pub answer_fits : (c : Label) (a : Answer) → IsAnswer w.run c a → FitsAnswer w c a
+  pub answer_fits : (c : Label) (a : Answer) → WasAnswered w.run c a → FitsAnswer w c a
   answer_fits c a at = fits_at w c.lane 0 c.call c.call unseen (calls_of w.script c.lane) (answers_of w.run c.lane) a (f.calls c.lane) (omega arith) at
 
   -- law: each call has an answer
-  pub label_answer : (c : Label) → IsLabel w.script c → (a : Answer) × IsAnswer w.run c a
+  pub label_answer : (c : Label) → IsLabel w.script c → (a : Answer) × WasAnswered w.run c a
   label_answer c is = answer_at w c.lane 0 c.call unseen (calls_of w.script c.lane) (answers_of w.run c.lane) (f.calls c.lane) is
 
   module _ (c : Label) (a : Answer) (fa : FitsAnswer w c a) where
@@ -464,7 +464,7 @@ module _ (w : Witness) (f : FitsIn w) where
       (subst AreDistinct (whole most_signals [] turns f.signals.legal) all_once)) a.1 b.1
 
   -- what waits, or is popped, behind these turns
-  module _ (c : Label) (n : ℕ) (within : IsWithin w.script c n (signal_labels w.signals)) where
+  module _ (c : Label) (n : ℕ) (within : StandsWithin w.script c n (signal_labels w.signals)) where
     -- a call of which a turn stands behind these wasn't over before
     late_call : (p : ℕ) (d : Label) (turn : Turn) → HasTurnAt w.signals p d turn → n ≤ p → is_before w.script d c ≡ false
     late_call p d turn t more =
@@ -635,7 +635,7 @@ pub signals_in_turn : (s : Script) (r : RunRecord) → Fits s r → (c d : Label
 signals_in_turn s r (moves, signals, traces, fits) = named_in_turn (witness_with s r moves signals traces) fits
 
 -- law: where none is found, none is left of those that were sent before
-pub found_empty : (s : Script) (r : RunRecord) → Fits s r → (c : Label) → IsAnswer r c answers.NoneQueued → (x : Signal) → SentBefore s r c x
+pub found_empty : (s : Script) (r : RunRecord) → Fits s r → (c : Label) → WasAnswered r c answers.NoneQueued → (x : Signal) → SentBefore s r c x
     → NamedNoLater s r c x
 found_empty s r (moves, signals, traces, fits) c at =
     let w = witness_with s r moves signals traces in

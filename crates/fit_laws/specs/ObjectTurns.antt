@@ -13,9 +13,9 @@ pub record HasTurnMove (w : Witness) (i : ℕ) (c : Label) (before place : ℕ) 
   pub count : move.before ≡ before
 
 -- the call's turn of the object, behind so many entries of it, begins behind so many moves
-abbrev pub BeginsTurn : Witness → ℕ → Label → ℕ → ℕ → Type 0
-BeginsTurn w i c stamp place = HasTurnMove w i c (stamp + stamp) place
+abbrev pub TurnBeginsAt : Witness → ℕ → Label → ℕ → ℕ → Type 0
+TurnBeginsAt w i c stamp place = HasTurnMove w i c (stamp + stamp) place
 
 -- and ends there, with the call's entry
-abbrev pub EndsTurn : Witness → ℕ → Label → ℕ → ℕ → Type 0
-EndsTurn w i c stamp place = HasTurnMove w i c (stamp + stamp + 1) place
+abbrev pub TurnEndsAt : Witness → ℕ → Label → ℕ → ℕ → Type 0
+TurnEndsAt w i c stamp place = HasTurnMove w i c (stamp + stamp + 1) place

@@ -14,7 +14,7 @@ use Rattle.signal_queue.specs.declared.signal.Signal.{Signal}
 use Rattle.run_history.specs.Histories.{answers_of}
 use Rattle.run_history.specs.Objects.{lines_of_object}
 use Rattle.run_history.specs.Order.{is_before}
-use Rattle.run_history.specs.Signals.{IsQueued}
+use Rattle.run_history.specs.Signals.{SendsSignals}
 
 -- by this entry an expiry counted
 abbrev pub IsCounted : ObjectEntry → Type 0
@@ -37,7 +37,7 @@ pub record MadeEntry (r : RunRecord) (c : Label) (i number : ℕ) (IsSuch : Obje
 
 -- a call sent the signal: an expiry of its queued timer counted, by the call's entry of its number
 pub record Sent (s : Script) (r : RunRecord) (c : Label) (x : Signal) : Type 0 where
-  pub queued : IsQueued (kind_of s x.timer)
+  pub queued : SendsSignals (kind_of s x.timer)
   pub made : MadeEntry r c x.timer x.number IsCounted
 
 -- an expiry of the call found no room for its signal
@@ -45,8 +45,8 @@ abbrev pub FoundFull : RunRecord → Label → Type 0
 FoundFull r c = (i : ℕ) × (number : ℕ) × MadeEntry r c i number IsOverflow
 
 -- the call was answered so
-abbrev pub IsAnswer : RunRecord → Label → Answer → Type 0
-IsAnswer r c answer = slice_get (answers_of r c.lane) c.call ≡ Some answer
+abbrev pub WasAnswered : RunRecord → Label → Answer → Type 0
+WasAnswered r c answer = slice_get (answers_of r c.lane) c.call ≡ Some answer
 
 -- the answer names the signal: as the next one, or as stale, or as one of a timer whose history is full
 abbrev pub IsNamedBy : Answer → Signal → Type 0
@@ -57,7 +57,7 @@ IsNamedBy answer x = ⊥
 
 -- the call's answer names the signal
 abbrev pub Names : RunRecord → Label → Signal → Type 0
-Names r c x = (answer : Answer) × IsAnswer r c answer × IsNamedBy answer x
+Names r c x = (answer : Answer) × WasAnswered r c answer × IsNamedBy answer x
 
 -- the signal was sent by a call that was over before this one
 abbrev pub SentBefore : Script → RunRecord → Label → Signal → Type 0

@@ -18,10 +18,10 @@ ghost use Rattle.run_history.specs.Signals.{most_signals};
 ghost use Rattle.run_history.specs.Truths.{HadEntries};
 ghost use Rattle.run_history.specs.Witnesses.{Witness};
 ghost use Rattle.fit_laws.specs.EachTimer.{HasTimers};
-ghost use Rattle.fit_laws.specs.ObjectTurns.{BeginsTurn, EndsTurn};
+ghost use Rattle.fit_laws.specs.ObjectTurns.{TurnBeginsAt, TurnEndsAt};
 ghost use Rattle.signal_queue.specs.declared.signal.Signal.{Signal};
 ghost use Rattle.fit_laws.specs.Readings.{HadSeen, HasEntryAt, HasWriteAt, TakesReading};
-ghost use Rattle.fit_laws.specs.Signals.{AreDistinct, FoundFull, IsAnswer, NamedBefore, NamedNoLater, Names, Sent, SentBefore, SentNoLater};
+ghost use Rattle.fit_laws.specs.Signals.{AreDistinct, FoundFull, WasAnswered, NamedBefore, NamedNoLater, Names, Sent, SentBefore, SentNoLater};
 
 /// A record that fits is right of each timer by itself: its list is a history of such a timer, and what calls did and were told was so by that list.
 pub fn a_record_that_fits_is_right_of_each_timer()
@@ -38,8 +38,8 @@ pub fn entries_of_an_object_keep_the_order_of_calls()
 /// In the order by which a record fits, each turn of an object that began before a moment at which the object had so many entries ends before that moment,
 /// by its call's entry. So what a call tells of an object holds while no other call has its turn of it.
 pub fn no_call_has_its_turn_of_an_object_that_is_told_of()
-    ensures { (w : Witness) → FitsIn w → (i entries n : ℕ) → HadEntries w i entries n → (c : Label) (stamp begun : ℕ) → BeginsTurn w i c stamp begun → begun < n
-        → (ended : ℕ) × (begun < ended) × (ended < n) × EndsTurn w i c stamp ended }
+    ensures { (w : Witness) → FitsIn w → (i entries n : ℕ) → HadEntries w i entries n → (c : Label) (stamp begun : ℕ) → TurnBeginsAt w i c stamp begun → begun < n
+        → (ended : ℕ) × (begun < ended) × (ended < n) × TurnEndsAt w i c stamp ended }
 {}
 
 /// A record that fits a script of version 1 has no slack: a soft expiry is the expiry. The text of such a record shows neither.
@@ -88,7 +88,7 @@ pub fn a_signal_that_was_sent_before_a_named_one_is_named()
 /// In a record that fits a call that found no signal left none that was sent before: each signal that was sent by a call that was over before is named, by a
 /// call that didn't begin only after this one was over.
 pub fn a_queue_that_was_found_empty_had_no_signal_that_was_sent_before()
-    ensures { (s : Script) (r : RunRecord) → Fits s r → (c : Label) → IsAnswer r c answers.NoneQueued → (x : Signal) → SentBefore s r c x
+    ensures { (s : Script) (r : RunRecord) → Fits s r → (c : Label) → WasAnswered r c answers.NoneQueued → (x : Signal) → SentBefore s r c x
         → NamedNoLater s r c x }
 {}
 

@@ -22,7 +22,7 @@ use Rattle.base_row.specs.Logs.{all_pushed, receipts_of}
 use Rattle.base_row.proofs.Calling.{seen_same}
 use Rattle.hr_timers.specs.declared.moving.Arrival.{Arrival}
 use Rattle.hr_timers.specs.Calls.{entry_by}
-use Rattle.hr_timers.specs.Known.{AddsBehind, Looks, timer_then}
+use Rattle.hr_timers.specs.Known.{AddsBehind, OnlySeesMore, timer_then}
 use Rattle.hr_timers.specs.Logged.{IsLogged}
 use Rattle.hr_timers.specs.Moves.{Arrives, StartsBy, arrival_of}
 use Rattle.hr_timers.specs.Ways.{asking, last_of, most_to_arrive, standing_then, start_on}
@@ -58,7 +58,7 @@ module _ {A : Type 0} (put : A → Receipt → A) (o : Opening) where
   logged_more t x y e es s s' s'' is first second = second ∙ (λ i. all_pushed put (first i) (receipts_of t (is i) es))
 
   -- looks before, which show nothing of the timer
-  pub arrives_before : (u v w : BaseView BaseContent) (t : ℕ) (asked : Asked) (a : Arrival) (s s' : A) → Looks u v
+  pub arrives_before : (u v w : BaseView BaseContent) (t : ℕ) (asked : Asked) (a : Arrival) (s s' : A) → OnlySeesMore u v
       → entries_of t v.seen ≡ entries_of t u.seen → Arrives put o v w t asked a s s' → Arrives put o u w t asked a s s'
   arrives_before u v w t asked a s s' looks steady r =
       let same : rows.timer_seen o v t ≡ rows.timer_seen o u t = seen_same o u v t steady in

@@ -14,7 +14,7 @@ use Rattle.base_row.specs.declared.view.HeldContent.{HeldContent}
 use Rattle.base_row.specs.declared.view.Opening.{Opening}
 use Rattle.base_row.proofs.Holding.{kept_state, knows_about, shown_state}
 use Rattle.hr_timers.specs.Calls.{tells_running}
-use Rattle.hr_timers.specs.Known.{HoldsTimer, KnownOfTimers, Looks}
+use Rattle.hr_timers.specs.Known.{HoldsTimer, KnownOfTimers, OnlySeesMore}
 use Rattle.hr_timers.specs.Logged.{CancelsBehind, CancelsLogged, RisesUnlessRunning}
 use Rattle.hr_timers.proofs.Logging.{cancels_before}
 use Rattle.hr_timers.proofs.Making.{looks_on, looks_trans}
@@ -42,7 +42,7 @@ holds_still r p q h t holds row sees knows knows' =
     )
 
 module _ {A : Type 0} (put : A → Receipt → A) (o : Opening) (u v : BaseView BaseContent) (w : KnownOfTimers) (t counter from : ℕ) (a : CancelAnswer) (s s' : A)
-    (looks : Looks u v) where
+    (looks : OnlySeesMore u v) where
   -- law: no rise where the timer's function was running
   pub behind_none : tells_running a ≡ true → CancelsLogged put o (rows.known_of v) w t a s s' → CancelsBehind put o counter from (rows.known_of u) w t a s s'
   behind_none runs c = record { risen = rows.known_of u; rises = none a runs; cancels = cancels_before put o u v w t a s s' looks c }
@@ -53,7 +53,7 @@ module _ {A : Type 0} (put : A → Receipt → A) (o : Opening) (u v : BaseView 
       none (cancels.Cancelled g n) runs = absurd (true≢false (sym runs))
 
   -- law: else one, and then the cancel
-  pub behind_rise : (x : BaseView BaseContent) → Looks v x → RisesFrom counter from v.seen x.seen → tells_running a ≡ false
+  pub behind_rise : (x : BaseView BaseContent) → OnlySeesMore v x → RisesFrom counter from v.seen x.seen → tells_running a ≡ false
       → CancelsLogged put o (rows.known_of x) w t a s s' → CancelsBehind put o counter from (rows.known_of u) w t a s s'
   behind_rise x more rose still c = record { risen = rows.known_of x; rises = by_answer a still; cancels = c }
     where

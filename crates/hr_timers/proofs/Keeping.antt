@@ -30,7 +30,7 @@ use Rattle.base_row.specs.Rules.{base_place}
 use Rattle.base_row.specs.Plays.{KnowsBases, KnowsOwn}
 use Rattle.seq_timer.specs.Systems.{IsOn}
 use Rattle.hr_timers.proofs.Standing.{knows_in}
-use Rattle.hr_timers.specs.Known.{Looks}
+use Rattle.hr_timers.specs.Known.{OnlySeesMore}
 use Rattle.std.proofs.Math.Pow.{pow_mono}
 use Rattle.std.proofs.Math.Nat.{pow-suc}
 use Rattle.std.proofs.lemmas.Nat.{pow_pos}
@@ -122,10 +122,10 @@ module _ (o : Opening) (h g : HeldContent BaseContent) (event : BaseEvent) (v w 
 
 -- ---- looks before
 
-pub looks_keeps : (u v w : BaseView BaseContent) → Looks u v → Steady u v → Looks v w → KeepsBases (rows.known_of v) (rows.known_of w) → Looks u w × KeepsBases (rows.known_of u) (rows.known_of w)
+pub looks_keeps : (u v w : BaseView BaseContent) → OnlySeesMore u v → Steady u v → OnlySeesMore v w → KeepsBases (rows.known_of v) (rows.known_of w) → OnlySeesMore u w × KeepsBases (rows.known_of u) (rows.known_of w)
 looks_keeps u v w first steady second keeps = (looks_trans u v w first second, keeps_trans u v w steady.shifts keeps first.id)
 
-pub looks_shifts : (o : Opening) (u v w : BaseView BaseContent) (b : ℕ) (e : BaseEvent) → u.id.name ≡ [] → Looks u v → Steady u v
+pub looks_shifts : (o : Opening) (u v w : BaseView BaseContent) (b : ℕ) (e : BaseEvent) → u.id.name ≡ [] → OnlySeesMore u v → Steady u v
     → ShiftsBase o (rows.known_of v) (rows.known_of w) b e → ShiftsBase o (rows.known_of u) (rows.known_of w) b e
 looks_shifts o u v w b e name looks steady told = record {
   seen = begins_trans looks.seen told.seen;

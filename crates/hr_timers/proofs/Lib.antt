@@ -18,3 +18,5 @@ pub mod Ends
 pub mod Answered
 pub mod Claims
 pub mod Hindered
+pub mod ExpiryTurns
+pub mod ExpiryEnds

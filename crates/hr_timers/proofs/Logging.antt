@@ -25,7 +25,7 @@ use Rattle.hr_timers.specs.declared.answer.StartAnswer.{StartAnswer}
 use Rattle.hr_timers.specs.declared.answer.StartAnswer.TheVariants as starts
 use Rattle.hr_timers.specs.declared.answer.ClaimAnswer.TheVariants as claimings
 use Rattle.hr_timers.specs.declared.numbers.ClaimNumbers.{ClaimNumbers}
-use Rattle.hr_timers.specs.Known.{AddsBehind, KnownOfTimers, Looks, MadeAt, claimed_as, count_of, timer_then}
+use Rattle.hr_timers.specs.Known.{AddsBehind, KnownOfTimers, OnlySeesMore, MadeAt, claimed_as, count_of, timer_then}
 use Rattle.hr_timers.specs.Calls.{StartFits, entry_by, start_entries}
 use Rattle.hr_timers.specs.Ways.{IsWay, asking, most_to_start}
 use Rattle.hr_timers.proofs.Arriving.{arrive_least, arrive_some}
@@ -39,7 +39,7 @@ use Rattle.hr_timers.proofs.Standing.{claim_runs}
 -- ---- the room for a start
 
 pub room_to_start : (o : Opening) (u v : BaseView BaseContent) (t room base low : ℕ) → rows.AreFresh o.timers
-    → plays.KnowsBases o v → t < length o.timers → Looks u v → low ≤ base → HasRoomToStart o (rows.known_of u) t base room
+    → plays.KnowsBases o v → t < length o.timers → OnlySeesMore u v → low ≤ base → HasRoomToStart o (rows.known_of u) t base room
     → (if is_some (rows.timer_seen o v t).running then 1 else most_to_start (rows.timer_seen o v t).terms low) ≤ room
 room_to_start o u v t room base low fresh knows within looks below (inl most) =
     at (is_some (rows.timer_seen o v t).running)
@@ -65,7 +65,7 @@ module _ {A : Type 0} (put : A → Receipt → A) (o : Opening) where
 
   -- and the way from the base that is asked for to the one that is asked for then
   pub starts_before : (u v : BaseView BaseContent) (w : KnownOfTimers) (t : ℕ) (asked : Asked) (base : ℕ) (path : List ℕ) (a : StartAnswer) (s s' : A)
-      → Looks u v → IsWay o u.seen v.seen asked.base path base
+      → OnlySeesMore u v → IsWay o u.seen v.seen asked.base path base
       → StartsLogged put o (rows.known_of v) w t (asking asked base) a s s' → StartsLogged put o (rows.known_of u) w t asked a s s'
   starts_before u v w t asked base path a s s' looks way c =
       let r = c.starts in record {
@@ -91,7 +91,7 @@ module _ {A : Type 0} (put : A → Receipt → A) (o : Opening) where
       fits_same x sent last (starts.Started was_armed generation to outs placement) fits = fits
       fits_same x sent last (starts.Spent n) fits = fits
 
-  pub cancels_before : (u v : BaseView BaseContent) (w : KnownOfTimers) (t : ℕ) (a : CancelAnswer) (s s' : A) → Looks u v
+  pub cancels_before : (u v : BaseView BaseContent) (w : KnownOfTimers) (t : ℕ) (a : CancelAnswer) (s s' : A) → OnlySeesMore u v
       → CancelsLogged put o (rows.known_of v) w t a s s' → CancelsLogged put o (rows.known_of u) w t a s s'
   cancels_before u v w t a s s' looks c =
       let r = c.cancels in record {
@@ -100,7 +100,7 @@ module _ {A : Type 0} (put : A → Receipt → A) (o : Opening) where
       }
 
   pub claims_before : (u v : BaseView BaseContent) (w : KnownOfTimers) (x : Context) (base : ℕ) (reading : ClockReading) (n : ClaimNumbers) (s s' : A)
-      → Looks u v → ClaimsLogged put o (rows.known_of v) w x base reading (claimings.Claimed n) s s'
+      → OnlySeesMore u v → ClaimsLogged put o (rows.known_of v) w x base reading (claimings.Claimed n) s s'
       → ClaimsLogged put o (rows.known_of u) w x base reading (claimings.Claimed n) s s'
   claims_before u v w x base reading n s s' looks c =
       let r = c.claims in record {
@@ -122,7 +122,7 @@ module _ {A : Type 0} (put : A → Receipt → A) (o : Opening) where
       }
 
   pub forwards_before : (u v : BaseView BaseContent) (w : KnownOfTimers) (n : ClaimNumbers) (reading : ClockReading) (interval : ℕ) (a : ForwardAnswer)
-      (s s' : A) → Looks u v → ForwardsLogged put o (rows.known_of v) w n reading interval a s s'
+      (s s' : A) → OnlySeesMore u v → ForwardsLogged put o (rows.known_of v) w n reading interval a s s'
       → ForwardsLogged put o (rows.known_of u) w n reading interval a s s'
   forwards_before u v w n reading interval a s s' looks c =
       let r = c.forwards in record {

@@ -19,17 +19,17 @@ use Rattle.base_row.specs.declared.view.BaseView.{BaseView}
 use Rattle.base_row.specs.Calls as rows
 use Rattle.base_row.specs.Plays.{carried_by, carry_after}
 use Rattle.base_row.proofs.Calling.{extends_appended, looks_freed, seen_after}
-use Rattle.hr_timers.specs.Known.{AddsBehind, KnownOfTimers, Looks, MadeAt}
+use Rattle.hr_timers.specs.Known.{AddsBehind, KnownOfTimers, OnlySeesMore, MadeAt}
 use Rattle.hr_timers.specs.Calls.{entry_by}
 use Rattle.hr_timers.proofs.Locks.{locks_got, locks_missed, locks_refl, locks_seen, locks_trans}
 
 -- ---- looks
 
-pub looks_refl : (v : BaseView BaseContent) → Looks v v
+pub looks_refl : (v : BaseView BaseContent) → OnlySeesMore v v
 looks_refl v =
     record { seen = begins_refl v.seen; mine = refl; id = refl; claims = refl; carry = refl; locks = locks_refl v.takes v.met }
 
-pub looks_trans : (u v w : BaseView BaseContent) → Looks u v → Looks v w → Looks u w
+pub looks_trans : (u v w : BaseView BaseContent) → OnlySeesMore u v → OnlySeesMore v w → OnlySeesMore u w
 looks_trans u v w a b = record {
   seen = begins_trans a.seen b.seen;
   mine = b.mine ∙ a.mine;
@@ -39,7 +39,7 @@ looks_trans u v w a b = record {
   locks = locks_trans a.locks b.locks;
 }
 
-pub looks_seen : (v w : BaseView BaseContent) → rows.SeesFurther v w → Looks v w
+pub looks_seen : (v w : BaseView BaseContent) → rows.SeesFurther v w → OnlySeesMore v w
 looks_seen v w s = record {
   seen = s.seen;
   mine = ap (λ (y : BaseView BaseContent). y.mine) s.rest;
@@ -49,7 +49,7 @@ looks_seen v w s = record {
   locks = locks_seen v w s;
 }
 
-pub looks_locked : (base : ℕ) (v w : BaseView BaseContent) (h : HeldContent BaseContent) → rows.GetsBase base v w h → Looks v w
+pub looks_locked : (base : ℕ) (v w : BaseView BaseContent) (h : HeldContent BaseContent) → rows.GetsBase base v w h → OnlySeesMore v w
 looks_locked base v w h l = record {
   seen = l.seen;
   mine = ap (λ (y : BaseView BaseContent). y.mine) l.rest;
@@ -59,7 +59,7 @@ looks_locked base v w h l = record {
   locks = locks_got base v w h l;
 }
 
-pub looks_missed : (base : ℕ) (v w : BaseView BaseContent) → rows.MissesBase base v w → Looks v w
+pub looks_missed : (base : ℕ) (v w : BaseView BaseContent) → rows.MissesBase base v w → OnlySeesMore v w
 looks_missed base v w m =
     let rest = m.waits.rest in
     record {
@@ -71,7 +71,7 @@ looks_missed base v w m =
       locks = locks_missed base v w m;
     }
 
-pub looks_on : (v w : BaseView BaseContent) → Looks v w → LooksOn (rows.known_of v) (rows.known_of w)
+pub looks_on : (v w : BaseView BaseContent) → OnlySeesMore v w → LooksOn (rows.known_of v) (rows.known_of w)
 looks_on v w l = record { seen = l.seen; mine = l.mine; id = l.id; claims = l.claims }
 
 -- ---- entries
@@ -89,7 +89,7 @@ adds_both u v w t xs ys a b = record {
 }
 
 -- looks, and then entries behind what was seen of the timer
-pub made_then : (u v w : BaseView BaseContent) (t : ℕ) (es : List seq.Entry) → Looks u v → AddsBehind v w t es
+pub made_then : (u v w : BaseView BaseContent) (t : ℕ) (es : List seq.Entry) → OnlySeesMore u v → AddsBehind v w t es
     → MadeAt (rows.known_of u) (rows.known_of w) t v.seen es
 made_then u v w t es first adds = record {
   from = first.seen;
@@ -100,7 +100,7 @@ made_then u v w t es first adds = record {
 }
 
 -- looks before a call
-pub made_before : (u v : BaseView BaseContent) (w : KnownOfTimers) (t : ℕ) (x : List SystemEntry) (es : List seq.Entry) → Looks u v
+pub made_before : (u v : BaseView BaseContent) (w : KnownOfTimers) (t : ℕ) (x : List SystemEntry) (es : List seq.Entry) → OnlySeesMore u v
     → MadeAt (rows.known_of v) w t x es → MadeAt (rows.known_of u) w t x es
 made_before u v w t x es first made = record {
   from = begins_trans first.seen made.from;

@@ -16,7 +16,7 @@ use Rattle.base_row.specs.Calls as rows
 use Rattle.base_row.specs.Plays as plays
 use Rattle.seq_timer.proofs.Agreement.{agrees}
 use Rattle.base_row.proofs.Placed.{placed_seen}
-use Rattle.hr_timers.specs.Known.{Looks, OwnsClaim}
+use Rattle.hr_timers.specs.Known.{OnlySeesMore, OwnsClaim}
 use Rattle.hr_timers.specs.declared.numbers.ClaimNumbers.{ClaimNumbers}
 
 -- what a pass of a table knows, of that table's opening
@@ -51,7 +51,7 @@ module _ (o : Opening) (v : BaseView BaseContent) (fresh : rows.AreFresh o.timer
 
 -- a claim of a pass still runs after looks
 pub still_runs : (o : Opening) (u v : BaseView BaseContent) (c : ClaimNumbers) → rows.AreFresh o.timers → v.opening ≡ o → plays.KnowsOwn v
-    → 0 < o.bases → Looks u v → OwnsClaim o (rows.known_of u) c
+    → 0 < o.bases → OnlySeesMore u v → OwnsClaim o (rows.known_of u) c
     → ((rows.timer_seen o v c.timer).running ≡ Some c.generation) × IsOn c.base (rows.timer_seen o v c.timer) × (c.base < o.bases)
 still_runs o u v c fresh is own some looks owns =
     let knows = knows_in o v is own in

@@ -9,13 +9,13 @@ use Rattle.seq_timer.specs.Systems.{BaseContent}
 use Rattle.base_row.specs.Calls as rows
 use Rattle.hr_timers.specs.declared.answer.NowAnswer.{NowAnswer}
 use Rattle.hr_timers.specs.declared.answer.NowAnswer.TheVariants as nows
-use Rattle.hr_timers.specs.Known.{KnownOfTimers, Looks, pass_of, timer_then}
+use Rattle.hr_timers.specs.Known.{KnownOfTimers, OnlySeesMore, pass_of, timer_then}
 use Rattle.hr_timers.specs.Calls.{HeldFits, LooksAt, NowFits}
 use Rattle.hr_timers.proofs.Making.{looks_on, looks_trans, made_before}
 use Rattle.pass_names.proofs.SharedHistory as shared
 
 -- looks before a call that made no entry
-looks_at_before : (u v : BaseView BaseContent) (w : KnownOfTimers) (x : List SystemEntry) → Looks u v → LooksAt (rows.known_of v) w x
+looks_at_before : (u v : BaseView BaseContent) (w : KnownOfTimers) (x : List SystemEntry) → OnlySeesMore u v → LooksAt (rows.known_of v) w x
     → LooksAt (rows.known_of u) w x
 looks_at_before u v w x first at = record {
   looks = shared.looks_trans (rows.known_of u) (rows.known_of v) w (looks_on u v first) at.looks;
@@ -24,7 +24,7 @@ looks_at_before u v w x first at = record {
 }
 
 -- a look that found the timer on this base, a look by which its lock was got, and then what was done under the lock
-pub now_from : (o : Opening) (p l m q : rows.BasePassOf) (t base : ℕ) (a : NowAnswer) → Looks p.knows l.knows → Looks l.knows m.knows
+pub now_from : (o : Opening) (p l m q : rows.BasePassOf) (t base : ℕ) (a : NowAnswer) → OnlySeesMore p.knows l.knows → OnlySeesMore l.knows m.knows
     → (timer_then o l.knows.seen t).base ≡ base → HeldFits o (pass_of m) (pass_of q) t base a
     → NowFits o (pass_of p) (pass_of q) t a
 now_from o p l m q t base (nows.Tried c) first second on fits =

@@ -16,7 +16,7 @@ use Rattle.base_row.specs.declared.view.BaseView.{BaseView}
 use Rattle.base_row.specs.declared.view.Opening.{Opening}
 use Rattle.base_row.specs.Calls as rows
 use Rattle.base_row.specs.Plays.{Steady}
-use Rattle.hr_timers.specs.Known.{AddsBehind, KnownOfTimers, Looks}
+use Rattle.hr_timers.specs.Known.{AddsBehind, KnownOfTimers, OnlySeesMore}
 use Rattle.hr_timers.specs.Logged.{IsLogged}
 use Rattle.pass_names.specs.SharedHistory.{LooksOn}
 use Rattle.hr_timers.specs.declared.answer.OfflineAnswer.{OfflineAnswer}
@@ -36,7 +36,7 @@ use Rattle.base_row.proofs.Placed.{tells_running}
 use Rattle.hr_timers.proofs.Keeping.{keeps_trans, terms_kept}
 use Rattle.hr_timers.proofs.Making.{looks_on, looks_seen, looks_trans, made_then}
 
-pub only_looks : {A : Type 0} (u v w : BaseView BaseContent) (s : A) → Looks u v → Steady u v → Looks v w
+pub only_looks : {A : Type 0} (u v w : BaseView BaseContent) (s : A) → OnlySeesMore u v → Steady u v → OnlySeesMore v w
     → KeepsBases (rows.known_of v) (rows.known_of w) → OnlyLooks (rows.known_of u) (rows.known_of w) s s
 only_looks u v w s first steady second keeps = record {
   looks = looks_on u w (looks_trans u v w first second);
@@ -138,7 +138,7 @@ spent_then o v t n most = subst (λ (k : Terms). k.limit + k.reach ≤ n) (terms
 
 module _ {A : Type 0} (put : A → Receipt → A) (o : Opening) (base heir : ℕ) (reading : ClockReading) where
   -- a timer was moved, after looks
-  pub moves_after : (u v w : BaseView BaseContent) (t : ℕ) (x : Timer) (s s' : A) → Looks u v → Steady u v → x ≡ rows.timer_seen o v t
+  pub moves_after : (u v w : BaseView BaseContent) (t : ℕ) (x : Timer) (s s' : A) → OnlySeesMore u v → Steady u v → x ≡ rows.timer_seen o v t
       → RunsNone o v.seen base → is_armed_on base (rows.timer_seen o v t) ≡ true → IsFront o v.seen base t → AddsBehind v w t (move_entries x heir reading)
       → KeepsBases (rows.known_of v) (rows.known_of w) → w.claims ≡ v.claims → IsLogged put o t v.seen (move_entries x heir reading) s s'
       → MovesTimer put o base heir reading (rows.known_of u) (rows.known_of w) t s s'

@@ -124,7 +124,7 @@ abbrev pub LocksGoOnIn : BaseView BaseContent → BaseView BaseContent → Type 
 LocksGoOnIn v w = LocksGoOnFrom v.takes w.takes v.met w.met
 
 -- a pass has seen more, and has the same name, places, claims and carry
-pub record Looks (v w : BaseView BaseContent) : Type 0 where
+pub record OnlySeesMore (v w : BaseView BaseContent) : Type 0 where
   pub seen : Begins v.seen w.seen
   pub mine : w.mine ≡ v.mine
   pub id : w.id ≡ v.id

@@ -4,3 +4,5 @@ pub mod Moves
 pub mod Calls
 pub mod Logged
 pub mod Answered
+pub mod Handlers
+pub mod Expiring

@@ -4,7 +4,7 @@ ghost use Rattle.seq_timer.specs.Histories.{IsIdle};
 ghost use Rattle.seq_timer.specs.Systems.{rises_of};
 ghost use Rattle.base_row.specs.Plays.{RisesFrom};
 ghost use Rattle.base_row.specs.Calls.{known_of, timer_seen};
-ghost use Rattle.hr_timers.specs.Known.{HoldsTimer, IsAtRest, LocksGoOnIn, Looks};
+ghost use Rattle.hr_timers.specs.Known.{HoldsTimer, IsAtRest, LocksGoOnIn, OnlySeesMore};
 ghost use Rattle.seq_timer.specs.declared.answer.CancelAnswer.TheVariants as cancels;
 ghost use Rattle.hr_timers.specs.Calls.{Cancels, tells_running};
 ghost use Rattle.hr_timers.specs.Logged.{CancelsBehind, CancelsLogged, HadRisenOtherwise};
@@ -42,7 +42,7 @@ fn look_idle(row: &BaseRow, pass: &mut Pass, timer: u32) -> Option<u64>
     requires rest { IsAtRest row.now pass.old }
     requires timer { timer < length row.now.about.timers }
     ensures rest { IsAtRest row.now pass.new }
-    ensures cancels { MatchOption result (Looks pass.old.knows pass.new.knows) (λ n. Cancels row.now.about (known_of pass.old.knows) (known_of pass.new.knows) timer (cancels.Idle n)) }
+    ensures cancels { MatchOption result (OnlySeesMore pass.old.knows pass.new.knows) (λ n. Cancels row.now.about (known_of pass.old.knows) (known_of pass.new.knows) timer (cancels.Idle n)) }
     ensures busy { IfNone result (IsIdle (timer_seen row.now.about pass.new.knows timer) → ⊥) }
     ensures locks { LocksGoOnIn pass.old.knows pass.new.knows }
 {
@@ -106,7 +106,7 @@ pub fn try_to_cancel_behind<R: Wait, S: ReceiptSink>(
     requires small { from + 1 < 2 ^ 64 }
     ensures rest { IsAtRest row.now pass.new }
     ensures cancels { MatchOption result
-        (Looks pass.old.knows pass.new.knows × HadRisenOtherwise counter from (known_of pass.old.knows) (known_of pass.new.knows) × (sink.new ≡ sink.old))
+        (OnlySeesMore pass.old.knows pass.new.knows × HadRisenOtherwise counter from (known_of pass.old.knows) (known_of pass.new.knows) × (sink.new ≡ sink.old))
         (λ a. CancelsBehind S.pushed row.now.about counter from (known_of pass.old.knows) (known_of pass.new.knows) timer a sink.old sink.new) }
     ensures locks { LocksGoOnIn pass.old.knows pass.new.knows }
     ensures room { S.room sink.old ≤ S.room sink.new + 1 }
@@ -135,7 +135,7 @@ fn step_held(
     requires counter { counter < row.now.about.counters }
     requires small { from + 1 < 2 ^ 64 }
     ensures holds { HoldsTimer row.now pass.new held.now timer }
-    ensures looks { Looks pass.old.knows pass.new.knows }
+    ensures looks { OnlySeesMore pass.old.knows pass.new.knows }
     ensures same { timer_seen row.now.about pass.new.knows timer ≡ timer_seen row.now.about pass.old.knows timer }
     ensures steps { MatchBool result (RisesFrom counter from pass.old.knows.seen pass.new.knows.seen) (rises_of counter pass.new.knows.seen ≢ from) }
 {

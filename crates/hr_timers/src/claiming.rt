@@ -4,7 +4,7 @@ ghost use Rattle.seq_timer.specs.Tables.{IsNextDue, in_context, runs_on};
 ghost use Rattle.seq_timer.specs.Contents.{running_in};
 ghost use Rattle.seq_timer.specs.Systems.{next_on};
 ghost use Rattle.base_row.specs.Calls.{base_seen, known_of, timer_seen};
-ghost use Rattle.hr_timers.specs.Known.{HoldsBase, HoldsTimer, IsAtRest, LocksGoOnIn, Looks, OwnsClaim};
+ghost use Rattle.hr_timers.specs.Known.{HoldsBase, HoldsTimer, IsAtRest, LocksGoOnIn, OnlySeesMore, OwnsClaim};
 ghost use Rattle.hr_timers.specs.declared.answer.ClaimAnswer.TheVariants as claimings;
 ghost use Rattle.hr_timers.specs.Logged.{ClaimsLogged, FinishesLogged, ForwardsLogged};
 
@@ -107,7 +107,7 @@ fn hold_claimed<R: Wait>(rt: &R, row: &BaseRow, pass: &mut Pass, claim: ClaimNum
     ensures holds { HoldsTimer row.now pass.new result claim.timer }
     ensures base { result.base ≡ claim.base }
     ensures runs { (timer_seen row.now.about pass.new.knows claim.timer).running ≡ Some claim.generation }
-    ensures looks { Looks pass.old.knows pass.new.knows }
+    ensures looks { OnlySeesMore pass.old.knows pass.new.knows }
 {
     row.fresh();
     pass.known();

@@ -8,6 +8,8 @@ mod claiming;
 mod counting;
 mod evacuable;
 mod evacuating;
+mod expiry;
+mod handler;
 mod laws;
 mod logged;
 mod moving;
@@ -20,6 +22,8 @@ mod under_lock;
 
 pub use answer::{ClaimAnswer, NowAnswer, OfflineAnswer, OnlineAnswer, StartAnswer};
 pub use base_row::{Log, Noted, Receipt, ReceiptLog, ReceiptSink, Unlogged};
+pub use expiry::{ExpireAnswer, cancel, expire, expire_in, expire_soft};
+pub use handler::{Handler, Restart};
 pub use laws::{a_call_answers_the_stamp, locks_go_on_over_calls, no_answer_is_far_past_the_limit};
 pub use numbers::ClaimNumbers;
 pub use timers::Timers;

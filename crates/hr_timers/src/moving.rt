@@ -4,7 +4,7 @@ ghost use Rattle.seq_timer.specs.Steps.{Needs, after};
 ghost use Rattle.seq_timer.specs.declared.event.EventBy.TheVariants.{Out, Start};
 ghost use Rattle.base_row.specs.Calls.{IsBasePassOf, known_of, timer_seen};
 ghost use Rattle.base_row.specs.Plays.{Steady};
-ghost use Rattle.hr_timers.specs.Known.{AddsBehind, HoldsTimer, IsAtRest, LocksGoOnIn, Looks};
+ghost use Rattle.hr_timers.specs.Known.{AddsBehind, HoldsTimer, IsAtRest, LocksGoOnIn, OnlySeesMore};
 ghost use Rattle.hr_timers.specs.Calls.{entry_by};
 ghost use Rattle.hr_timers.specs.Logged.{IsLogged};
 ghost use Rattle.hr_timers.specs.Moves.{Arrives, KeepsBases, StartsBy, arrival_of};
@@ -34,7 +34,7 @@ pub fn chase(row: &BaseRow, pass: &mut Pass, base: u32) -> u32
     requires row { IsBasePassOf row.now pass.old }
     requires within { base < row.now.about.bases }
     ensures row { IsBasePassOf row.now pass.new }
-    ensures sees { Looks pass.old.knows pass.new.knows }
+    ensures sees { OnlySeesMore pass.old.knows pass.new.knows }
     ensures held { pass.new.knows.held ≡ pass.old.knows.held }
     ensures steady { Steady pass.old.knows pass.new.knows }
     ensures low { result ≤ base }

@@ -10,7 +10,7 @@ ghost use Rattle.seq_timer.specs.Steps.{after, reply_to};
 ghost use Rattle.seq_timer.specs.Systems.{IsOn, entries_of, next_on};
 ghost use Rattle.base_row.specs.Plays.{Steady, claims_with_event};
 ghost use Rattle.base_row.specs.Calls.{base_seen, IsBasePassOf, LetsGo, MayAppend, known_of, timer_seen};
-ghost use Rattle.hr_timers.specs.Known.{AddsBehind, HoldsBase, HoldsTimer, IsAtRest, LocksGoOnIn, Looks};
+ghost use Rattle.hr_timers.specs.Known.{AddsBehind, HoldsBase, HoldsTimer, IsAtRest, LocksGoOnIn, OnlySeesMore};
 ghost use Rattle.hr_timers.specs.Calls.{SawMove, entry_by};
 ghost use Rattle.hr_timers.specs.Logged.{IsLogged};
 ghost use Rattle.hr_timers.specs.Moves.{KeepsBases};
@@ -28,7 +28,7 @@ pub fn lock<R: Wait>(rt: &R, row: &BaseRow, pass: &mut Pass, base: u32) -> HeldB
     ensures row { IsBasePassOf row.now pass.new }
     ensures at { result.base ≡ base }
     ensures held { pass.new.knows.held ≡ Some result }
-    ensures looks { Looks pass.old.knows pass.new.knows }
+    ensures looks { OnlySeesMore pass.old.knows pass.new.knows }
     ensures steady { Steady pass.old.knows pass.new.knows }
     ensures once { length pass.new.knows.takes ≡ length pass.old.knows.takes + 1 }
 {
@@ -43,7 +43,7 @@ fn try_lock(row: &BaseRow, pass: &mut Pass, base: u32) -> Option<HeldBase>
     ensures row { IsBasePassOf row.now pass.new }
     ensures at { IfSome result (λ h. h.base ≡ base) }
     ensures held { pass.new.knows.held ≡ result }
-    ensures looks { Looks pass.old.knows pass.new.knows }
+    ensures looks { OnlySeesMore pass.old.knows pass.new.knows }
 {
     row.try_lock_base(pass, base)
 }
@@ -62,7 +62,7 @@ pub fn lock_timer<R: Wait>(rt: &R, row: &BaseRow, pass: &mut Pass, timer: u32) -
     requires rest { IsAtRest row.now pass.old }
     requires timer { timer < length row.now.about.timers }
     ensures holds { HoldsTimer row.now pass.new result timer }
-    ensures looks { Looks pass.old.knows pass.new.knows }
+    ensures looks { OnlySeesMore pass.old.knows pass.new.knows }
 {
     if let Some(held) = try_lock_timer(row, pass, timer) {
         return held;
@@ -76,7 +76,7 @@ fn try_lock_timer(row: &BaseRow, pass: &mut Pass, timer: u32) -> Option<HeldBase
     requires rest { IsAtRest row.now pass.old }
     requires timer { timer < length row.now.about.timers }
     ensures holds { MatchOption result (IsAtRest row.now pass.new) (λ h. HoldsTimer row.now pass.new h timer) }
-    ensures looks { Looks pass.old.knows pass.new.knows }
+    ensures looks { OnlySeesMore pass.old.knows pass.new.knows }
 {
     let word = row.load_word(pass, timer);
     if word.moving {
@@ -96,7 +96,7 @@ fn wait_for_timer<R: Wait>(rt: &R, row: &BaseRow, pass: &mut Pass, timer: u32) -
     requires rest { IsAtRest row.now pass.old }
     requires timer { timer < length row.now.about.timers }
     ensures holds { HoldsTimer row.now pass.new result timer }
-    ensures looks { Looks pass.old.knows pass.new.knows }
+    ensures looks { OnlySeesMore pass.old.knows pass.new.knows }
 {
     for _ in Retries::new(rt) {
         if let Some(held) = lock_named(rt, row, pass, timer) {
@@ -111,7 +111,7 @@ fn lock_named<R: Wait>(rt: &R, row: &BaseRow, pass: &mut Pass, timer: u32) -> Op
     requires rest { IsAtRest row.now pass.old }
     requires timer { timer < length row.now.about.timers }
     ensures holds { MatchOption result (IsAtRest row.now pass.new) (λ h. HoldsTimer row.now pass.new h timer) }
-    ensures looks { Looks pass.old.knows pass.new.knows }
+    ensures looks { OnlySeesMore pass.old.knows pass.new.knows }
     ensures why { IfNone result (SawMove row.now.about (known_of pass.old.knows) (known_of pass.new.knows) timer) }
 {
     let word = row.load_word(pass, timer);
@@ -183,7 +183,7 @@ pub fn leave(row: &BaseRow, pass: &mut Pass, held: HeldBase, timer: u32)
     requires holds { HoldsBase row.now pass.old held }
     requires timer { timer < length row.now.about.timers }
     ensures rest { IsAtRest row.now pass.new }
-    ensures looks { Looks pass.old.knows pass.new.knows }
+    ensures looks { OnlySeesMore pass.old.knows pass.new.knows }
     ensures own { IsOn held.base (timer_seen row.now.about pass.old.knows timer) → entries_of timer pass.new.knows.seen ≡ entries_of timer pass.old.knows.seen }
 {
     unlock_base(row, pass, held);
@@ -194,7 +194,7 @@ pub fn leave_base(row: &BaseRow, pass: &mut Pass, held: HeldBase, base: u32)
     requires holds { HoldsBase row.now pass.old held }
     requires base { held.base ≡ base }
     ensures rest { IsAtRest row.now pass.new }
-    ensures looks { Looks pass.old.knows pass.new.knows }
+    ensures looks { OnlySeesMore pass.old.knows pass.new.knows }
     ensures keeps { KeepsBases (known_of pass.old.knows) (known_of pass.new.knows) }
     ensures own { (t : ℕ) → t < length row.now.about.timers → IsOn base (timer_seen row.now.about pass.old.knows t)
         → timer_seen row.now.about pass.new.knows t ≡ timer_seen row.now.about pass.old.knows t }

@@ -6,7 +6,7 @@ use Rattle.clap.specs.Words.{IsAmong, Kinds, Row, Text, fault_of, first_of, is_s
 use Rattle.clap.specs.declared.error.kind.ErrorKind.{ErrorKind}
 use Rattle.clap.proofs.OnLiterals.{clap_on_literals}
 use Rattle.script_text.specs.Reading.{number_in}
-use Rattle.hrt_top.specs.Command.{asked_by, asked_of, option_number, program}
+use Rattle.hrt_top.specs.Command.{request_in, asked_of, option_number, program}
 
 -- ---- an option's number
 
@@ -46,14 +46,14 @@ program_is_simple = refl
 
 module _ (words : List (String Global)) where
   pub asks_by_matches : (found : Option (Text × List Row)) → fault_of program (map string_bytes words) ≡ []
-      → found ≡ subcommand_of program (map string_bytes words) → asked_of found ≡ asked_by words
-  unfolding asked_by
+      → found ≡ subcommand_of program (map string_bytes words) → asked_of found ≡ request_in words
+  unfolding request_in
   asks_by_matches found none is =
       ap asked_of is
       ∙ ap (λ (ks : Kinds). if length ks == 0 then asked_of (subcommand_of program (map string_bytes words)) else None) (sym none)
 
-  pub asks_nothing : (k : ErrorKind) → IsAmong k (fault_of program (map string_bytes words)) → None ≡ asked_by words
-  unfolding asked_by
+  pub asks_nothing : (k : ErrorKind) → IsAmong k (fault_of program (map string_bytes words)) → None ≡ request_in words
+  unfolding request_in
   asks_nothing k among = go (fault_of program (map string_bytes words)) among
     where
       go : (ks : Kinds) → IsAmong k ks → None ≡ (if length ks == 0 then asked_of (subcommand_of program (map string_bytes words)) else None)

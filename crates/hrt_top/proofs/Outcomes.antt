@@ -13,7 +13,7 @@ use Rattle.std.specs.declared.option.Option.{Option}
 use Rattle.std.specs.Io.KnownBytes.{IsAtEnd, Consumes}
 use Rattle.hrt_top.specs.Transfer.{IsRead, most_bytes}
 use Rattle.hrt_top.specs.Engine.{IsScript, IsRecordText, IsRefusalText}
-use Rattle.byte_streams.specs.Streams.{Adds}
+use Rattle.byte_streams.specs.Streams.{GrowsBy}
 use Rattle.hrt_top.specs.Top.{HasRecorded, MustAnswer}
 use Rattle.hrt_top.specs.declared.status.Status.TheVariants as statuses
 use Rattle.hrt_top.proofs.Form.{IsScript-short, is_script}
@@ -33,7 +33,7 @@ all_read (Some given) (Some rest) bytes front end = sym (front ∙ ap (λ l. byt
 
 -- a record for a script that was read
 pub recorded : (left now taken taken_now : Option (List ℕ)) (bytes text : List ℕ) → IsRead left now bytes → IsRecordText bytes text
-    → Adds taken taken_now text → HasRecorded left now taken taken_now
+    → GrowsBy taken taken_now text → HasRecorded left now taken taken_now
 recorded left now taken taken_now bytes text read answer written =
     let end = read_to_end left now bytes read (is_script bytes text answer) in record {
       bytes = bytes;
@@ -90,11 +90,11 @@ must_refuse (Some given) now bytes text read answer = record {
 
 -- bytes that were refused, to their end or past what a script may have, are all refused so
 pub refused_given : (given : List ℕ) (now taken taken_now : Option (List ℕ)) → HasRefused (Some given) now taken taken_now
-    → (r : Refused) × IsRefused given r × Adds taken taken_now (refusal_text r)
+    → (r : Refused) × IsRefused given r × GrowsBy taken taken_now (refusal_text r)
 refused_given given now taken taken_now refused = (
   refused.refusal.refused,
   same_refusal given now refused.bytes refused.refusal.refused refused.read refused.refusal.cause,
-  subst (Adds taken taken_now) refused.refusal.spelled refused.written,
+  subst (GrowsBy taken taken_now) refused.refusal.spelled refused.written,
 )
 
 -- memory may run out whatever the bytes are

@@ -59,8 +59,8 @@ asked_of (Some found) =
 abbrev pub asked_by_texts : List Text → Option Request
 asked_by_texts words = if length (fault_of program words) == 0 then asked_of (subcommand_of program words) else None
 
-unfoldable pub asked_by : List (String Global) → Option Request
-asked_by words = asked_by_texts (map string_bytes words)
+unfoldable pub request_in : List (String Global) → Option Request
+request_in words = asked_by_texts (map string_bytes words)
 
 -- the numbers of a script that is asked for are in their ranges
 abbrev pub AsksInRange : Option Request → Type 0

@@ -2,7 +2,7 @@
 use Rattle.std.specs.Prelude.{◌≡◌, ◌⊎◌, ℕ, List, Some, None, IfSome, ⊤}
 use Rattle.std.specs.declared.option.Option.{Option}
 use Rattle.std.specs.Io.KnownBytes.{IsAtEnd}
-use Rattle.byte_streams.specs.Streams.{Adds, AddsPrefix}
+use Rattle.byte_streams.specs.Streams.{GrowsBy, AddsPrefix}
 use Rattle.hrt_top.specs.Transfer.{IsRead}
 use Rattle.hrt_top.specs.Engine.{IsScript, IsRecordText, IsRefusalText, IsAnswerText, IsSummaryText}
 use Rattle.hrt_top.specs.declared.command.Request.{Request}
@@ -26,7 +26,7 @@ pub record HasRecorded (left left_now taken taken_now : Option (List ℕ)) : Typ
   pub all : IfSome left (λ given. bytes ≡ given)
   pub end : IsAtEnd left_now
   pub fits : IsRecordText bytes text
-  pub written : Adds taken taken_now text
+  pub written : GrowsBy taken taken_now text
 
 -- bytes that are refused were read, and the line that tells why was written
 pub record HasRefused (left left_now taken taken_now : Option (List ℕ)) : Type 0 where
@@ -34,7 +34,7 @@ pub record HasRefused (left left_now taken taken_now : Option (List ℕ)) : Type
   pub text : List ℕ
   pub read : IsRead left left_now bytes
   pub refusal : IsRefusalText bytes text
-  pub written : Adds taken taken_now text
+  pub written : GrowsBy taken taken_now text
 
 -- bytes were read, and a prefix of the text that answers them was written
 pub record HasStopped (left left_now taken taken_now : Option (List ℕ)) : Type 0 where
@@ -48,7 +48,7 @@ pub record HasStopped (left left_now taken taken_now : Option (List ℕ)) : Type
 pub record HasSummed (seed lanes calls : ℕ) (taken taken_now : Option (List ℕ)) : Type 0 where
   pub text : List ℕ
   pub summary : IsSummaryText seed lanes calls text
-  pub written : Adds taken taken_now text
+  pub written : GrowsBy taken taken_now text
 
 -- a prefix of such a summary was written
 pub record HasSummedInPart (seed lanes calls : ℕ) (taken taken_now : Option (List ℕ)) : Type 0 where

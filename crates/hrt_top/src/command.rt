@@ -3,7 +3,7 @@ ghost use Rattle.std.specs.Prelude.{◌≡◌, ◌<◌, ◌≤◌, ◌^◌, ℕ,
 ghost use Rattle.std.specs.List.{AllByRecursion};
 ghost use Rattle.std.specs.IoError.{error_kind};
 ghost use Rattle.clap.specs.Words.{app_of, found_of, rows_of, rule_of, subcommand_rows_of, Text};
-ghost use Rattle.hrt_top.specs.Command.{asked_by, asked_by_texts, asked_of, make_of, option_number, option_words, program, required_option, unread_status, AreWords, InAnyOrder, AsksInRange, Lacks, OptionName, Seed, Lanes, Calls};
+ghost use Rattle.hrt_top.specs.Command.{request_in, asked_by_texts, asked_of, make_of, option_number, option_words, program, required_option, unread_status, AreWords, InAnyOrder, AsksInRange, Lacks, OptionName, Seed, Lanes, Calls};
 ghost use Rattle.hrt_top.specs.declared.command.Request.TheVariants.{Run, Make};
 
 use crate::status::Status;
@@ -26,7 +26,7 @@ pub enum Request {
 /// Reads the words of a command line, the program's name first. `None` where they ask for nothing that the
 /// program does, `help` and `--help` alone among them.
 pub fn asks(alloc: Global, words: &[String]) -> Result<Option<Request>, AllocError>
-    ensures asked { IfOk result (λ asked. asked ≡ asked_by words.now) }
+    ensures asked { IfOk result (λ asked. asked ≡ request_in words.now) }
     ensures range { IfOk result AsksInRange }
 {
     match command(alloc)?.try_get_matches_from(words) {

@@ -2,7 +2,10 @@
 //! how it ends.
 #![tactic(auto)]
 
-pub use byte_streams::{BytesSink, BytesSource, CleanSink, CleanSource, Counted, Failed, Kept, Plan, Sink, Source, write_all};
+pub use byte_streams::{
+    BytesSink, BytesSource, CleanSink, CleanSource, Counted, Failed, Kept, Plan, Sink, Source,
+    write_all,
+};
 pub use command::{Request, asks, what_words_ask_for, words};
 pub use status::Status;
 pub use transfer::{CHUNK, MOST_BYTES, ReadFault, read_all};

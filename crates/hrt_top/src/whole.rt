@@ -1,8 +1,8 @@
 //! All that the program does, over the streams that it is handed.
 ghost use Rattle.std.specs.Prelude.{◌≡◌, ◌≤◌, ◌⊎◌, ℕ, [], Some, None, IfSome};
-ghost use Rattle.byte_streams.specs.Streams.{Rose, Adds};
+ghost use Rattle.byte_streams.specs.Streams.{Rose, GrowsBy};
 ghost use Rattle.hrt_top.specs.Transfer.{TakesAtMost, most_bytes};
-ghost use Rattle.hrt_top.specs.Command.{asked_by};
+ghost use Rattle.hrt_top.specs.Command.{request_in};
 ghost use Rattle.script_text.specs.declared.refusal.Refused.{Refused};
 ghost use Rattle.script_text.specs.Refusals.{IsRefused, refusal_text};
 ghost use Rattle.hrt_top.specs.Top.{IsAskedFor, HasRecorded, HasRefused, HasStopped, HasSummed, HasSummedInPart, MustAnswer};
@@ -27,22 +27,22 @@ pub fn top<R: Threads + Wait + Sync + AllocGlobal, S: Source, K: Sink, G: Gate>(
     sink: &mut K,
     gate: &G,
 ) -> Status
-    ensures asked { IsAskedFor (asked_by words.now) result }
-    ensures usage { asked_by words.now ≡ None → (result ≡ Status.Usage) ⊎ (result ≡ Status.OutOfMemory) }
+    ensures asked { IsAskedFor (request_in words.now) result }
+    ensures usage { request_in words.now ≡ None → (result ≡ Status.Usage) ⊎ (result ≡ Status.OutOfMemory) }
     ensures untouched { result ≡ Status.Usage → (source.new ≡ source.old) × (sink.new ≡ sink.old) }
-    ensures ok { asked_by words.now ≡ Some Request.Run → result ≡ Status.Ok → HasRecorded (S.left source.old) (S.left source.new) (K.taken sink.old) (K.taken sink.new) }
+    ensures ok { request_in words.now ≡ Some Request.Run → result ≡ Status.Ok → HasRecorded (S.left source.old) (S.left source.new) (K.taken sink.old) (K.taken sink.new) }
     ensures refused { result ≡ Status.Refused → HasRefused (S.left source.old) (S.left source.new) (K.taken sink.old) (K.taken sink.new) }
     ensures calm { (result ≡ Status.Ok) ⊎ (result ≡ Status.Refused) → (S.faults source.new ≡ S.faults source.old) × (K.faults sink.new ≡ K.faults sink.old) }
     ensures read_fault { result ≡ Status.ReadFault → Rose (S.faults source.old) (S.faults source.new) }
     ensures read_few { result ≡ Status.ReadFault → TakesAtMost (S.left source.old) (S.left source.new) most_bytes }
     ensures write_fault { result ≡ Status.WriteFault → Rose (K.faults sink.old) (K.faults sink.new) }
-    ensures prefix { asked_by words.now ≡ Some Request.Run → result ≡ Status.WriteFault → HasStopped (S.left source.old) (S.left source.new) (K.taken sink.old) (K.taken sink.new) }
+    ensures prefix { request_in words.now ≡ Some Request.Run → result ≡ Status.WriteFault → HasStopped (S.left source.old) (S.left source.new) (K.taken sink.old) (K.taken sink.new) }
     ensures unwritten { (result ≡ Status.ReadFault) ⊎ (result ≡ Status.OutOfMemory) → sink.new ≡ sink.old }
-    ensures complete { asked_by words.now ≡ Some Request.Run → (Rose (S.faults source.old) (S.faults source.new) → ⊥) → (Rose (K.faults sink.old) (K.faults sink.new) → ⊥) → IfSome (S.left source.old) (λ bytes. MustAnswer bytes result) }
-    ensures unread { (s l c : ℕ) → asked_by words.now ≡ Some (Request.Make s l c) → source.new ≡ source.old }
-    ensures made { (s l c : ℕ) → asked_by words.now ≡ Some (Request.Make s l c) → result ≡ Status.Ok → HasSummed s l c (K.taken sink.old) (K.taken sink.new) }
-    ensures made_in_part { (s l c : ℕ) → asked_by words.now ≡ Some (Request.Make s l c) → result ≡ Status.WriteFault → HasSummedInPart s l c (K.taken sink.old) (K.taken sink.new) }
-    ensures made_whole { (s l c : ℕ) → asked_by words.now ≡ Some (Request.Make s l c) → (Rose (K.faults sink.old) (K.faults sink.new) → ⊥) → (result ≡ Status.Ok) ⊎ (result ≡ Status.OutOfMemory) }
+    ensures complete { request_in words.now ≡ Some Request.Run → (Rose (S.faults source.old) (S.faults source.new) → ⊥) → (Rose (K.faults sink.old) (K.faults sink.new) → ⊥) → IfSome (S.left source.old) (λ bytes. MustAnswer bytes result) }
+    ensures unread { (s l c : ℕ) → request_in words.now ≡ Some (Request.Make s l c) → source.new ≡ source.old }
+    ensures made { (s l c : ℕ) → request_in words.now ≡ Some (Request.Make s l c) → result ≡ Status.Ok → HasSummed s l c (K.taken sink.old) (K.taken sink.new) }
+    ensures made_in_part { (s l c : ℕ) → request_in words.now ≡ Some (Request.Make s l c) → result ≡ Status.WriteFault → HasSummedInPart s l c (K.taken sink.old) (K.taken sink.new) }
+    ensures made_whole { (s l c : ℕ) → request_in words.now ≡ Some (Request.Make s l c) → (Rose (K.faults sink.old) (K.faults sink.new) → ⊥) → (result ≡ Status.Ok) ⊎ (result ≡ Status.OutOfMemory) }
     ensures source_later { S.faults source.old ≤ S.faults source.new }
     ensures sink_later { K.faults sink.old ≤ K.faults sink.new }
 {
@@ -132,12 +132,12 @@ pub fn on_bytes<R: Threads + Wait + Sync + AllocGlobal, G: Gate>(
     bytes: &[u8],
     gate: &G,
 ) -> (Status, CleanSink)
-    ensures asked { IsAskedFor (asked_by words.now) result.0 }
-    ensures answer { asked_by words.now ≡ Some Request.Run → MustAnswer bytes.now result.0 }
-    ensures ok { asked_by words.now ≡ Some Request.Run → result.0 ≡ Status.Ok → HasRecorded (Some bytes.now) (Some []) (Some []) result.1.kept }
-    ensures refused { result.0 ≡ Status.Refused → (r : Refused) × IsRefused bytes.now r × Adds (Some []) result.1.kept (refusal_text r) }
-    ensures made { (s l c : ℕ) → asked_by words.now ≡ Some (Request.Make s l c) → result.0 ≡ Status.Ok → HasSummed s l c (Some []) result.1.kept }
-    ensures made_whole { (s l c : ℕ) → asked_by words.now ≡ Some (Request.Make s l c) → (result.0 ≡ Status.Ok) ⊎ (result.0 ≡ Status.OutOfMemory) }
+    ensures asked { IsAskedFor (request_in words.now) result.0 }
+    ensures answer { request_in words.now ≡ Some Request.Run → MustAnswer bytes.now result.0 }
+    ensures ok { request_in words.now ≡ Some Request.Run → result.0 ≡ Status.Ok → HasRecorded (Some bytes.now) (Some []) (Some []) result.1.kept }
+    ensures refused { result.0 ≡ Status.Refused → (r : Refused) × IsRefused bytes.now r × GrowsBy (Some []) result.1.kept (refusal_text r) }
+    ensures made { (s l c : ℕ) → request_in words.now ≡ Some (Request.Make s l c) → result.0 ≡ Status.Ok → HasSummed s l c (Some []) result.1.kept }
+    ensures made_whole { (s l c : ℕ) → request_in words.now ≡ Some (Request.Make s l c) → (result.0 ≡ Status.Ok) ⊎ (result.0 ≡ Status.OutOfMemory) }
     ensures unwritten { (result.0 ≡ Status.Usage) ⊎ (result.0 ≡ Status.OutOfMemory) → result.1.kept ≡ Some [] }
     ensures no_fault { (result.0 ≡ Status.ReadFault) ⊎ (result.0 ≡ Status.WriteFault) → ⊥ }
 {

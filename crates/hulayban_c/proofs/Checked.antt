@@ -3,18 +3,18 @@ use Rattle.std.specs.Prelude.{ℕ, ℤ, ◌≡◌, ◌⊎◌, List}
 use Rattle.std.proofs.Common.{◌∙◌, refl, sym, ap, subst, inl, inr}
 use Rattle.trace_read.specs.declared.verdict.Verdict.{Verdict}
 use Rattle.trace_read.specs.declared.verdict.Verdict.TheVariants as verdicts
-use Rattle.trace_read.specs.Lines.{Answers, Fit, lines_of, verdict_on}
+use Rattle.trace_read.specs.Lines.{HasVerdict, LinesFit, trace_lines, verdict_on}
 use Rattle.trace_read.proofs.Meanings.{fit_verdict, not_refused, not_unreadable}
 use Rattle.hulayban_c.specs.declared.codes.TheConstants.{FITS, MISFIT, UNREADABLE, NO_MEMORY}
 use Rattle.hulayban_c.specs.declared.checking.CheckAnswer.{CheckAnswer}
 use Rattle.hulayban_c.specs.Checks.{AnswersCheck, IsChecked, check_tells}
 
-number_where_fits : (text : List ℕ) (v : Verdict) (timers processors : ℕ) → verdict_on text ≡ v → Fit (lines_of text) → (check_tells v timers processors).0 ≡ FITS
+number_where_fits : (text : List ℕ) (v : Verdict) (timers processors : ℕ) → verdict_on text ≡ v → LinesFit (trace_lines text) → (check_tells v timers processors).0 ≡ FITS
 number_where_fits text (verdicts.Fits events) timers processors is fit = refl
 number_where_fits text (verdicts.Refused line cause) timers processors is fit = absurd (not_refused (sym (fit_verdict text fit).1 ∙ is))
 number_where_fits text (verdicts.Unreadable line what) timers processors is fit = absurd (not_unreadable (sym (fit_verdict text fit).1 ∙ is))
 
-number_where_not : (text : List ℕ) (v : Verdict) (timers processors : ℕ) → Answers text v → (Fit (lines_of text) → ⊥)
+number_where_not : (text : List ℕ) (v : Verdict) (timers processors : ℕ) → HasVerdict text v → (LinesFit (trace_lines text) → ⊥)
     → ((check_tells v timers processors).0 ≡ MISFIT) ⊎ ((check_tells v timers processors).0 ≡ UNREADABLE)
 number_where_not text (verdicts.Fits events) timers processors answers unfit = absurd (unfit answers.1.0)
 number_where_not text (verdicts.Refused line cause) timers processors answers unfit = inl refl

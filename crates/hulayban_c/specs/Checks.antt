@@ -6,7 +6,7 @@ use Rattle.trace_check.specs.declared.misfit.Misfit.{Misfit}
 use Rattle.trace_check.specs.declared.misfit.Misfit.TheVariants as causes
 use Rattle.trace_read.specs.declared.verdict.Verdict.{Verdict}
 use Rattle.trace_read.specs.declared.verdict.Verdict.TheVariants as verdicts
-use Rattle.trace_read.specs.Lines.{Answers, Fit, lines_of}
+use Rattle.trace_read.specs.Lines.{HasVerdict, LinesFit, trace_lines}
 use Rattle.hulayban_c.specs.declared.codes.TheConstants.{FITS, MISFIT, UNREADABLE, NO_MEMORY}
 use Rattle.hulayban_c.specs.declared.causes.TheConstants.{CAUSE_SET_UP_ARMED, CAUSE_SET_UP_RUNNING, CAUSE_SOFT_AFTER_HARD, CAUSE_PAST_TIME, CAUSE_WAS_NOT_ARMED, CAUSE_WAS_ARMED, CAUSE_NOT_ARMED, CAUSE_RUNNING, CAUSE_OTHER_PROCESSOR, CAUSE_OTHER_CONTEXT, CAUSE_TOO_EARLY, CAUSE_SECOND_FUNCTION, CAUSE_OUT_OF_ORDER, CAUSE_NOT_RUNNING, CAUSE_NO_HRTIMER, CAUSE_NO_PROCESSOR, CAUSE_NO_CLOCKID, CAUSE_NO_MODE, CAUSE_NO_SOFTEXPIRES, CAUSE_NO_EXPIRES, CAUSE_NO_WAS_ARMED, CAUSE_NO_NOW}
 use Rattle.hulayban_c.specs.declared.checking.CheckAnswer.{CheckAnswer}
@@ -58,7 +58,7 @@ check_tells (verdicts.Unreadable line what) timers processors = (UNREADABLE, of_
 -- what is told tells how a text is answered, and the answer means what it says
 pub record IsChecked (text : List ℕ) (told : ℤ × CheckAnswer) : Type 0 where
   pub verdict : Verdict
-  pub answers : Answers text verdict
+  pub answers : HasVerdict text verdict
   pub timers : ℕ
   pub processors : ℕ
   pub tells : told ≡ check_tells verdict timers processors
@@ -66,5 +66,5 @@ pub record IsChecked (text : List ℕ) (told : ℤ × CheckAnswer) : Type 0 wher
 -- the check of a text: it is answered so, or memory has run out; as one that fits exactly where each line can be read and all that they tell fits
 pub record AnswersCheck (text : List ℕ) (returned : ℤ) (before after : CheckAnswer) : Type 0 where
   pub answer : IsChecked text (returned, after) ⊎ ((returned ≡ NO_MEMORY) × (after ≡ before))
-  pub fits : Fit (lines_of text) → (returned ≡ FITS) ⊎ (returned ≡ NO_MEMORY)
-  pub unfit : (Fit (lines_of text) → ⊥) → (returned ≡ MISFIT) ⊎ ((returned ≡ UNREADABLE) ⊎ (returned ≡ NO_MEMORY))
+  pub fits : LinesFit (trace_lines text) → (returned ≡ FITS) ⊎ (returned ≡ NO_MEMORY)
+  pub unfit : (LinesFit (trace_lines text) → ⊥) → (returned ≡ MISFIT) ⊎ ((returned ≡ UNREADABLE) ⊎ (returned ≡ NO_MEMORY))

@@ -18,6 +18,17 @@ pub fn passed_counts_instants()
     ensures { (at now interval : ℕ) → passed at now interval ≡ (if nat_lt now at then 0 else suc (passed (at + step_of interval) now interval)) }
 {}
 
+/// What the definitions come to at some times: before the expiry, at it, past it by whole intervals and between them, with no interval, and at the
+/// end of time.
+pub fn forwards_at_some_times()
+    ensures early { (passed 100 99 10 ≡ 0) × (next_after 100 99 10 ≡ 100) }
+    ensures reached { (passed 100 100 10 ≡ 1) × (next_after 100 100 10 ≡ 110) }
+    ensures late { (passed 100 130 10 ≡ 4) × (next_after 100 130 10 ≡ 140) }
+    ensures between { (passed 100 139 10 ≡ 4) × (next_after 100 139 10 ≡ 140) }
+    ensures no_interval { (passed 100 100 0 ≡ 1) × (next_after 100 100 0 ≡ 101) }
+    ensures last { next_after last_time last_time 1 ≡ last_time }
+{}
+
 /// Moves an expiry past now by whole intervals (`hrtimer_forward`). An interval of 0 counts as the
 /// resolution of one nanosecond.
 pub fn forward(expires: u64, now: u64, interval: u64) -> Forwarded
@@ -39,31 +50,5 @@ pub fn forward(expires: u64, now: u64, interval: u64) -> Forwarded
     Forwarded {
         count: elapsed / step + 1,
         expires: last.saturating_add(step).min(LAST_TIME),
-    }
-}
-
-#[cfg(test)]
-mod tests {
-    use super::*;
-
-    #[test]
-    fn forwards_past_now(rt: HostRuntime) {
-        let cases = [
-            (100, 99, 10, 0, 100),
-            (100, 100, 10, 1, 110),
-            (100, 130, 10, 4, 140),
-            (100, 139, 10, 4, 140),
-            (100, 100, 0, 1, 101),
-            (0, LAST_TIME, 1, LAST_TIME + 1, LAST_TIME),
-            (LAST_TIME, LAST_TIME, u64::MAX, 1, LAST_TIME),
-        ];
-        for (expires, now, interval, count, next) in cases {
-            let forwarded = Forwarded {
-                count,
-                expires: next,
-            };
-            assert_eq!(rt; forward(expires, now, interval), forwarded);
-        }
-        passed_counts_instants();
     }
 }

@@ -53,23 +53,3 @@ impl Reading {
         }
     }
 }
-
-#[cfg(test)]
-mod tests {
-    use super::*;
-
-    #[test]
-    fn each_clock_has_its_own_time(rt: HostRuntime) {
-        let reading = Reading {
-            stamp: 4,
-            mono: 10,
-            real: 20,
-            boot: 30,
-            changes: 1,
-        };
-        assert_eq!(rt; reading.value(ClockId::Monotonic), 10);
-        assert_eq!(rt; reading.value(ClockId::Realtime), 20);
-        assert_eq!(rt; reading.value(ClockId::Boottime), 30);
-        assert_eq!(rt; Reading::at(7).value(ClockId::Boottime), 7);
-    }
-}

@@ -26,28 +26,3 @@ pub fn effective(declared: ClockId, mode: Mode, present: ClockId) -> ClockId
         _ => declared,
     }
 }
-
-#[cfg(test)]
-mod tests {
-    use super::*;
-
-    #[test]
-    fn sums_stop_at_the_end_of_time(rt: HostRuntime) {
-        assert_eq!(rt; sat_add(100, 23), 123);
-        assert_eq!(rt; sat_add(LAST_TIME, 1), LAST_TIME);
-        assert_eq!(rt; sat_add(u64::MAX, u64::MAX), LAST_TIME);
-    }
-
-    #[test]
-    fn a_relative_time_of_day_is_kept_on_the_monotonic_clock(rt: HostRuntime) {
-        let cases = [
-            (ClockId::Realtime, Mode::Rel, ClockId::Monotonic),
-            (ClockId::Realtime, Mode::Abs, ClockId::Realtime),
-            (ClockId::Boottime, Mode::Rel, ClockId::Boottime),
-            (ClockId::Monotonic, Mode::Keep, ClockId::Boottime),
-        ];
-        for (declared, mode, clock) in cases {
-            assert_eq!(rt; effective(declared, mode, ClockId::Boottime), clock);
-        }
-    }
-}

@@ -30,23 +30,3 @@ impl TimeSpec {
         Ok(ns.min(LAST_TIME))
     }
 }
-
-#[cfg(test)]
-mod tests {
-    use super::*;
-
-    #[test]
-    fn a_time_has_less_than_a_second_of_nanoseconds(rt: HostRuntime) {
-        let cases = [
-            (0, 0, Ok(0)),
-            (1, 999_999_999, Ok(1_999_999_999)),
-            (1, 1_000_000_000, Err(BadTime)),
-            (9_223_372_036, 854_775_807, Ok(LAST_TIME)),
-            (9_223_372_036, 854_775_808, Ok(LAST_TIME)),
-            (u64::MAX, 0, Ok(LAST_TIME)),
-        ];
-        for (sec, nsec, time) in cases {
-            assert_eq!(rt; TimeSpec { sec, nsec }.to_ns(), time);
-        }
-    }
-}

@@ -6,3 +6,9 @@ pub mod Rising
 pub mod UnderLines
 pub mod Lists
 pub mod WholeRecord
+pub mod PartLists
+pub mod Declared
+pub mod ObjectSeen
+pub mod Kept
+pub mod Left
+pub mod SeenMore

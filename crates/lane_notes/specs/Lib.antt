@@ -3,3 +3,8 @@ pub mod Entries
 pub mod Objects
 pub mod Sorted
 pub mod Records
+pub mod Worlds
+pub mod Expiries
+pub mod Called
+pub mod Rounds
+pub mod Runs

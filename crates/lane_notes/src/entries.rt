@@ -3,7 +3,7 @@ ghost use Rattle.std.specs.Prelude.{◌≡◌, ◌∷◌, [], OnOk};
 ghost use Rattle.lane_notes.specs.Entries.{look_noted, with_receipts};
 
 use crate::notes::{EntryNote, LookNote, Notes};
-use expire_pass::{Noted, Receipt};
+use hr_timers::{Noted, Receipt};
 use record_text::{CallbackReply, Entry, Label};
 use seq_timer::Observation;
 use std::alloc::AllocError;

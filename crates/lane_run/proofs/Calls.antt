@@ -8,10 +8,10 @@ use Rattle.record_text.specs.declared.record.Answer.{Answer}
 use Rattle.script_text.specs.declared.script.Call.{Call}
 use Rattle.script_text.specs.declared.script.LaneCall.{LaneCall}
 use Rattle.script_text.specs.declared.script.Round.{Round}
-use Rattle.lane_world.specs.declared.Lane.{Lane}
-use Rattle.lane_world.specs.Called.{LaneOf, lane_of}
-use Rattle.lane_world.specs.Rounds.{AnswersCall, CalledAll, MakesCalls, RunsLane, next_of}
-use Rattle.lane_world.specs.Worlds.{ArePassesOf, KeepPasses, WorldOf}
+use Rattle.lane_notes.specs.declared.lane.Lane.{Lane}
+use Rattle.lane_notes.specs.Called.{LaneOf, lane_of}
+use Rattle.lane_notes.specs.Rounds.{AnswersCall, CalledAll, MakesCalls, RunsLane, next_of}
+use Rattle.lane_notes.specs.Worlds.{ArePassesOf, KeepPasses, WorldOf}
 use Rattle.lane_run.proofs.Keeping.{keep_refl, keep_trans}
 
 called_append : (x : WorldOf) (l m n : LaneOf) (cs ds : List Call) (xs ys : List Answer) → CalledAll x l cs xs m → CalledAll x m ds ys n

@@ -7,9 +7,9 @@ use Rattle.std.proofs.Math.Seq.{get_or-append_seam}
 use Rattle.std.proofs.lemmas.List.{get_or-set_other, get_or-set_same, get_or_default, length-set}
 use Rattle.handoff.specs.Seated.{HasEnded, MayGive, HandoffOf}
 use Rattle.script_text.specs.declared.script.Round.{Round}
-use Rattle.lane_world.specs.declared.Lane.{Lane}
-use Rattle.lane_world.specs.Rounds.{RunsLane}
-use Rattle.lane_world.specs.Worlds.{WorldOf}
+use Rattle.lane_notes.specs.declared.lane.Lane.{Lane}
+use Rattle.lane_notes.specs.Rounds.{RunsLane}
+use Rattle.lane_notes.specs.Worlds.{WorldOf}
 use Rattle.lane_run.proofs.Taking.{beside_pop, beside_push}
 use Rattle.lane_run.specs.declared.crew.Ground.{Ground}
 use Rattle.lane_run.specs.Crews.{AreAt, AllHaveEnded, AllMayGive, IsRoundOf, RunsAt, SeatOfLanes}

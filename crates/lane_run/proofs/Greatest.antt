@@ -3,9 +3,9 @@ use Rattle.std.proofs.Common.{◌≤◌, arith}
 use Rattle.seq_timer.specs.Steps.{greatest_limit}
 use Rattle.record_text.specs.declared.version.Version.{Version}
 use Rattle.record_text.specs.declared.version.Version.TheVariants as versions
-use Rattle.script_text.specs.Scripts.{most_bases, most_events, most_lanes, most_timers}
+use Rattle.script_text.specs.Scripts.{most_script_bases, most_events, most_lanes, most_timers}
 
-pub bases_few : (v : Version) → most_bases v ≤ 64
+pub bases_few : (v : Version) → most_script_bases v ≤ 64
 bases_few versions.One = omega arith
 bases_few versions.Two = omega arith
 

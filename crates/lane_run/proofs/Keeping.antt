@@ -1,7 +1,7 @@
 -- What passes keep while a lane calls.
 use Rattle.std.proofs.Common.{refl, ◌∙◌}
-use Rattle.lane_world.specs.declared.WorldPass.{WorldPass}
-use Rattle.lane_world.specs.Worlds.{KeepPasses}
+use Rattle.lane_notes.specs.declared.lane.WorldPass.{WorldPass}
+use Rattle.lane_notes.specs.Worlds.{KeepPasses}
 
 pub keep_refl : {p : WorldPass} → KeepPasses p p
 keep_refl = record { timers = refl; claims = refl; objects = refl; clock = refl; signals = refl }

@@ -14,7 +14,7 @@ use Rattle.hr_timers.specs.declared.answer.StartAnswer.{StartAnswer}
 use Rattle.record_text.specs.declared.record.Label.{Label}
 use Rattle.lane_notes.specs.Entries.{with_receipts}
 use Rattle.lane_notes.specs.Notes.{NotesOf}
-use Rattle.lane_world.specs.Called.{with_done}
+use Rattle.lane_notes.specs.Called.{with_done}
 
 -- an empty log then has these receipts
 has_all : (log log' : LogOf Receipt) (rs : List Receipt) → log.receipts ≡ [] → log' ≡ all_pushed kept log rs → log'.receipts ≡ rs

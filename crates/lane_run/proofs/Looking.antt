@@ -13,15 +13,15 @@ use Rattle.timer_objects.specs.Signals.{IsSignalPass}
 use Rattle.signal_queue.specs.Views.{KnowsQueue}
 use Rattle.timer_objects.specs.Turns.{turns_counter, turns_told}
 use Rattle.timer_objects.specs.declared.object.Object.{Object}
-use Rattle.lane_world.proofs.SeenMore.{begins_same, count_begins}
-use Rattle.lane_world.specs.Rounds.{IsMain, LeftOf, MakesRounds, none_left}
-use Rattle.lane_world.specs.Runs.{LooksAtAll, MakesRun, Settles, ShowsLeft}
+use Rattle.lane_notes.proofs.SeenMore.{begins_same, count_begins}
+use Rattle.lane_notes.specs.Rounds.{IsMain, LeftOf, MakesRounds, none_left}
+use Rattle.lane_notes.specs.Runs.{LooksAtAll, MakesRun, Settles, ShowsLeft}
 use Rattle.record_text.specs.declared.record.RunRecord.{RunRecord}
 use Rattle.script_text.specs.declared.script.Script.{Script}
 use Rattle.std.specs.Prelude.{Err, IfOk, Ok, Result}
 use Rattle.std.specs.declared.alloc.AllocError.{AllocError}
-use Rattle.lane_world.specs.Worlds.{WorldOf}
-use Rattle.lane_world.specs.declared.WorldPass.{WorldPass}
+use Rattle.lane_notes.specs.Worlds.{WorldOf}
+use Rattle.lane_notes.specs.declared.lane.WorldPass.{WorldPass}
 use Rattle.lane_run.proofs.Mains.{main_ran}
 
 -- so many objects were looked at, and nothing else was done

@@ -1,5 +1,5 @@
 -- The first passes answer for the lanes' passes of each kind, while these are split off and until they are taken in.
-use Rattle.lane_world.specs.Rounds.{LeadsFor}
+use Rattle.lane_notes.specs.Rounds.{LeadsFor}
 use Rattle.std.proofs.Common.{◌≡◌, ℕ, suc, ◌<◌, List, [], ◌∷◌, ◌++◌, length, map, get_or, refl, ap, sym, ◌∙◌, subst, arith}
 use Rattle.std.proofs.lemmas.List.{append-nil, map-append}
 use Rattle.pass_names.specs.declared.PassId.{PassId}
@@ -7,10 +7,10 @@ use Rattle.pass_names.specs.Names.{AnswersFor, Covers, after_retire, after_split
 use Rattle.pass_names.proofs.Covering.{covers_answers, covers_last, covers_none, covers_retire, covers_split}
 use Rattle.hr_timers.specs.Known.{KnownOfTimers}
 use Rattle.script_text.specs.declared.script.Round.{Round}
-use Rattle.lane_world.specs.declared.Lane.{Lane}
-use Rattle.lane_world.specs.declared.WorldPass.{WorldPass}
-use Rattle.lane_world.specs.Rounds.{CanRun, IsLaneOf, IsMain, RunsLane, TakesInPass}
-use Rattle.lane_world.specs.Worlds.{AnswerFor, AreFirst, AreLast, ArePassesOf, KeepPasses, SplitsPass, WorldOf}
+use Rattle.lane_notes.specs.declared.lane.Lane.{Lane}
+use Rattle.lane_notes.specs.declared.lane.WorldPass.{WorldPass}
+use Rattle.lane_notes.specs.Rounds.{CanRun, IsLaneOf, IsMain, RunsLane, TakesInPass}
+use Rattle.lane_notes.specs.Worlds.{AnswerFor, AreFirst, AreLast, ArePassesOf, KeepPasses, SplitsPass, WorldOf}
 
 -- ---- of one kind of pass; `id_of` is the lane's
 

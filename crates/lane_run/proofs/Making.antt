@@ -19,7 +19,7 @@ use Rattle.script_text.specs.declared.script.Script.{Script}
 use Rattle.script_text.specs.Scripts.{IsInRange, IsKindInRange}
 use Rattle.base_row.specs.declared.view.Opening.{Opening}
 use Rattle.seq_timer.specs.Steps.{opening}
-use Rattle.lane_world.specs.Worlds.{IsWhole, IsWorldOf, WorldOf, callback_of, decl_as, decl_of}
+use Rattle.lane_notes.specs.Worlds.{IsWhole, IsWorldOf, WorldOf, callback_of, decl_as, decl_of}
 use Rattle.lane_run.proofs.Greatest.{bases_few, timers_few}
 use Rattle.std.proofs.lemmas.List.{length-map}
 

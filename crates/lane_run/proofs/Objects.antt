@@ -10,9 +10,9 @@ use Rattle.timer_objects.specs.Signals.{TakesNext}
 use Rattle.timer_objects.specs.declared.signals.NextSignal.{NextSignal}
 use Rattle.timer_objects.specs.declared.signals.NextSignal.TheVariants as nexts
 use Rattle.record_text.specs.declared.record.Answer.{Answer}
-use Rattle.lane_world.specs.Called.{CallsObject, CallsSigwait, LaneOf, LeavesClock, LeavesSignals, ReadsClock, SeesSent, lane_caller, next_told, with_done}
-use Rattle.lane_world.specs.Worlds.{WorldOf}
-use Rattle.lane_world.specs.declared.WorldPass.{WorldPass}
+use Rattle.lane_notes.specs.Called.{CallsObject, CallsSigwait, LaneOf, LeavesClock, LeavesSignals, ReadsClock, SeesSent, lane_caller, next_told, with_done}
+use Rattle.lane_notes.specs.Worlds.{WorldOf}
+use Rattle.lane_notes.specs.declared.lane.WorldPass.{WorldPass}
 
 -- The call began with empty logs. The notes were made after it, and left the passes as they were. `y` are the world's parts.
 pub calls_object : {x y : WorldOf} {l m : LaneOf} {p : WorldPass} {a : Answer} (Does : WorldOf → Caller → Caller → ClockReading → Type 0)

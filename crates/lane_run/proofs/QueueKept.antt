@@ -8,23 +8,23 @@ use Rattle.base_row.specs.declared.log.Receipt.{Receipt}
 use Rattle.base_row.specs.declared.view.Opening.{Opening}
 use Rattle.hr_timers.specs.declared.numbers.ClaimNumbers.{ClaimNumbers}
 use Rattle.hr_timers.specs.Known.{KnownOfTimers}
-use Rattle.expire_pass.specs.declared.expiry.ExpireAnswer.{ExpireAnswer}
-use Rattle.expire_pass.specs.declared.handler.Restart.{Restart}
-use Rattle.expire_pass.specs.Expiring.{Expires}
-use Rattle.expire_pass.proofs.Leaving.{run_leaves}
+use Rattle.hr_timers.specs.declared.expiry.ExpireAnswer.{ExpireAnswer}
+use Rattle.hr_timers.specs.declared.handler.Restart.{Restart}
+use Rattle.hr_timers.specs.Expiring.{Expires}
+use Rattle.hr_timers.proofs.ExpiryEnds.{run_leaves}
 use Rattle.signal_queue.specs.Views.{KnowsQueue, PassOfQueue}
 use Rattle.signal_queue.specs.declared.view.QueueView.{QueueView}
 use Rattle.timer_objects.specs.declared.object.Kind.{Kind}
 use Rattle.timer_objects.specs.declared.object.Kind.TheVariants as kinds
 use Rattle.timer_objects.specs.Known.{decl_at}
 use Rattle.timer_objects.specs.QueuedFirings.{FiresKind, QueuedFiring, queued_firing}
-use Rattle.timer_objects.specs.Signals.{IsSentBy}
+use Rattle.timer_objects.specs.Signals.{IsPushedBy}
 
 -- what the pass of signals knows stays true from the one handler to the other
 abbrev pub KnowsStill : QueuedFiring → QueuedFiring → Type 0
 KnowsStill h h' = KnowsQueue h.signal_pass.now.knows → KnowsQueue h'.signal_pass.now.knows
 
-knows_sent : (sends : Bool) (s t : QueueView) (id number : ℕ) → IsSentBy sends s t id number → KnowsQueue s → KnowsQueue t
+knows_sent : (sends : Bool) (s t : QueueView) (id number : ℕ) → IsPushedBy sends s t id number → KnowsQueue s → KnowsQueue t
 knows_sent true s t id number sent knows = sent.2
 knows_sent false s t id number same knows = subst KnowsQueue (sym same) knows
 

@@ -20,10 +20,10 @@ use Rattle.script_text.specs.declared.script.Round.{Round}
 use Rattle.script_text.specs.declared.script.Script.{Script}
 use Rattle.script_text.specs.Scripts.{IsInRange, all_calls}
 use Rattle.script_text.specs.CallLines.{IsCallInRange, HasTimerFor}
-use Rattle.lane_world.specs.Called.{CanCall}
-use Rattle.lane_world.specs.Worlds.{IsWorldOf, WorldOf, decl_of}
+use Rattle.lane_notes.specs.Called.{CanCall}
+use Rattle.lane_notes.specs.Worlds.{IsWorldOf, WorldOf, decl_of}
 use Rattle.lane_run.proofs.Making.{whole_of}
-use Rattle.lane_world.proofs.Declared.{declared_over, over_of}
+use Rattle.lane_notes.proofs.Declared.{declared_over, over_of}
 use Rattle.hr_timers.specs.Known.{IsEvacuable}
 use Rattle.hr_timers.proofs.Shifts.{evacuable_on}
 use Rattle.record_text.specs.declared.version.Version.{Version}

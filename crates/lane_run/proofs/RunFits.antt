@@ -3,7 +3,7 @@ use Rattle.std.proofs.Common.{[], length, sym, subst, ◌≡◌, ◌<◌, ap, �
 use Rattle.std.specs.Prelude.{IfOk, Ok, Result}
 use Rattle.std.specs.declared.alloc.AllocError.{AllocError}
 use Rattle.lane_run.proofs.Mains.{main_last}
-use Rattle.lane_world.specs.Rounds.{IsMain}
+use Rattle.lane_notes.specs.Rounds.{IsMain}
 use Rattle.std.proofs.lemmas.List.{length-map}
 use Rattle.clock_cell.specs.Views.{writes}
 use Rattle.lane_notes.specs.Records.{record_from}
@@ -12,10 +12,10 @@ use Rattle.run_history.specs.Fits.{Fits}
 use Rattle.run_history.proofs.Run.{run_fits, shows}
 use Rattle.script_text.specs.Scripts.{IsInRange}
 use Rattle.script_text.specs.declared.script.Script.{Script}
-use Rattle.lane_world.proofs.Left.{AreLastOf, AreLastPasses, ending_of}
-use Rattle.lane_world.specs.Runs.{MakesRun, ShowsAllSeen}
-use Rattle.lane_world.specs.Worlds.{AreFirst, decl_of, IsWorldOf, WorldOf}
-use Rattle.lane_world.specs.declared.WorldPass.{WorldPass}
+use Rattle.lane_notes.proofs.Left.{AreLastOf, AreLastPasses, ending_of}
+use Rattle.lane_notes.specs.Runs.{MakesRun, ShowsAllSeen}
+use Rattle.lane_notes.specs.Worlds.{AreFirst, decl_of, IsWorldOf, WorldOf}
+use Rattle.lane_notes.specs.declared.lane.WorldPass.{WorldPass}
 use Rattle.record_laws.proofs.ClockLines.{clock_writes}
 use Rattle.record_laws.proofs.Ended.{is_ending, is_run}
 use Rattle.round_laws.proofs.LeftByRounds.{left_by_rounds}

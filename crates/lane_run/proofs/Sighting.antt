@@ -8,10 +8,10 @@ use Rattle.timer_objects.specs.Known.{seen_of}
 use Rattle.timer_objects.specs.Meaning.{object_meaning}
 use Rattle.timer_objects.specs.Signals.{object_fresh}
 use Rattle.timer_objects.specs.declared.object.Object.{Object}
-use Rattle.lane_world.proofs.SeenMore.{begins_same}
-use Rattle.lane_world.specs.Called.{LeavesClock, LeavesSignals, SeesEntry, SeesStale}
-use Rattle.lane_world.specs.Worlds.{ArePassesOf, KeepPasses, WorldOf}
-use Rattle.lane_world.specs.declared.WorldPass.{WorldPass}
+use Rattle.lane_notes.proofs.SeenMore.{begins_same}
+use Rattle.lane_notes.specs.Called.{LeavesClock, LeavesSignals, SeesEntry, SeesStale}
+use Rattle.lane_notes.specs.Worlds.{ArePassesOf, KeepPasses, WorldOf}
+use Rattle.lane_notes.specs.declared.lane.WorldPass.{WorldPass}
 use Rattle.lane_run.proofs.Keeping.{keep_refl, keep_trans}
 
 -- passes have looked at objects, and nothing else was done

@@ -6,10 +6,10 @@ use Rattle.std.proofs.lemmas.List.Elements.{All-push}
 use Rattle.record_text.specs.declared.record.Label.{Label}
 use Rattle.script_text.specs.declared.script.Round.{Round}
 use Rattle.lane_notes.specs.Notes.{no_notes}
-use Rattle.lane_world.specs.declared.Lane.{Lane}
-use Rattle.lane_world.specs.declared.WorldPass.{WorldPass}
-use Rattle.lane_world.specs.Rounds.{BeginsRound, HasSplit, IsLaneOf, IsMain, LeftOf, as_index, calling_from, has_calls}
-use Rattle.lane_world.specs.Worlds.{WorldOf}
+use Rattle.lane_notes.specs.declared.lane.Lane.{Lane}
+use Rattle.lane_notes.specs.declared.lane.WorldPass.{WorldPass}
+use Rattle.lane_notes.specs.Rounds.{BeginsRound, HasSplit, IsLaneOf, IsMain, LeftOf, as_index, calling_from, has_calls}
+use Rattle.lane_notes.specs.Worlds.{WorldOf}
 use Rattle.lane_run.proofs.Mains.{lane_new, main_split, SplitsLane}
 use Rattle.run_history.specs.Actions.{also}
 

@@ -9,10 +9,10 @@ use Rattle.std.proofs.Math.ListN.{get_or-append}
 use Rattle.std.proofs.Math.Seq.{get_or-append_seam}
 use Rattle.std.proofs.lemmas.List.{append-nil, append_assoc, get_or_default}
 use Rattle.script_text.specs.declared.script.Round.{Round}
-use Rattle.lane_world.specs.declared.Lane.{Lane}
-use Rattle.lane_world.specs.declared.WorldPass.{WorldPass}
-use Rattle.lane_world.specs.Rounds.{IsLaneOf, IsMain, LeftOf, MakesRound, MakesRounds, TakesInLanes, TakesInPass, with_lane}
-use Rattle.lane_world.specs.Worlds.{ArePassesOf, WorldOf}
+use Rattle.lane_notes.specs.declared.lane.Lane.{Lane}
+use Rattle.lane_notes.specs.declared.lane.WorldPass.{WorldPass}
+use Rattle.lane_notes.specs.Rounds.{IsLaneOf, IsMain, LeftOf, MakesRound, MakesRounds, TakesInLanes, TakesInPass, with_lane}
+use Rattle.lane_notes.specs.Worlds.{ArePassesOf, WorldOf}
 
 -- of all lanes these are left, and the others were taken in; none of them wants memory
 pub record TakesRest (p : WorldPass) (left : LeftOf) (all lanes : List Lane) (q : WorldPass) (now : LeftOf) : Type 0 where

@@ -5,10 +5,10 @@ use Rattle.handoff.specs.Seated.{HandoffOf, HasEnded, MayGive, AwaitsWork, SeatO
 use Rattle.script_text.specs.declared.script.Round.{Round}
 use Rattle.script_text.specs.declared.script.Script.{Script}
 use Rattle.record_text.specs.declared.record.RunRecord.{RunRecord}
-use Rattle.lane_world.specs.declared.WorldPass.{WorldPass}
-use Rattle.lane_world.specs.Rounds.{CanRun, IsMain, RunsLane}
-use Rattle.lane_world.specs.Runs.{MakesRun}
-use Rattle.lane_world.specs.Worlds.{WorldOf}
+use Rattle.lane_notes.specs.declared.lane.WorldPass.{WorldPass}
+use Rattle.lane_notes.specs.Rounds.{CanRun, IsMain, RunsLane}
+use Rattle.lane_notes.specs.Runs.{MakesRun}
+use Rattle.lane_notes.specs.Worlds.{WorldOf}
 use Rattle.lane_run.specs.declared.crew.Ground.{Ground}
 use Rattle.lane_run.specs.declared.crew.LaneRound.{LaneRound}
 

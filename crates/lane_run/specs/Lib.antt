@@ -1,3 +1,3 @@
-pub use Rattle.lane_world.specs.Worlds
-pub use Rattle.lane_world.specs.Runs
+pub use Rattle.lane_notes.specs.Worlds
+pub use Rattle.lane_notes.specs.Runs
 pub mod Crews

@@ -2,14 +2,13 @@
 ghost use Rattle.std.specs.Prelude.{◌≡◌, ◌≤◌, ◌<◌, [], IfOk, OnOk};
 ghost use Rattle.hr_timers.specs.Known.{IsEvacuable};
 ghost use Rattle.script_text.specs.CallLines.{most_budget};
-ghost use Rattle.lane_world.specs.Called.{CallsOffline, CallsOnline, LeavesLane, LeavesRest, ReadsClock, lane_of, offline_told, online_told, with_shift};
-ghost use Rattle.lane_world.specs.Worlds.{ArePassesOf};
+ghost use Rattle.lane_notes.specs.Called.{CallsOffline, CallsOnline, LeavesLane, LeavesRest, ReadsClock, lane_of, offline_told, online_told, with_shift};
+ghost use Rattle.lane_notes.specs.Worlds.{ArePassesOf};
 
 use crate::world::World;
 use hr_timers::{Log, OfflineAnswer, OnlineAnswer};
 use ktime::Reading;
-use lane_notes::{BaseNote, note_receipts};
-use lane_world::Lane;
+use lane_notes::{BaseNote, Lane, note_receipts};
 use record_text::Answer;
 use seq_timer::BaseEvent;
 use std::alloc::{AllocError, Global};

@@ -3,14 +3,14 @@ ghost use Rattle.std.specs.Prelude.{ℕ, ◌≡◌, ◌<◌, ◌+◌, IfOk, OnOk
 ghost use Rattle.lane_run.specs.declared.crew.Ground.{Ground};
 ghost use Rattle.handoff.specs.Seated.{AwaitsWork, HandoffOf, IsDismissed, IsWorking};
 ghost use Rattle.script_text.specs.Scripts.{IsInRange};
-ghost use Rattle.lane_world.specs.Worlds.{IsWorldOf};
+ghost use Rattle.lane_notes.specs.Worlds.{IsWorldOf};
 ghost use Rattle.lane_run.specs.Crews.{AllAwaitWorkOf, AllHaveEnded, AllMayGive, AwaitsWorkAt, CanRunAt, IsCrewOf, IsGroundOf, SeatOfLanes};
 
 use crate::gate::Gate;
 use crate::lane::run_lane;
 use crate::world::World;
 use handoff::{HandSeat, Handoff, Task};
-use lane_world::Lane;
+use lane_notes::Lane;
 use script_text::Script;
 use std::alloc::{AllocError, Global};
 use std::snapshot::Snapshot;

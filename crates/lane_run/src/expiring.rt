@@ -1,21 +1,19 @@
 //! An expiry run as a call of a lane.
 ghost use Rattle.std.specs.Prelude.{◌≡◌, ◌≤◌, ◌<◌, ◌*◌, [], IfOk};
 ghost use Rattle.hr_timers.specs.Known.{IsPassOf};
-ghost use Rattle.expire_pass.specs.Handlers.{KeepsPass};
-ghost use Rattle.expire_pass.specs.Handlers.{CanServe};
+ghost use Rattle.hr_timers.specs.Handlers.{KeepsPass};
+ghost use Rattle.hr_timers.specs.Handlers.{CanServe};
 ghost use Rattle.timer_objects.specs.QueuedFirings.{queued_firing, queued_ready_of};
 ghost use Rattle.script_text.specs.CallLines.{most_budget};
-ghost use Rattle.lane_world.specs.Called.{CallsExpire, LeavesLane, ReadsClock, claimed_in, expire_told, is_claim_event, lane_of};
-ghost use Rattle.lane_world.specs.Expiries.{RunsGated, RunsWith};
-ghost use Rattle.lane_world.specs.Worlds.{ArePassesOf, KeepPasses};
+ghost use Rattle.lane_notes.specs.Called.{CallsExpire, LeavesLane, ReadsClock, claimed_in, expire_told, is_claim_event, lane_of};
+ghost use Rattle.lane_notes.specs.Expiries.{RunsGated, RunsWith};
+ghost use Rattle.lane_notes.specs.Worlds.{ArePassesOf, KeepPasses};
 
 use crate::gate::{Gate, Point};
 use crate::world::World;
-use expire_pass::{ExpireAnswer, Handler, Log, Restart};
-use hr_timers::{Claim, Pass, Timers};
+use hr_timers::{Claim, ExpireAnswer, Handler, Log, Pass, Restart, Timers};
 use ktime::Reading;
-use lane_notes::{Notes, note_object_receipts, note_receipts};
-use lane_world::{Lane, WorldPass};
+use lane_notes::{Lane, Notes, WorldPass, note_object_receipts, note_receipts};
 use record_text::{Answer, ItemList, Label};
 use seq_timer::{Context, Event};
 use std::alloc::{AllocError, Global};
@@ -34,7 +32,7 @@ impl<G: Gate> Handler for Gated<'_, '_, '_, G> {
     ghost use Rattle.std.specs.Prelude.{◌+◌, length};
     ghost use Rattle.timer_objects.specs.Callbacks.{bases_of};
     ghost use Rattle.timer_objects.specs.QueuedFirings.{queued_ready_of};
-    ghost use Rattle.lane_world.specs.Expiries.{FiresLent};
+    ghost use Rattle.lane_notes.specs.Expiries.{FiresLent};
 
     ghost meaning = { record { did = λ o h h' v w c reading restart. FiresLent o h.firing.ghost_name h'.firing.ghost_name h.firing.now h'.firing.now v w c reading restart; ready = λ h. queued_ready_of h.firing.now; timers = λ h. length h.firing.now.objects.now.decls; bases = λ h. bases_of h.firing.now.callbacks.now; counters = λ h. length h.firing.now.objects.now.decls + 1 } };
 
@@ -189,7 +187,7 @@ fn run_with<R: Wait, G: Gate>(
         gate,
         label,
     };
-    expire_pass::expire_in(
+    hr_timers::expire_in(
         rt,
         timers,
         pass,

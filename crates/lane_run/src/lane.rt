@@ -1,9 +1,9 @@
 //! A lane in a round: its calls in their order, each with its answer and with notes of what it did.
 ghost use Rattle.std.specs.Prelude.{◌≡◌, ◌≤◌, ◌<◌, ◌∷◌, [], false, IfOk, OnOk};
 ghost use Rattle.std.specs.List.{AllByRecursion};
-ghost use Rattle.lane_world.specs.Called.{Called, CalledThen, CallsReading, LeavesLane, ReadsClock, TakesReading, lane_of, CanCall};
-ghost use Rattle.lane_world.specs.Rounds.{AnswersCall, CanRun, MakesCalls, RunsLane};
-ghost use Rattle.lane_world.specs.Worlds.{ArePassesOf, KeepPasses, LeadsByName};
+ghost use Rattle.lane_notes.specs.Called.{Called, CalledThen, CallsReading, LeavesLane, ReadsClock, ReadsClockFirst, lane_of, CanCall};
+ghost use Rattle.lane_notes.specs.Rounds.{AnswersCall, CanRun, MakesCalls, RunsLane};
+ghost use Rattle.lane_notes.specs.Worlds.{ArePassesOf, KeepPasses, LeadsByName};
 
 use crate::base_calls::{offline, online};
 use crate::expiring::expire;
@@ -16,7 +16,7 @@ use crate::signals::sigwait;
 use crate::timer_calls::{cancel, look, start, write};
 use crate::world::World;
 use ktime::Reading;
-use lane_world::Lane;
+use lane_notes::Lane;
 use record_text::Answer;
 use script_text::{Call, Round};
 use std::alloc::{AllocError, Global};
@@ -151,7 +151,7 @@ fn make_reading<R: Wait, G: Gate>(
     requires pass { ArePassesOf world.now lane.old.pass }
     requires first { LeadsByName lane.old.label.lane lane.old.pass }
     requires call { CanCall world.now lane.old.label.lane call }
-    requires reads { TakesReading call }
+    requires reads { ReadsClockFirst call }
     ensures leaves { LeavesLane world.now lane.old lane.new }
     ensures call { IfOk result (λ a. CallsReading world.now (lane_of lane.old) (lane_of lane.new) call a) }
 {
@@ -173,7 +173,7 @@ fn make_then<R: Wait, G: Gate>(
     requires pass { ArePassesOf world.now lane.old.pass }
     requires first { LeadsByName lane.old.label.lane lane.old.pass }
     requires call { CanCall world.now lane.old.label.lane call }
-    requires reads { TakesReading call }
+    requires reads { ReadsClockFirst call }
     requires reading { ReadsClock lane.old.pass lane.old.pass reading }
     ensures leaves { LeavesLane world.now lane.old lane.new }
     ensures call { IfOk result (λ a. CalledThen world.now (lane_of lane.old) call a (lane_of lane.new)) }

@@ -3,7 +3,7 @@
 #![tactic(auto)]
 
 pub use gate::{Gate, OpenGate, Point};
-pub use lane_world::WorldPass;
+pub use lane_notes::WorldPass;
 pub use running::run;
 pub use world::World;
 

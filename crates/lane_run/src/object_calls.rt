@@ -13,14 +13,13 @@ ghost use Rattle.timer_objects.specs.declared.answers.Overrun.{Overrun};
 ghost use Rattle.timer_objects.specs.declared.answers.Slept.{Slept};
 ghost use Rattle.timer_objects.specs.declared.answers.Readable.{Readable};
 ghost use Rattle.record_text.specs.declared.record.Answer.TheVariants as answers;
-ghost use Rattle.lane_world.specs.Called.{CallsLook, CallsObject, IsPosixTimer, LeavesLane, LeavesRest, ReadsClock, accept_told, gettime_told, interrupt_told, lane_of, read_told, settime_told, sleep_told, slept_told, with_done, IsSettable, IsOfKind};
-ghost use Rattle.lane_world.specs.Worlds.{ArePassesOf};
+ghost use Rattle.lane_notes.specs.Called.{CallsLook, CallsObject, IsPosixTimer, LeavesLane, LeavesRest, ReadsClock, accept_told, gettime_told, interrupt_told, lane_of, read_told, settime_told, sleep_told, slept_told, with_done, IsSettable, IsOfKind};
+ghost use Rattle.lane_notes.specs.Worlds.{ArePassesOf};
 
 use crate::world::World;
-use expire_pass::Log;
+use hr_timers::Log;
 use ktime::{Reading, TimeSpec};
-use lane_notes::{note_object_receipts, note_receipts};
-use lane_world::Lane;
+use lane_notes::{Lane, note_object_receipts, note_receipts};
 use record_text::Answer;
 use sleeper::SleptAnswer;
 use std::alloc::{AllocError, Global};

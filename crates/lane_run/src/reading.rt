@@ -1,14 +1,14 @@
 //! The one reading of a call, and what is read at the end of a run.
 ghost use Rattle.std.specs.Prelude.{◌≡◌, length, []};
 ghost use Rattle.clock_cell.specs.Views.{seen_reading, writes};
-ghost use Rattle.lane_world.specs.Called.{LeavesLane, ReadsFirst, lane_of};
-ghost use Rattle.lane_world.specs.Rounds.{IsMain};
-ghost use Rattle.lane_world.specs.Runs.{LooksAtAll, Settles};
-ghost use Rattle.lane_world.specs.Worlds.{ArePassesOf};
+ghost use Rattle.lane_notes.specs.Called.{LeavesLane, ReadsFirst, lane_of};
+ghost use Rattle.lane_notes.specs.Rounds.{IsMain};
+ghost use Rattle.lane_notes.specs.Runs.{LooksAtAll, Settles};
+ghost use Rattle.lane_notes.specs.Worlds.{ArePassesOf};
 
 use crate::world::World;
 use ktime::Reading;
-use lane_world::{Lane, WorldPass};
+use lane_notes::{Lane, WorldPass};
 use std::sync::Wait;
 
 /// Reads the clock, in its place among the entries of the timers.

@@ -2,18 +2,17 @@
 ghost use Rattle.std.specs.Prelude.{◌≡◌, ◌≤◌, ◌<◌, ◌+◌, ◌-◌, ℕ, [], ◌++◌, false, All, OnOk, get_or, length, map, option_to_list, vec_capacity, vec_len};
 ghost use Rattle.std.specs.List.{AllByRecursion};
 ghost use Rattle.lane_notes.specs.Notes.{no_notes};
-ghost use Rattle.lane_world.specs.declared.Lane.{Lane};
-ghost use Rattle.lane_world.specs.Rounds.{BeginsRound, CanRun, HasSplit, IsLaneOf, IsMain, MakesRound, RunsLane, TakesInLanes, TakesInPass, as_index, calling_from, has_calls, with_lane, with_left};
-ghost use Rattle.lane_world.specs.Called.{CanCall};
-ghost use Rattle.lane_world.specs.Worlds.{AnswerFor, ArePassesOf};
+ghost use Rattle.lane_notes.specs.declared.lane.Lane.{Lane};
+ghost use Rattle.lane_notes.specs.Rounds.{BeginsRound, CanRun, HasSplit, IsLaneOf, IsMain, MakesRound, RunsLane, TakesInLanes, TakesInPass, as_index, calling_from, has_calls, with_lane, with_left};
+ghost use Rattle.lane_notes.specs.Called.{CanCall};
+ghost use Rattle.lane_notes.specs.Worlds.{AnswerFor, ArePassesOf};
 ghost use Rattle.lane_run.specs.Crews.{AllMayGive, IsRoundOf};
 
 use crate::crew::{Ground, LaneHandoff, LaneRound, LaneSeat};
 use crate::gate::Gate;
 use crate::lane::run_lane;
 use crate::world::World;
-use lane_notes::Notes;
-use lane_world::{Lane, WorldPass};
+use lane_notes::{Lane, Notes, WorldPass};
 use record_text::{Answer, ItemList, Label};
 use script_text::Round;
 use std::alloc::{AllocError, Global};
@@ -30,7 +29,7 @@ pub struct Left {
 }
 
 impl Model for Left {
-    ghost use Rattle.lane_world.specs.Rounds.{LeftOf};
+    ghost use Rattle.lane_notes.specs.Rounds.{LeftOf};
 
     ghost Value = { LeftOf };
 

@@ -1,10 +1,10 @@
 //! The run of a script: its rounds in turn, and the record of what all lanes left.
 ghost use Rattle.std.specs.Prelude.{◌≡◌, [], IfOk, length, replicate};
 ghost use Rattle.script_text.specs.Scripts.{IsInRange};
-ghost use Rattle.lane_world.specs.Rounds.{IsMain};
-ghost use Rattle.lane_world.specs.Runs.{MakesRun, ShowsAllSeen, ShowsLeft};
+ghost use Rattle.lane_notes.specs.Rounds.{IsMain};
+ghost use Rattle.lane_notes.specs.Runs.{MakesRun, ShowsAllSeen, ShowsLeft};
 ghost use Rattle.run_history.specs.Fits.{Fits};
-ghost use Rattle.lane_world.specs.Worlds.{AreFirst, AreLast, ArePassesOf, IsWorldOf};
+ghost use Rattle.lane_notes.specs.Worlds.{AreFirst, AreLast, ArePassesOf, IsWorldOf};
 ghost use Rattle.lane_run.specs.Crews.{AllAwaitWorkOf, AllHaveEnded, AllMayGive, HasMain, IsCrewOf, IsGroundOf, RunsHeld};
 
 use crate::crew::{Crew, Ground, LaneHandoff, LaneSeat, close_all, end_all, make_crew, serve_all};
@@ -12,8 +12,7 @@ use crate::gate::Gate;
 use crate::reading::{look_at_all, settle};
 use crate::rounds::{Left, make_round};
 use crate::world::World;
-use lane_notes::{Notes, record_of};
-use lane_world::WorldPass;
+use lane_notes::{Notes, WorldPass, record_of};
 use record_text::{Answer, ItemList, RunRecord};
 use script_text::Script;
 use std::alloc::{AllocError, Global};

@@ -4,13 +4,13 @@ ghost use Rattle.counted_row.specs.Views.{StateAfter};
 ghost use Rattle.timer_objects.specs.Known.{seen_of};
 ghost use Rattle.timer_objects.specs.Meaning.{object_meaning};
 ghost use Rattle.timer_objects.specs.Signals.{IsQueued, object_fresh};
-ghost use Rattle.lane_world.specs.Called.{CallsSigwait, LeavesLane, ReadsClock, SeesEntry, SeesSent, SeesStale, lane_of, next_told};
-ghost use Rattle.lane_world.specs.Worlds.{ArePassesOf, KeepPasses};
+ghost use Rattle.lane_notes.specs.Called.{CallsSigwait, LeavesLane, ReadsClock, SeesEntry, SeesSent, SeesStale, lane_of, next_told};
+ghost use Rattle.lane_notes.specs.Worlds.{ArePassesOf, KeepPasses};
 
 use crate::object_calls::{make_logs, note_logs};
 use crate::world::World;
 use ktime::Reading;
-use lane_world::{Lane, WorldPass};
+use lane_notes::{Lane, WorldPass};
 use record_text::Answer;
 use std::alloc::{AllocError, Global};
 use std::sync::Wait;

@@ -1,14 +1,12 @@
 //! The calls on timers by themselves, and the writes of the clock.
 ghost use Rattle.std.specs.Prelude.{◌≡◌, ◌≤◌, ◌<◌, [], IfOk, length};
-ghost use Rattle.lane_world.specs.Called.{CallsCancel, CallsStart, CallsWrite, LeavesLane, LooksAtTimer, ReadsClock, cancel_told, lane_of, start_told};
-ghost use Rattle.lane_world.specs.Worlds.{ArePassesOf};
+ghost use Rattle.lane_notes.specs.Called.{CallsCancel, CallsStart, CallsWrite, LeavesLane, LooksAtTimer, ReadsClock, cancel_told, lane_of, start_told};
+ghost use Rattle.lane_notes.specs.Worlds.{ArePassesOf};
 
 use crate::world::World;
-use clock_model::{ClockFault, Write};
 use hr_timers::{Log, StartAnswer};
-use ktime::Reading;
-use lane_notes::note_receipts;
-use lane_world::Lane;
+use ktime::{ClockFault, Reading, Write};
+use lane_notes::{Lane, note_receipts};
 use record_text::{Answer, ClockLine};
 use script_text::StartRequest;
 use seq_timer::{Asked, CancelAnswer, Peek};

@@ -7,12 +7,12 @@ ghost use Rattle.hr_timers.specs.Known.{HasEachPlace, HasEachShift, IsPassOf};
 ghost use Rattle.clock_cell.specs.Views.{KnowsClock};
 ghost use Rattle.script_text.specs.Scripts.{IsInRange};
 ghost use Rattle.script_text.specs.Declarations.{declared_as, terms_of};
-ghost use Rattle.lane_world.specs.Rounds.{TakesInPass};
-ghost use Rattle.lane_world.specs.Worlds.{AnswerFor, AreFirst, AreLast, ArePassesOf, IsWorldOf, SplitsPass, callback_of, decl_of};
+ghost use Rattle.lane_notes.specs.Rounds.{TakesInPass};
+ghost use Rattle.lane_notes.specs.Worlds.{AnswerFor, AreFirst, AreLast, ArePassesOf, IsWorldOf, SplitsPass, callback_of, decl_of};
 
 use clock_cell::SharedClock;
 use hr_timers::{Pass, Timers};
-use lane_world::WorldPass;
+use lane_notes::WorldPass;
 use record_text::Version;
 use script_text::{Callback, Declaration, Kind, Script};
 use seq_timer::{Context, Declared, Terms};
@@ -31,7 +31,7 @@ pub struct World {
 }
 
 impl Model for World {
-    ghost use Rattle.lane_world.specs.Worlds.{IsWhole, WorldOf};
+    ghost use Rattle.lane_notes.specs.Worlds.{IsWhole, WorldOf};
 
     ghost Value = { WorldOf };
 

@@ -9,9 +9,9 @@ use Rattle.seq_timer.specs.Histories as seq
 use Rattle.seq_timer.specs.declared.system.SystemEntry.{SystemEntry}
 use Rattle.base_row.specs.declared.view.Opening.{Opening}
 use Rattle.hr_timers.specs.Known.{KnownOfTimers, MadeAt}
-use Rattle.expire_pass.specs.Handlers.{KeepsPass}
+use Rattle.hr_timers.specs.Handlers.{KeepsPass}
 use Rattle.base_row.specs.declared.log.Receipt.{Receipt}
-use Rattle.expire_pass.proofs.Turning.{keeps_trans}
+use Rattle.hr_timers.proofs.ExpiryTurns.{keeps_trans}
 use Rattle.timer_setting.specs.declared.arming.Arm.{Arm}
 use Rattle.timer_setting.specs.declared.arming.Wanted.{Wanted}
 use Rattle.timer_setting.specs.declared.answers.SettimeAnswer.{SettimeAnswer}
@@ -32,7 +32,7 @@ use Rattle.timer_objects.specs.Arming.{ArmsFor}
 use Rattle.timer_objects.specs.BlockingReads.{ReadsBlocking}
 use Rattle.timer_objects.specs.declared.answers.BlockingRead.{BlockingRead}
 use Rattle.timer_objects.specs.declared.answers.BlockingRead.TheVariants as blocking
-use Rattle.timer_objects.specs.Calls.{Accepts, ArmsAnew, Caller, FindsFull, Interrupts, LooksAtObject, RearmingMade, ReadsFd, SettimeMade, SleepMade}
+use Rattle.timer_objects.specs.Calls.{Accepts, ArmsAnew, Caller, FindsHistoryFull, Interrupts, LooksAtObject, RearmingMade, ReadsFd, SettimeMade, SleepMade}
 use Rattle.timer_objects.specs.Known.{ObjectsOf}
 use Rattle.timer_objects.specs.Turns.{HasTurn}
 use Rattle.timer_objects.proofs.Lending.{keeps_added, keeps_read, keeps_same}
@@ -74,7 +74,7 @@ module _ (x : ObjectsOf) (o : Opening) (old new : Caller) (id : ℕ) where
   pub keeps_looked : {object : Object} {n : ℕ} → LooksAtObject old new id object n → KeepsBoth old new
   keeps_looked looks = (keeps_looks old.timers new.timers looks.timers, keeps_read old.objects new.objects looks.reads.pass)
 
-  pub keeps_full : (n : ℕ) → FindsFull x old new id n → KeepsBoth old new
+  pub keeps_full : (n : ℕ) → FindsHistoryFull x old new id n → KeepsBoth old new
   keeps_full n full = (keeps_looks old.timers new.timers full.looks, keeps_read old.objects new.objects full.reads.pass)
 
   pub keeps_none : new ≡ old → KeepsBoth old new

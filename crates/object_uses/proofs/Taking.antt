@@ -30,7 +30,7 @@ use Rattle.timer_objects.specs.Calls.{Accepts, Caller, RearmingMade, ReadsFd}
 use Rattle.timer_objects.specs.Meaning.{object_meaning}
 use Rattle.timer_objects.specs.Known.{ObjectsOf, ObjectsPass}
 use Rattle.timer_objects.specs.Steps.{object_answer}
-use Rattle.object_uses.specs.Callers.{AcceptFits, EndsWith, HasCounted, HasSignal, ReadFits, TakesCount, TakesSignal, WaitFits}
+use Rattle.object_uses.specs.Callers.{AcceptFits, EndsWith, HasCounted, HasSignal, ReadFits, TakesCount, GetsSignal, WaitFits}
 
 -- the number that a reply has
 abbrev number_in : ObjectReply → Option ℕ
@@ -92,7 +92,7 @@ ends_with p q id call commits = record {
 
 module _ (x : ObjectsOf) (o : Opening) (old new : Caller) (id : ℕ) (reading : ClockReading) (n : ℕ) where
   takes_signal : RearmingMade x o old new id rearmings.Accepting reading (replies.Accept (acceptances.Accepted n))
-      → TakesSignal old.objects new.objects id reading n
+      → GetsSignal old.objects new.objects id reading n
   takes_signal made = record { ends = ends_with _ _ _ _ made.enters.commits; had = signal_of reading made.arm n _ (ap number_in made.enters.reply) }
 
   takes_count : RearmingMade x o old new id rearmings.Reading reading (replies.Read (reads.Count n))

@@ -6,7 +6,7 @@ use Rattle.pass_names.specs.Names.{after_retire}
 use Rattle.pass_names.specs.Passes.{Begins, GoesOn}
 use Rattle.base_row.specs.Calls as rows
 use Rattle.hr_timers.specs.Known.{IsPassOf, PassOf}
-use Rattle.expire_pass.specs.Handlers.{KeepsPass}
+use Rattle.hr_timers.specs.Handlers.{KeepsPass}
 use Rattle.base_row.specs.declared.log.Receipt.{Receipt}
 use Rattle.base_row.specs.Logs.{LogOf}
 use Rattle.timer_setting.specs.declared.arming.Arm.{Arm}
@@ -99,7 +99,7 @@ pub record HasCounted (object : Object) (call : ObjectCall) (reading : ClockRead
   pub left : (fd_read descriptor reading arm).count ≡ 0
 
 -- a signal was accepted at this reading: it was pending in the state before the call
-pub record TakesSignal (p q : ObjectsPass) (id : ℕ) (reading : ClockReading) (n : ℕ) : Type 0 where
+pub record GetsSignal (p q : ObjectsPass) (id : ℕ) (reading : ClockReading) (n : ℕ) : Type 0 where
   pub ends : EndsWith p q id
   pub had : HasSignal ends.state reading n
 
@@ -110,7 +110,7 @@ pub record TakesCount (p q : ObjectsPass) (id : ℕ) (reading : ClockReading) (n
 
 -- what an acceptance answers
 abbrev pub AcceptFits : ObjectsPass → ObjectsPass → ℕ → ClockReading → AcceptAnswer → Type 0
-AcceptFits p q id reading (acceptances.Accepted overrun) = TakesSignal p q id reading overrun
+AcceptFits p q id reading (acceptances.Accepted overrun) = GetsSignal p q id reading overrun
 AcceptFits p q id reading acceptances.NoSignal = length q.knows.pass.mine ≡ length p.knows.pass.mine + 1
 AcceptFits p q id reading (acceptances.Spent n) = (n ≡ length (seen_of q id)) × (q.knows.pass.mine ≡ p.knows.pass.mine)
 

@@ -3,7 +3,7 @@ use Rattle.ktime.specs.Readings.{ClockReading}
 use Rattle.base_row.specs.declared.view.Opening.{Opening}
 use Rattle.hr_timers.specs.declared.numbers.ClaimNumbers.{ClaimNumbers}
 use Rattle.hr_timers.specs.Known.{KnownOfTimers}
-use Rattle.expire_pass.specs.declared.handler.Restart.{Restart}
+use Rattle.hr_timers.specs.declared.handler.Restart.{Restart}
 use Rattle.timer_objects.specs.Firings.{Firing, Fires}
 
 -- the function of a claim has run, once its pass knew more of the timers

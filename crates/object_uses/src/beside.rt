@@ -9,8 +9,7 @@ ghost use Rattle.object_uses.specs.Callers.{HasPasses, KeepsPasses, MayCall, May
 use crate::counts::read_count;
 use crate::expiring::{Expired, expire_objects};
 use counted_row::RowPass;
-use expire_pass::Log;
-use hr_timers::{Pass, Timers};
+use hr_timers::{Log, Pass, Timers};
 use ktime::Reading;
 use std::alloc::{AllocError, Global};
 use std::sync::Wait;

@@ -9,8 +9,7 @@ ghost use Rattle.object_uses.specs.Callers.{HasPasses, KeepsPasses, MayCall, May
 use crate::expiring::{Expired, expire_objects};
 use clock_cell::{ClockPass, SharedClock};
 use counted_row::RowPass;
-use expire_pass::Log;
-use hr_timers::{Pass, Timers};
+use hr_timers::{Log, Pass, Timers};
 use std::alloc::{AllocError, Global};
 use std::sync::Wait;
 use timer_objects::{BlockingRead, Callback, Object, ObjectLog, Objects, Reader};

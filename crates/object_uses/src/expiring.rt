@@ -5,8 +5,7 @@ ghost use Rattle.timer_objects.specs.Known.{IsObjectsPass};
 ghost use Rattle.object_uses.specs.Callers.{KeepsPasses, MayRun};
 
 use counted_row::RowPass;
-use expire_pass::{ExpireAnswer, Log, expire};
-use hr_timers::{Pass, Timers};
+use hr_timers::{ExpireAnswer, Log, Pass, Timers, expire};
 use ktime::Reading;
 use std::alloc::{AllocError, Global};
 use std::sync::Wait;

@@ -10,8 +10,7 @@ ghost use Rattle.object_uses.specs.Queued.{KeepsSignals};
 
 use crate::expiring::Expired;
 use counted_row::RowPass;
-use expire_pass::{Log, expire};
-use hr_timers::{Pass, Timers};
+use hr_timers::{Log, Pass, Timers, expire};
 use ktime::Reading;
 use signal_queue::SignalPass;
 use std::alloc::{AllocError, Global};

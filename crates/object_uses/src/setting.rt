@@ -6,8 +6,7 @@ ghost use Rattle.timer_objects.specs.Rearming.{caller_of};
 ghost use Rattle.object_uses.specs.Callers.{KeepsPasses, MayCall};
 
 use counted_row::RowPass;
-use expire_pass::Log;
-use hr_timers::{Pass, Timers};
+use hr_timers::{Log, Pass, Timers};
 use ktime::{Reading, TimeSpec};
 use std::sync::Wait;
 use timer_fd::SettimeAnswer;

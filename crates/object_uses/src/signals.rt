@@ -5,8 +5,7 @@ ghost use Rattle.timer_objects.specs.Known.{decl_at, most_noted};
 ghost use Rattle.object_uses.specs.Callers.{AcceptFits, KeepsPasses, MayCall};
 
 use counted_row::RowPass;
-use expire_pass::Log;
-use hr_timers::{Pass, Timers};
+use hr_timers::{Log, Pass, Timers};
 use ktime::Reading;
 use posix_timer::AcceptAnswer;
 use std::sync::Wait;

@@ -10,7 +10,7 @@ use Rattle.seq_timer.specs.declared.system.SystemEntry.TheVariants as entries
 use Rattle.seq_timer.proofs.Systems.{rises_of-append}
 use Rattle.std.proofs.Common.{length-append}
 use Rattle.ktime.specs.Readings.{ClockReading}
-use Rattle.clock_model.specs.declared.write.Write.{Write}
+use Rattle.ktime.specs.declared.write.Write.{Write}
 use Rattle.clock_cell.specs.declared.view.ClockView.{ClockView}
 use Rattle.clock_cell.specs.Views.{AcceptsWrite, writes}
 use Rattle.pass_names.proofs.Passes.{begins_length}

@@ -3,7 +3,7 @@
 use Rattle.std.specs.Prelude.{ℕ, ◌≡◌, ◌+◌, ◌≤◌, List, [], ◌∷◌, ◌++◌, length, Result, IfOk, OnErr}
 use Rattle.clock_cell.specs.Views.{writes}
 use Rattle.clock_cell.specs.declared.view.ClockView.{ClockView}
-use Rattle.clock_model.specs.declared.write.ClockFault.{ClockFault}
+use Rattle.ktime.specs.declared.write.ClockFault.{ClockFault}
 use Rattle.ktime.specs.Readings.{ClockReading}
 use Rattle.pass_names.specs.Passes.{Begins}
 use Rattle.seq_timer.specs.Systems.{rises_of}

@@ -7,9 +7,8 @@ ghost use Rattle.hr_timers.specs.Known.{IsPassOf, KeepsLocks};
 ghost use Rattle.ordered_clock.specs.Moments.{HasPlace, ReadsAt, clock_counter, told};
 
 use clock_cell::{ClockPass, SharedClock, WriteAnswer};
-use clock_model::{Clock, Write};
 use hr_timers::{Pass, Timers};
-use ktime::Reading;
+use ktime::{Clock, Reading, Write};
 use std::sync::Wait;
 
 /// The timers' counter that the clock's writes raise.

@@ -20,8 +20,8 @@ abbrev pub queued_opening : ClockId → ℕ → ℕ → QueuedState
 queued_opening clock base limit = record { timer = posix_opening clock base limit; signalled = 0 }
 
 -- an expiry of this generation counts, so its signal goes to the queue
-abbrev pub sends : QueuedState → ℕ → ClockReading → Bool
-sends t generation reading = is_expiry_of t.timer.phase generation reading
+abbrev pub sends_signal : QueuedState → ℕ → ClockReading → Bool
+sends_signal t generation reading = is_expiry_of t.timer.phase generation reading
 
 -- the signal of this number is pending; that of an earlier setting, and one that was accepted, is stale
 abbrev pub is_fresh : QueuedState → ℕ → Bool
@@ -29,12 +29,12 @@ is_fresh t number = t.timer.pending && nat_eq t.signalled number
 
 -- what a call needs: those of a POSIX timer what they need there; and an overflow is of an expiry that counts
 abbrev pub QueuedAllows : QueuedState → ObjectCall → Type 0
-QueuedAllows t (calls.Overflow generation reading) = (t.timer.stamp < t.timer.limit) × (sends t generation reading ≡ true)
+QueuedAllows t (calls.Overflow generation reading) = (t.timer.stamp < t.timer.limit) × (sends_signal t generation reading ≡ true)
 QueuedAllows t call = PosixAllows t.timer call
 
 -- the number of the last signal after a call: a signal has the number of its expiry's entry
 abbrev pub signalled_after : QueuedState → ObjectCall → ℕ
-signalled_after t (calls.Trigger generation reading) = if sends t generation reading then t.timer.stamp + 1 else t.signalled
+signalled_after t (calls.Trigger generation reading) = if sends_signal t generation reading then t.timer.stamp + 1 else t.signalled
 signalled_after t call = t.signalled
 
 -- the timer after a call

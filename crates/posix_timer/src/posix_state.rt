@@ -3,7 +3,7 @@ ghost use Rattle.std.specs.Prelude.{◌≡◌, ◌≤◌, ◌<◌, ◌↔◌, �
 ghost use Rattle.ktime.specs.Times.{last_time, second};
 ghost use Rattle.timer_setting.specs.Arguments.{abstime, bits_beyond, time_of};
 ghost use Rattle.timer_setting.specs.Phases.{IsOutcomeOf, is_expiry_of};
-ghost use Rattle.timer_setting.specs.Settimes.{most_entries};
+ghost use Rattle.timer_setting.specs.Settimes.{most_object_entries};
 ghost use Rattle.timer_setting.specs.StepTables.{IsAnswered};
 ghost use Rattle.posix_timer.specs.States.{PosixTimer, ArePosixArguments, PosixInvariant, posix_opening, setting_of};
 ghost use Rattle.posix_timer.specs.Steps.{PosixAllows, accept_refusal, accept_wanted, accepted, kept_by, posix_answer, posix_overflowed, posix_set, posix_settime_answer, posix_settime_wanted, posix_settime_refusal, posix_step, posix_table, posix_trigger_refusal};
@@ -47,7 +47,7 @@ impl PosixState {
     /// A timer that is disarmed. At `max_events` entries its history is full.
     pub fn make(clock: ClockId, base: u32, max_events: u64) -> PosixState
         requires some { 0 < max_events }
-        requires few { max_events ≤ most_entries }
+        requires few { max_events ≤ most_object_entries }
         ensures { result ≡ posix_opening clock base max_events }
     {
         PosixState {

@@ -1,7 +1,7 @@
 //! A POSIX timer whose signals go to a queue.
 ghost use Rattle.std.specs.Prelude.{◌≡◌, ◌≤◌, ◌<◌};
-ghost use Rattle.timer_setting.specs.Settimes.{most_entries};
-ghost use Rattle.posix_timer.specs.Queued.{QueuedAllows, is_fresh, queued_answer, queued_opening, queued_step, sends};
+ghost use Rattle.timer_setting.specs.Settimes.{most_object_entries};
+ghost use Rattle.posix_timer.specs.Queued.{QueuedAllows, is_fresh, queued_answer, queued_opening, queued_step, sends_signal};
 
 use crate::posix_state::PosixState;
 use ktime::{ClockId, Reading};
@@ -19,7 +19,7 @@ impl QueuedState {
     /// A timer that is disarmed. At `max_events` entries its history is full.
     pub fn make(clock: ClockId, base: u32, max_events: u64) -> QueuedState
         requires some { 0 < max_events }
-        requires few { max_events ≤ most_entries }
+        requires few { max_events ≤ most_object_entries }
         ensures { result ≡ queued_opening clock base max_events }
     {
         QueuedState {
@@ -30,7 +30,7 @@ impl QueuedState {
 
     /// Whether an expiry of this generation counts, so that its signal goes to the queue.
     pub fn sends(&self, generation: u64, reading: Reading) -> bool
-        ensures { result ≡ sends self.now generation reading }
+        ensures { result ≡ sends_signal self.now generation reading }
     {
         self.timer.is_expiry(generation, reading)
     }

@@ -5,8 +5,8 @@ use Rattle.std.proofs.lemmas.List.{append-nil, length-map}
 use Rattle.std.proofs.lemmas.List.Sorted.{length_permutation}
 use Rattle.ktime.specs.Readings.{ClockReading}
 use Rattle.clock_cell.specs.Views.{reading_after, writes}
-use Rattle.clock_model.specs.Clocks.{after_write, AreAccepted, at_stamp, clock_after, last_stamp}
-use Rattle.clock_model.specs.declared.write.Write.{Write}
+use Rattle.ktime.specs.Clocks.{after_write, AreAccepted, at_stamp, clock_after, last_stamp}
+use Rattle.ktime.specs.declared.write.Write.{Write}
 use Rattle.lane_notes.specs.Notes.{NotesOf}
 use Rattle.lane_notes.specs.Sorted.{is_of_list, IsSortedFrom, place_of_write}
 use Rattle.lane_notes.specs.declared.notes.WriteNote.{WriteNote}
@@ -20,10 +20,10 @@ use Rattle.run_history.specs.Promises.{GoesOnClock}
 use Rattle.run_history.specs.Runs.{CallLog, Ending}
 use Rattle.run_history.proofs.Lists.{all_at, map_get}
 use Rattle.run_history.proofs.Shown.{same_items as same_places}
-use Rattle.lane_world.proofs.Kept.{WriteNotes}
-use Rattle.lane_world.proofs.Left.{AreLastOf, AreLeft}
-use Rattle.lane_world.specs.Worlds.{WorldOf}
-use Rattle.lane_world.specs.declared.WorldPass.{WorldPass}
+use Rattle.lane_notes.proofs.Kept.{WriteNotes}
+use Rattle.lane_notes.proofs.Left.{AreLastOf, AreLeft}
+use Rattle.lane_notes.specs.Worlds.{WorldOf}
+use Rattle.lane_notes.specs.declared.lane.WorldPass.{WorldPass}
 use Rattle.record_laws.proofs.LastSeen.{writes_once}
 use Rattle.record_laws.proofs.OwnLines.{at_line, InSpan, lines_long, own_lines, ShowNotes}
 use Rattle.std.proofs.lemmas.Simd.{map-map}

@@ -9,11 +9,11 @@ use Rattle.lane_notes.specs.Notes.{NotesOf}
 use Rattle.lane_notes.specs.Records.{record_from}
 use Rattle.lane_notes.specs.Sorted.{IsSortedFrom}
 use Rattle.run_history.specs.Runs.{CallLog, RoundStarts, Ending, IsEnding, IsRun}
-use Rattle.lane_world.proofs.Declared.{room_known}
-use Rattle.lane_world.proofs.Kept.{Follows}
-use Rattle.lane_world.proofs.Left.{AreLastOf, AreLeft, ending_of, AreByRounds}
-use Rattle.lane_world.specs.Worlds.{WorldOf}
-use Rattle.lane_world.specs.declared.WorldPass.{WorldPass}
+use Rattle.lane_notes.proofs.Declared.{room_known}
+use Rattle.lane_notes.proofs.Kept.{Follows}
+use Rattle.lane_notes.proofs.Left.{AreLastOf, AreLeft, ending_of, AreByRounds}
+use Rattle.lane_notes.specs.Worlds.{WorldOf}
+use Rattle.lane_notes.specs.declared.lane.WorldPass.{WorldPass}
 use Rattle.record_laws.proofs.ClockLines.{clock_accepted, clock_few, clock_goes_on, clock_in_span, clock_lines, clock_lines_long, clock_own}
 use Rattle.record_laws.proofs.FiledNotes.{are_filed, filed_notes, receipts_inside}
 use Rattle.record_laws.proofs.HungLines.{looks_own, skips_own, looks_under, skips_under}

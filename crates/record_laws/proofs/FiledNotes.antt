@@ -35,11 +35,11 @@ use Rattle.run_history.specs.Runs.{CallLog}
 use Rattle.run_history.proofs.Known.{behind_all, rises_lower}
 use Rattle.run_history.proofs.Laid.{same_place}
 use Rattle.run_history.proofs.Lists.{all_at, each, at_map, map_get}
-use Rattle.lane_world.proofs.Kept.{BaseNotes, EntryNotes, ObjectNotes, ToldNote, WriteNotes, of_base, of_entry, of_write, told_notes, turn_notes}
-use Rattle.lane_world.proofs.PartLists.{each_weaker}
-use Rattle.lane_world.proofs.Left.{AreLastOf, AreLeft}
-use Rattle.lane_world.specs.Worlds.{WorldOf}
-use Rattle.lane_world.specs.declared.WorldPass.{WorldPass}
+use Rattle.lane_notes.proofs.Kept.{BaseNotes, EntryNotes, ObjectNotes, ToldNote, WriteNotes, of_base, of_entry, of_write, told_notes, turn_notes}
+use Rattle.lane_notes.proofs.PartLists.{each_weaker}
+use Rattle.lane_notes.proofs.Left.{AreLastOf, AreLeft}
+use Rattle.lane_notes.specs.Worlds.{WorldOf}
+use Rattle.lane_notes.specs.declared.lane.WorldPass.{WorldPass}
 use Rattle.record_laws.proofs.LastSeen.{base_lines_are, entries_once, has_receipt, HasReceipt, is_told, note_made, noted_at, object_lines_are, objects_once, rises_counted, same_parts, write_rises_once, writes_once, shifts_once, timer_lines_are, told_parts}
 use Rattle.record_laws.proofs.Turns.{all_turns, is_on, line_told, none_of_turns, turns_of, turns_permuted, twice_many}
 use Rattle.record_laws.proofs.Numbered.{as_many, at_most_one, number_within}
@@ -226,8 +226,8 @@ module _ {s : Script} {x : WorldOf} {q : WorldPass} {notes sorted : NotesOf} {lo
       let two = all_at (IsMade seen) (logs c).notes j y (left.stand c).made at in
       let o = owner_of y.shown in
       let same : owner_of p.0.shown ≡ o = ap (λ (z : PlacedEntry). owner_of z.shown) (sym told) in
-      let its : receipts.count o (take p.1.place seen) + 1 ≡ p.0.number =
-      subst (λ u. receipts.count u (take p.1.place seen) + 1 ≡ p.0.number) same one.number in
+      let its : receipts.count_owned o (take p.1.place seen) + 1 ≡ p.0.number =
+      subst (λ u. receipts.count_owned u (take p.1.place seen) + 1 ≡ p.0.number) same one.number in
       let place : p.1.place ≡ y.place = same_place seen p.1.place y.place o one.step two.step one.there two.there (one.owner ∙ same) two.owner
       (omega (arith, its, two.number, ap (λ (z : PlacedEntry). z.number) told)) in
       ap (λ l. record { label = l; note = noted_at p.1.place p.0 }) label ∙ ap (λ k. record { label = c; note = noted_at k p.0 }) place
@@ -252,7 +252,7 @@ module _ {s : Script} {x : WorldOf} {q : WorldPass} {notes sorted : NotesOf} {lo
   writes_apart (suc k) n = subst (λ ws. length ws ≤ 1) (sym (none_elsewhere k n notes.writes)) (omega arith)
 
   -- a list has as many receipts as entries
-  many_filed : (o : Owner) → length (files_on o filed_notes) ≡ receipts.count o seen
+  many_filed : (o : Owner) → length (files_on o filed_notes) ≡ receipts.count_owned o seen
   many_filed (TimersList t) =
       sym (length-map (files_on (TimersList t) filed_notes) line_filed) ∙ ap length (shapes (TimersList t) ∙ of_timer_told t sorted)
       ∙ length-map (filter (is_of_list place_of_entry t) sorted.entries) _ ∙ as_many is.entries (entries_once last left t)

@@ -1,5 +1,5 @@
 -- The record has under its lines the looks and refused expiries that calls noted, each under the line of its number.
-use Rattle.lane_world.proofs.Kept.{IsNoteSeen}
+use Rattle.lane_notes.proofs.Kept.{IsNoteSeen}
 use Rattle.run_history.specs.Receipts as receipts
 use Rattle.run_history.specs.Witnesses.{TimersList}
 use Rattle.std.proofs.Common.{◌≡◌, ℕ, ◌+◌, ◌≤◌, List, filter, length, map, arith, refl, sym, ap, ◌∙◌, subst}
@@ -28,10 +28,10 @@ use Rattle.run_history.specs.Receipts.{Rises}
 use Rattle.run_history.specs.Runs.{CallLog}
 use Rattle.run_history.proofs.Lists.{all_at, each}
 use Rattle.run_history.proofs.Looks.{of_call, own_looks_are, own_skips_are}
-use Rattle.lane_world.proofs.Kept.{LookNotes, SkipNotes, looks_on, skips_on}
-use Rattle.lane_world.proofs.Left.{AreLastOf, AreLeft}
-use Rattle.lane_world.specs.Worlds.{WorldOf}
-use Rattle.lane_world.specs.declared.WorldPass.{WorldPass}
+use Rattle.lane_notes.proofs.Kept.{LookNotes, SkipNotes, looks_on, skips_on}
+use Rattle.lane_notes.proofs.Left.{AreLastOf, AreLeft}
+use Rattle.lane_notes.specs.Worlds.{WorldOf}
+use Rattle.lane_notes.specs.declared.lane.WorldPass.{WorldPass}
 use Rattle.std.proofs.lemmas.Simd.{map-map}
 use Rattle.record_laws.proofs.HungNotes.{all_under_lines, calls_under, hung_own, one_of_call, shape}
 use Rattle.record_laws.proofs.LastSeen.{entries_once, object_lines_are, objects_once, timer_lines_are}
@@ -71,7 +71,7 @@ module _ {s : Script} {x : WorldOf} {q : WorldPass} {notes sorted : NotesOf} {lo
       (all_under_lines place_of_look (λ n. n.reply) timer_line (λ line. line.looks) (λ l. l.label) (λ l. l.reply) (λ k n us. map-map _ look_of us)
       place_of_entry t sorted.entries is.looks (λ n st of.
       let its = (look_noted n st).1 in
-      let seen = subst (λ u. n.number ≤ receipts.count (TimersList u) q.timers.known.seen) of its.1 in
+      let seen = subst (λ u. n.number ≤ receipts.count_owned (TimersList u) q.timers.known.seen) of its.1 in
       (omega (arith, its.0), omega (arith, seen, as_many is.entries (entries_once last left t)))))
       (subst (IsPermutation (of_call c shapes)) (own_looks_noted c t) (hung_own place_of_look (λ n. n.reply) t c is.looks))
       (rise_in 1 (looked t (logs c).trace.actions) ((left.tell c).tells.looks_rise t))

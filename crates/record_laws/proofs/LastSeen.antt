@@ -34,11 +34,11 @@ use Rattle.run_history.specs.Runs.{CallLog}
 use Rattle.run_history.proofs.Labels.{label_itself, same_label}
 use Rattle.run_history.proofs.Lists.{all_at, at_left, each}
 use Rattle.run_history.specs.Witnesses.{BasesList, CountersList, Owner, Shown, TimersList, owner_of, owner_of_entry}
-use Rattle.lane_world.proofs.Kept.{ToldNote, base_note_place, note_place, of_base, of_entry, of_object, of_write, own_notes, told_in, told_notes, turn_notes}
-use Rattle.lane_world.proofs.Left.{AreLastOf, AreLeft}
+use Rattle.lane_notes.proofs.Kept.{ToldNote, base_note_place, note_place, of_base, of_entry, of_object, of_write, own_notes, told_in, told_notes, turn_notes}
+use Rattle.lane_notes.proofs.Left.{AreLastOf, AreLeft}
 use Rattle.record_laws.proofs.Turns.{entry_stands_in, filter-turns}
-use Rattle.lane_world.specs.Worlds.{WorldOf}
-use Rattle.lane_world.specs.declared.WorldPass.{WorldPass}
+use Rattle.lane_notes.specs.Worlds.{WorldOf}
+use Rattle.lane_notes.specs.declared.lane.WorldPass.{WorldPass}
 use Rattle.record_laws.proofs.SeenThere.{bases_many, IsThere, none_past, objects_past, rose_more, there_within, timers_many}
 use Rattle.record_laws.proofs.Numbered.{AreEachOnce, count-map, nobody, as_many, lines_are, none_long, once_from, within_from}
 use Rattle.lane_notes.specs.Records.{base_line, noted_base_lines, noted_object_lines, noted_timer_lines, record_from, numbered_from}
@@ -187,7 +187,7 @@ module _ {s : Script} {x : WorldOf} {q : WorldPass} (last : AreLastOf s x q) whe
 
     -- where a list isn't there no number of it is noted
     none_noted_past : {X : Type 0} (place : X → Place) (l : ℕ) (xs : List X) (o : Owner) → (IsThere s o → ⊥)
-        → ((e : X) → HasPlace xs e → (place e).list ≡ l → IsThere s o) → AreEachOnce place l (receipts.count o q.timers.known.seen) xs
+        → ((e : X) → HasPlace xs e → (place e).list ≡ l → IsThere s o) → AreEachOnce place l (receipts.count_owned o q.timers.known.seen) xs
     none_noted_past place l xs o past there = record {
       each = λ n. ap length (nobody (filter (is_at place l n) xs) (λ e st.
           let f = filter_stands_in (is_at place l n) xs e st in
@@ -196,7 +196,7 @@ module _ {s : Script} {x : WorldOf} {q : WorldPass} (last : AreLastOf s x q) whe
     }
 
     -- law: each entry of each timer is noted once
-    pub entries_once : (t : ℕ) → AreEachOnce place_of_entry t (receipts.count (TimersList t) q.timers.known.seen) notes.entries
+    pub entries_once : (t : ℕ) → AreEachOnce place_of_entry t (receipts.count_owned (TimersList t) q.timers.known.seen) notes.entries
     entries_once t = ⊎_elim
         (λ (less : t < length s.timers). once_from q.timers.known.mine
         (λ n. let none = none_at (base_note_place (length s.timers)) t n notes.bases (each _ notes.bases (λ p b at is. omega (arith, is, less))) in
@@ -207,7 +207,7 @@ module _ {s : Script} {x : WorldOf} {q : WorldPass} (last : AreLastOf s x q) whe
         (cases_lt t (length s.timers))
 
     -- law: each entry of each base is
-    pub shifts_once : (b : ℕ) → AreEachOnce place_of_base b (receipts.count (BasesList b) q.timers.known.seen) notes.bases
+    pub shifts_once : (b : ℕ) → AreEachOnce place_of_base b (receipts.count_owned (BasesList b) q.timers.known.seen) notes.bases
     shifts_once b = ⊎_elim
         (λ (less : b < s.bases). record {
           each = λ n. sym (count-map (λ (e : BaseNote). (e.base, e.number)) (is_place b n) notes.bases) ∙ omega (
@@ -233,7 +233,7 @@ module _ {s : Script} {x : WorldOf} {q : WorldPass} (last : AreLastOf s x q) whe
     writes_once = once_from _ left.places.clock ((last.of.passes.known.all_entries last.of.last.clock).once 0)
 
     -- law: so each rise of their counter is
-    pub write_rises_once : AreEachOnce place_of_write 0 (receipts.count (CountersList 0) q.timers.known.seen) notes.writes
+    pub write_rises_once : AreEachOnce place_of_write 0 (receipts.count_owned (CountersList 0) q.timers.known.seen) notes.writes
     write_rises_once = subst (λ n. AreEachOnce place_of_write 0 n notes.writes) (sym last.told) writes_once
 
     -- of each entry of an object two rises were seen
@@ -263,7 +263,7 @@ module _ {s : Script} {x : WorldOf} {q : WorldPass} (last : AreLastOf s x q) whe
         rose_to : (y : PlacedEntry) (k : ℕ) → owner_of y.shown ≡ CountersList k → IsMade q.timers.known.seen y → y.number ≤ rises_of k q.timers.known.seen
         rose_to y k on made =
             let there = subst (λ z. slice_get q.timers.known.seen y.place ≡ Some z) (its_rise made.step k (made.owner ∙ on)) made.there in
-            let number = subst (λ o. receipts.count o (take y.place q.timers.known.seen) + 1 ≡ y.number) on made.number in
+            let number = subst (λ o. receipts.count_owned o (take y.place q.timers.known.seen) + 1 ≡ y.number) on made.number in
             omega (arith, rose_more last.of y.place k there, number)
 
     -- law: the counter of an object's turns has risen twice for each of its entries

@@ -28,11 +28,11 @@ use Rattle.script_text.specs.declared.script.Script.{Script}
 use Rattle.run_history.specs.Promises.{GoesOnClock}
 use Rattle.run_history.specs.Runs.{CallLog, Ending, RoundStarts}
 use Rattle.run_history.proofs.Lists.{all_at}
-use Rattle.lane_world.specs.Runs.{AreObjectLines, ObjectMove, ShowsObjectCall}
-use Rattle.lane_world.proofs.Kept.{ObjectNotes, made_on}
-use Rattle.lane_world.proofs.Left.{AreLastOf, AreLeft, ending_of}
-use Rattle.lane_world.specs.Worlds.{WorldOf, decl_as}
-use Rattle.lane_world.specs.declared.WorldPass.{WorldPass}
+use Rattle.lane_notes.specs.Runs.{AreObjectLines, ObjectMove, ShowsObjectCall}
+use Rattle.lane_notes.proofs.Kept.{ObjectNotes, made_on}
+use Rattle.lane_notes.proofs.Left.{AreLastOf, AreLeft, ending_of}
+use Rattle.lane_notes.specs.Worlds.{WorldOf, decl_as}
+use Rattle.lane_notes.specs.declared.lane.WorldPass.{WorldPass}
 use Rattle.counted_row.specs.Meaning.{Leads}
 use Rattle.posix_timer.specs.States.{posix_opening}
 use Rattle.posix_timer.specs.Queued.{queued_opening}
@@ -43,7 +43,7 @@ use Rattle.script_text.specs.declared.script.Kind.{Kind}
 use Rattle.record_laws.proofs.ClockLines.{clock_goes_on}
 use Rattle.record_laws.proofs.LastSeen.{objects_once, object_lines_are}
 use Rattle.record_laws.proofs.SeenThere.{many_objects, objects_past}
-use Rattle.lane_world.proofs.ObjectSeen.{leads_from, legal}
+use Rattle.lane_notes.proofs.ObjectSeen.{leads_from, legal}
 use Rattle.timer_objects.proofs.KindOfObject.{fd_objects, posix_objects, queued_objects, sleeper_objects}
 use Rattle.sleeper.specs.States.{sleeper_opening}
 use Rattle.record_laws.proofs.OwnLines.{at_line, lines_long, own_lines, ShowNotes, told_of}

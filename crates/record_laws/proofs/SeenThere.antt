@@ -21,9 +21,9 @@ use Rattle.seq_timer.specs.Systems.{after_one, AreSystemSteps, entries_of, MayCo
 use Rattle.seq_timer.specs.declared.system.SystemEntry.{SystemEntry}
 use Rattle.seq_timer.specs.declared.system.SystemEntry.TheVariants as entries
 use Rattle.timer_objects.specs.Known.{seen_of}
-use Rattle.lane_world.proofs.Left.{AreLastPasses}
-use Rattle.lane_world.specs.Worlds.{WorldOf}
-use Rattle.lane_world.specs.declared.WorldPass.{WorldPass}
+use Rattle.lane_notes.proofs.Left.{AreLastPasses}
+use Rattle.lane_notes.specs.Worlds.{WorldOf}
+use Rattle.lane_notes.specs.declared.lane.WorldPass.{WorldPass}
 use Rattle.record_laws.proofs.Numbered.{nobody, none_long, within_from}
 
 -- an entry of a timer or of a base is of one that is there
@@ -92,7 +92,7 @@ module _ {s : Script} {x : WorldOf} {q : WorldPass} (last : AreLastPasses s x q)
   objects_past i past = get_or_past q.objects.knows.pass.seen i [] (subst (λ n. n ≤ i) (sym (last.passes.objects.knows.wide ∙ many_objects)) past)
 
   -- law: nor of a timer, a base or a counter that isn't there
-  pub none_past : (o : Owner) → (IsThere s o → ⊥) → receipts.count o q.timers.known.seen ≡ 0
+  pub none_past : (o : Owner) → (IsThere s o → ⊥) → receipts.count_owned o q.timers.known.seen ≡ 0
   none_past o past = count_is o q.timers.known.seen ∙ ap length (nobody (entries_at o q.timers.known.seen) (λ e st.
       let at = entry_place o st.0 e q.timers.known.seen st.1 in
       past (subst (IsThere s) at.owner (there_within at.place e at.there))))
@@ -111,12 +111,12 @@ same_bound a b le same = ⊎_elim
 -- law: last passes that have only seen more have seen no more entries of timers and bases
 module _ {s : Script} {x : WorldOf} {p q : WorldPass} (one : AreLastPasses s x p) (two : AreLastPasses s x q)
     (on : Begins p.timers.known.seen q.timers.known.seen) (mine : q.timers.known.mine ≡ p.timers.known.mine) where
-  as_many_seen : (o : Owner) → (IsThere s o → (n : ℕ) → one_if (within n (receipts.count o p.timers.known.seen))
-      ≡ one_if (within n (receipts.count o q.timers.known.seen))) → (IsThere s o ⊎ (IsThere s o → ⊥)) → receipts.count o on.rest ≡ 0
+  as_many_seen : (o : Owner) → (IsThere s o → (n : ℕ) → one_if (within n (receipts.count_owned o p.timers.known.seen))
+      ≡ one_if (within n (receipts.count_owned o q.timers.known.seen))) → (IsThere s o ⊎ (IsThere s o → ⊥)) → receipts.count_owned o on.rest ≡ 0
   as_many_seen o same there =
-      let a = receipts.count o p.timers.known.seen in
-      let b = receipts.count o q.timers.known.seen in
-      let whole : b ≡ a + receipts.count o on.rest = ap (receipts.count o) on.whole ∙ count-append o p.timers.known.seen on.rest in
+      let a = receipts.count_owned o p.timers.known.seen in
+      let b = receipts.count_owned o q.timers.known.seen in
+      let whole : b ≡ a + receipts.count_owned o on.rest = ap (receipts.count_owned o) on.whole ∙ count-append o p.timers.known.seen on.rest in
       let bound : b ≡ a = ⊎_elim (λ is. same_bound a b (omega (arith, whole)) (same is)) (λ not. none_past two o not ∙ sym (none_past one o not)) there in
       omega (arith, whole, bound)
 

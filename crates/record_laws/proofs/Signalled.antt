@@ -26,10 +26,10 @@ use Rattle.script_text.specs.declared.script.LaneCall.{LaneCall}
 use Rattle.script_text.specs.declared.script.Round.{Round}
 use Rattle.script_text.specs.declared.script.Script.{Script}
 use Rattle.record_text.proofs.Lists.{All-back, All-front}
-use Rattle.lane_world.proofs.Kept.{turn_place}
-use Rattle.lane_world.proofs.Left.{all_turns_at, AreLastOf, AreLeft, sum_below, turns_at}
-use Rattle.lane_world.specs.Worlds.{WorldOf}
-use Rattle.lane_world.specs.declared.WorldPass.{WorldPass}
+use Rattle.lane_notes.proofs.Kept.{turn_place}
+use Rattle.lane_notes.proofs.Left.{all_turns_at, AreLastOf, AreLeft, sum_below, turns_at}
+use Rattle.lane_notes.specs.Worlds.{WorldOf}
+use Rattle.lane_notes.specs.declared.lane.WorldPass.{WorldPass}
 use Rattle.record_laws.proofs.Numbered.{within_from}
 use Rattle.record_laws.proofs.OwnLines.{InSpan, rise_in}
 

@@ -11,8 +11,8 @@ use Rattle.run_history.specs.Witnesses.{CountersList, OfRise, Owner, ShownLine, 
 use Rattle.lane_notes.specs.Sorted.{is_of_list, place_of_object}
 use Rattle.lane_notes.specs.declared.notes.ObjectNote.{ObjectNote}
 use Rattle.lane_notes.proofs.Standing.{HasPlace}
-use Rattle.lane_world.proofs.Kept.{ToldNote, of_object, of_turn, turn_notes}
-use Rattle.lane_world.proofs.PartLists.{turns_by_kind}
+use Rattle.lane_notes.proofs.Kept.{ToldNote, of_object, of_turn, turn_notes}
+use Rattle.lane_notes.proofs.PartLists.{turns_by_kind}
 
 -- whether a note is of this list
 abbrev pub is_on : Owner → ToldNote → Bool

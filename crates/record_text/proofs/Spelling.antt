@@ -11,8 +11,8 @@ use Rattle.ktime.specs.declared.clock_id.ClockId.{ClockId}
 use Rattle.ktime.specs.declared.clock_id.ClockId.TheVariants as clocks
 use Rattle.ktime.specs.declared.mode.Mode.{Mode}
 use Rattle.ktime.specs.declared.mode.Mode.TheVariants as modes
-use Rattle.clock_model.specs.declared.write.Write.{Write}
-use Rattle.clock_model.specs.declared.write.Write.TheVariants as writes
+use Rattle.ktime.specs.declared.write.Write.{Write}
+use Rattle.ktime.specs.declared.write.Write.TheVariants as writes
 use Rattle.seq_timer.specs.declared.event.Restarted.{Restarted}
 use Rattle.seq_timer.specs.declared.event.Restarted.TheVariants as restarts
 use Rattle.record_text.specs.declared.record.Armed.{Armed}

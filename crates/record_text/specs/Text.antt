@@ -1,8 +1,8 @@
 -- The text of a record: its lines in their order, the words of each line, and their bytes.
 use Rattle.std.specs.Prelude.{ℕ, ◌+◌, List, [], ◌∷◌, ◌++◌, map, flat_map, Bool, if◌then◌else◌, codes}
 use Rattle.std.specs.Fmt.{decimal}
-use Rattle.clock_model.specs.declared.write.Write.{Write}
-use Rattle.clock_model.specs.declared.write.Write.TheVariants as writes
+use Rattle.ktime.specs.declared.write.Write.{Write}
+use Rattle.ktime.specs.declared.write.Write.TheVariants as writes
 use Rattle.record_text.specs.declared.record.Label.{Label}
 use Rattle.record_text.specs.declared.record.ClockLine.{ClockLine}
 use Rattle.record_text.specs.declared.record.BaseLine.{BaseLine}

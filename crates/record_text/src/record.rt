@@ -4,7 +4,7 @@ ghost use Rattle.record_text.specs.Replies.{answer_of_accept, answer_of_interrup
 
 use crate::item_list::ItemList;
 use crate::version::Version;
-use clock_model::Write;
+use ktime::Write;
 use seq_timer::{BaseEvent, EventBy, Reply};
 
 /// The call that made a line: its lane, and its place among that lane's calls, from 0.

@@ -10,7 +10,7 @@ use Rattle.script_text.specs.declared.script.Call.{Call}
 use Rattle.script_text.specs.declared.script.LaneCall.{LaneCall}
 use Rattle.script_text.specs.declared.script.Round.{Round}
 use Rattle.script_text.specs.declared.script.Script.{Script}
-use Rattle.lane_world.specs.Rounds.{has_calls, lane_calls}
+use Rattle.lane_notes.specs.Rounds.{has_calls, lane_calls}
 
 -- ---- which have
 

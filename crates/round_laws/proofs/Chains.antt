@@ -5,9 +5,9 @@ use Rattle.run_history.specs.Witnesses.{Trace}
 use Rattle.run_history.specs.Fits.{Seen}
 use Rattle.run_history.specs.Receipts.{PlacedEntry}
 use Rattle.run_history.specs.Runs.{CallLog}
-use Rattle.lane_world.proofs.Kept.{log_of, seen_by}
-use Rattle.lane_world.proofs.SeenMore.{IsNoLess}
-use Rattle.lane_world.specs.declared.WorldPass.{WorldPass}
+use Rattle.lane_notes.proofs.Kept.{log_of, seen_by}
+use Rattle.lane_notes.proofs.SeenMore.{IsNoLess}
+use Rattle.lane_notes.specs.declared.lane.WorldPass.{WorldPass}
 
 -- one of the lists: how much of it was seen, and where a call's span stands on it
 pub record ListOf : Type 0 where

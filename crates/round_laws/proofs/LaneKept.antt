@@ -16,11 +16,11 @@ use Rattle.run_history.specs.Witnesses.{Witness}
 use Rattle.run_history.specs.Calls.{reads_clock}
 use Rattle.run_history.specs.Fits.{FitsCall, FitsLane, HasRead, ReadsInTurn, Seen}
 use Rattle.run_history.specs.Rounds.{label_at}
-use Rattle.lane_world.specs.Called.{Called, LaneOf}
-use Rattle.lane_world.proofs.Kept.{AddsPlaces, Follows, IsNextCall, KeepsTurn, log_of, seen_by}
-use Rattle.lane_world.proofs.SeenMore.{IsNoLess, SeesMore, more_called, more_trans, no_less}
-use Rattle.lane_world.specs.Worlds.{WorldOf}
-use Rattle.lane_world.proofs.PartLists.{falls_lower}
+use Rattle.lane_notes.specs.Called.{Called, LaneOf}
+use Rattle.lane_notes.proofs.Kept.{AddsPlaces, Follows, IsNextCall, KeepsTurn, log_of, seen_by}
+use Rattle.lane_notes.proofs.SeenMore.{IsNoLess, SeesMore, more_called, more_trans, no_less}
+use Rattle.lane_notes.specs.Worlds.{WorldOf}
+use Rattle.lane_notes.proofs.PartLists.{falls_lower}
 
 -- each call that a lane makes it keeps
 abbrev pub KeepsEach : Script → WorldOf → Type 0

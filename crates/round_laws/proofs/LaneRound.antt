@@ -17,24 +17,24 @@ use Rattle.script_text.specs.Scripts.{IsInRange}
 use Rattle.script_text.specs.declared.script.Call.{Call}
 use Rattle.script_text.specs.declared.script.Round.{Round}
 use Rattle.script_text.specs.declared.script.Script.{Script}
-use Rattle.lane_world.specs.Called.{lane_of, LaneOf, Called}
-use Rattle.lane_world.proofs.Kept.{AreTurnsOf, Follows, KeepsTurn, log_of, seen_by, StandAt, Tallies, turn_place}
-use Rattle.lane_world.proofs.SeenMore.{follows_less, more_begun, more_called, more_split, more_trans, no_less, SeesMore, stand_later, turned_later}
-use Rattle.lane_world.specs.Rounds.{as_index, BeginsFirst, BeginsRound, IsLaneOf, lane_calls, LeftOf, MakesLane, next_of, CalledAll}
-use Rattle.lane_world.specs.Worlds.{ArePassesOf, IsWhole, IsWorldOf, WorldOf}
-use Rattle.lane_world.specs.declared.Lane.{Lane}
-use Rattle.lane_world.specs.declared.WorldPass.{WorldPass}
+use Rattle.lane_notes.specs.Called.{lane_of, LaneOf, Called}
+use Rattle.lane_notes.proofs.Kept.{AreTurnsOf, Follows, KeepsTurn, log_of, seen_by, StandAt, Tallies, turn_place}
+use Rattle.lane_notes.proofs.SeenMore.{follows_less, more_begun, more_called, more_split, more_trans, no_less, SeesMore, stand_later, turned_later}
+use Rattle.lane_notes.specs.Rounds.{as_index, BeginsFirst, BeginsRound, IsLaneOf, lane_calls, LeftOf, MakesLane, next_of, CalledAll}
+use Rattle.lane_notes.specs.Worlds.{ArePassesOf, IsWhole, IsWorldOf, WorldOf}
+use Rattle.lane_notes.specs.declared.lane.Lane.{Lane}
+use Rattle.lane_notes.specs.declared.lane.WorldPass.{WorldPass}
 use Rattle.round_laws.proofs.CallingLanes.{calls_bound, in_round}
 use Rattle.round_laws.proofs.Chains.{lies_later, lies_pushed, ListOf, lies_new, LiesIn}
 use Rattle.round_laws.proofs.LaneKept.{KeepsEach, fits_lane_behind, turn_joins, turn_more, turn_places, turn_promised}
 use Rattle.round_laws.proofs.NotesJoined.{are_later, AreOf, call_notes, joined, none_noted}
-use Rattle.lane_world.proofs.PartLists.{both_noted-assoc, each_weaker, no_notes-joins}
+use Rattle.lane_notes.proofs.PartLists.{both_noted-assoc, each_weaker, no_notes-joins}
 use Rattle.round_laws.proofs.Tallies.{mine_both, tallies_none, tallies_more, tallies_split}
 use Rattle.pass_names.specs.Counts.{count, total}
 use Rattle.pass_names.specs.Passes.{is_place}
 use Rattle.pass_names.proofs.Counts.{total-append}
 use Rattle.signal_queue.specs.Views.{PassOfQueue}
-use Rattle.lane_world.proofs.Left.{turns_at}
+use Rattle.lane_notes.proofs.Left.{turns_at}
 use Rattle.std.proofs.lemmas.Option.{slice_get_within, same_Some}
 use Rattle.pass_names.specs.Passes.{Begins}
 use Rattle.run_history.proofs.Lists.{all_at}

@@ -8,20 +8,20 @@ use Rattle.run_history.specs.Runs.{CallLog}
 use Rattle.run_history.specs.Order.{CallInRound}
 use Rattle.script_text.specs.declared.script.Script.{Script}
 use Rattle.lane_notes.specs.Notes.{NotesOf, both_noted, no_notes}
-use Rattle.lane_world.proofs.Kept.{seen_by, Tallies}
-use Rattle.lane_world.proofs.SeenMore.{SeesMore, more_heard, more_same, more_taken, no_less, stands_on}
-use Rattle.lane_world.specs.Rounds.{LeftOf, TakesInPass, with_lane}
-use Rattle.lane_world.specs.declared.Lane.{Lane}
-use Rattle.lane_world.specs.declared.WorldPass.{WorldPass}
+use Rattle.lane_notes.proofs.Kept.{seen_by, Tallies}
+use Rattle.lane_notes.proofs.SeenMore.{SeesMore, more_heard, more_same, more_taken, no_less, stands_on}
+use Rattle.lane_notes.specs.Rounds.{LeftOf, TakesInPass, with_lane}
+use Rattle.lane_notes.specs.declared.lane.Lane.{Lane}
+use Rattle.lane_notes.specs.declared.lane.WorldPass.{WorldPass}
 use Rattle.round_laws.proofs.Chains.{AreUpTo, up_to_later}
 use Rattle.round_laws.proofs.LaneRound.{IsFrom, IsKeptOf, kept_later, LaneSoFar, IsAt, answers_in, MakesInRound, turns_done}
 use Rattle.round_laws.proofs.NotesJoined.{are_later, AreOf, joined}
 use Rattle.round_laws.proofs.Tallies.{adds_taken, mine_both, sum_at, tallies_more}
 use Rattle.pass_names.specs.Counts.{count}
 use Rattle.pass_names.specs.Passes.{is_place}
-use Rattle.lane_world.proofs.Left.{sum_below}
-use Rattle.lane_world.specs.Worlds.{WorldOf}
-use Rattle.lane_world.specs.Called.{lane_of}
+use Rattle.lane_notes.proofs.Left.{sum_below}
+use Rattle.lane_notes.specs.Worlds.{WorldOf}
+use Rattle.lane_notes.specs.Called.{lane_of}
 use Rattle.std.specs.List.{slice_get}
 use Rattle.std.proofs.lemmas.Option.{slice_get_within}
 use Rattle.pass_names.specs.Passes.{Begins}

@@ -17,17 +17,17 @@ use Rattle.script_text.specs.Scripts.{all_calls, IsInRange}
 use Rattle.script_text.specs.declared.script.Call.TheVariants as calls
 use Rattle.script_text.specs.declared.script.Script.{Script}
 use Rattle.record_text.specs.declared.record.Answer.TheVariants as answers
-use Rattle.lane_world.proofs.Kept.{AreTurnsOf, seen_by, label_of, StandAt, list_of, IsNoteSeen, TellLog, own_notes}
-use Rattle.lane_world.proofs.Left.{AreByRounds, AreLeft, sum_below, turns_at}
+use Rattle.lane_notes.proofs.Kept.{AreTurnsOf, seen_by, label_of, StandAt, list_of, IsNoteSeen, TellLog, own_notes}
+use Rattle.lane_notes.proofs.Left.{AreByRounds, AreLeft, sum_below, turns_at}
 use Rattle.round_laws.proofs.Tallies.{sum_items, sum_same}
-use Rattle.lane_world.specs.Rounds.{LeftOf, MakesRounds, none_left}
-use Rattle.lane_world.specs.Worlds.{AreFirst, IsWhole, IsWorldOf, WorldOf}
-use Rattle.lane_world.specs.declared.WorldPass.{WorldPass}
+use Rattle.lane_notes.specs.Rounds.{LeftOf, MakesRounds, none_left}
+use Rattle.lane_notes.specs.Worlds.{AreFirst, IsWhole, IsWorldOf, WorldOf}
+use Rattle.lane_notes.specs.declared.lane.WorldPass.{WorldPass}
 use Rattle.round_laws.proofs.Chains.{clock_list, LiesIn, ListOf, moves_list, signals_list, start_of}
 use Rattle.round_laws.proofs.LaneRound.{LaneSoFar, calls_in, Stands, DoneCall, answers_in, turns_done}
 use Rattle.round_laws.proofs.LanesTaken.{AreLeftSoFar}
 use Rattle.round_laws.proofs.NotesJoined.{own_notes-none}
-use Rattle.lane_world.proofs.PartLists.{each_weaker}
+use Rattle.lane_notes.proofs.PartLists.{each_weaker}
 use Rattle.round_laws.proofs.RoundsLeft.{left_first, rounds_left}
 use Rattle.round_laws.proofs.LaneKept.{KeepsEach}
 

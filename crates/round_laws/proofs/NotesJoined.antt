@@ -1,6 +1,6 @@
 -- Notes of some calls and of others, joined: each call's own notes are among its own, and each note is still of something that passes have seen.
 use Rattle.run_history.proofs.Lists.{all_at, each}
-use Rattle.lane_world.proofs.Kept.{each_both, each_none}
+use Rattle.lane_notes.proofs.Kept.{each_both, each_none}
 use Rattle.std.proofs.Common.{◌≡◌, ◌⊎◌, filter, List, [], ◌∷◌, refl, sym, ap, ◌∙◌, subst, ⊎_elim}
 use Rattle.std.specs.List.{AllByRecursion}
 use Rattle.std.proofs.lemmas.Bool.{cond-false, cond-true}
@@ -13,11 +13,11 @@ use Rattle.run_history.proofs.Labels.{label_itself, refuted, same_label}
 use Rattle.run_history.specs.Order.{is_label}
 use Rattle.script_text.specs.declared.script.Call.{Call}
 use Rattle.script_text.specs.declared.script.Script.{Script}
-use Rattle.lane_world.specs.Called.{LaneOf}
-use Rattle.lane_world.proofs.Kept.{KeepsCall, log_of, label_of, list_of, IsNoteSeen, TellLog, BaseNotes, SkipNotes, ObjectNotes, LookNotes, EntryNotes, NoteKind, WriteNotes, own_notes}
-use Rattle.lane_world.proofs.SeenMore.{SeesMore, seen_later}
-use Rattle.lane_world.specs.declared.WorldPass.{WorldPass}
-use Rattle.lane_world.proofs.PartLists.{no_notes-joins, notes_same, each_weaker}
+use Rattle.lane_notes.specs.Called.{LaneOf}
+use Rattle.lane_notes.proofs.Kept.{KeepsCall, log_of, label_of, list_of, IsNoteSeen, TellLog, BaseNotes, SkipNotes, ObjectNotes, LookNotes, EntryNotes, NoteKind, WriteNotes, own_notes}
+use Rattle.lane_notes.proofs.SeenMore.{SeesMore, seen_later}
+use Rattle.lane_notes.specs.declared.lane.WorldPass.{WorldPass}
+use Rattle.lane_notes.proofs.PartLists.{no_notes-joins, notes_same, each_weaker}
 use Rattle.run_history.specs.Actions.{also}
 
 -- notes of calls, with what was kept of each, and of something that the passes have seen; which calls, and what was kept of them, is `Of`

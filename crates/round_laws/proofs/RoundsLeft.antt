@@ -14,11 +14,11 @@ use Rattle.script_text.specs.Scripts.{all_calls, IsInRange}
 use Rattle.script_text.specs.declared.script.LaneCall.{LaneCall}
 use Rattle.script_text.specs.declared.script.Round.{Round}
 use Rattle.script_text.specs.declared.script.Script.{Script}
-use Rattle.lane_world.proofs.Kept.{seen_by}
-use Rattle.lane_world.specs.Rounds.{BeginsRound, calling_from, has_calls, IsLaneOf, lane_calls, LeftOf, MakesLane, MakesRound, MakesRounds, none_left, TakesInLanes, TakesInPass, with_lane}
-use Rattle.lane_world.specs.Worlds.{AreFirst, IsWhole, IsWorldOf, WorldOf}
-use Rattle.lane_world.specs.declared.Lane.{Lane}
-use Rattle.lane_world.specs.declared.WorldPass.{WorldPass}
+use Rattle.lane_notes.proofs.Kept.{seen_by}
+use Rattle.lane_notes.specs.Rounds.{BeginsRound, calling_from, has_calls, IsLaneOf, lane_calls, LeftOf, MakesLane, MakesRound, MakesRounds, none_left, TakesInLanes, TakesInPass, with_lane}
+use Rattle.lane_notes.specs.Worlds.{AreFirst, IsWhole, IsWorldOf, WorldOf}
+use Rattle.lane_notes.specs.declared.lane.Lane.{Lane}
+use Rattle.lane_notes.specs.declared.lane.WorldPass.{WorldPass}
 use Rattle.round_laws.proofs.CallingLanes.{calls_within, in_round, many_calls, no_calls, round_first, lane_and_behind, many_from, many_most}
 use Rattle.round_laws.proofs.Chains.{up_to_push, no_less_same}
 use Rattle.round_laws.proofs.LaneKept.{KeepsEach, fits_lane_behind}
@@ -30,7 +30,7 @@ use Rattle.pass_names.specs.Counts.{count}
 use Rattle.pass_names.specs.Passes.{is_place}
 use Rattle.run_history.specs.Runs.{witness_of}
 use Rattle.run_history.specs.Actions.{also}
-use Rattle.lane_world.specs.Called.{lane_of}
+use Rattle.lane_notes.specs.Called.{lane_of}
 
 -- the number of a lane
 abbrev pub name_of : Lane → ℕ

@@ -10,14 +10,14 @@ use Rattle.record_text.specs.declared.record.Answer.{Answer}
 use Rattle.record_text.specs.declared.record.Label.{Label}
 use Rattle.run_history.specs.Runs.{CallLog, RoundStarts}
 use Rattle.script_text.specs.declared.script.Script.{Script}
-use Rattle.lane_world.proofs.Kept.{label_of, list_of}
-use Rattle.lane_world.proofs.Left.{AreByRounds, AreLeft}
-use Rattle.lane_world.proofs.PartLists.{each_weaker}
-use Rattle.lane_world.proofs.SeenMore.{begins_same, follows_less, seen_later, SeesMore, stand_later, turned_later}
+use Rattle.lane_notes.proofs.Kept.{label_of, list_of}
+use Rattle.lane_notes.proofs.Left.{AreByRounds, AreLeft}
+use Rattle.lane_notes.proofs.PartLists.{each_weaker}
+use Rattle.lane_notes.proofs.SeenMore.{begins_same, follows_less, seen_later, SeesMore, stand_later, turned_later}
 use Rattle.signal_queue.specs.Rules.{turns}
-use Rattle.lane_world.specs.Runs.{LooksAtAll, Settles}
-use Rattle.lane_world.specs.Worlds.{WorldOf}
-use Rattle.lane_world.specs.declared.WorldPass.{WorldPass}
+use Rattle.lane_notes.specs.Runs.{LooksAtAll, Settles}
+use Rattle.lane_notes.specs.Worlds.{WorldOf}
+use Rattle.lane_notes.specs.declared.lane.WorldPass.{WorldPass}
 
 -- passes that have only seen more since
 pub record OnlySees (p q : WorldPass) : Type 0 where

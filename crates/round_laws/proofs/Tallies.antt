@@ -7,12 +7,12 @@ use Rattle.lane_notes.specs.declared.notes.WriteNote.{WriteNote}
 use Rattle.pass_names.specs.Counts.{count, one_if}
 use Rattle.pass_names.specs.Passes.{is_place}
 use Rattle.pass_names.proofs.Counts.{total-append}
-use Rattle.lane_world.specs.Rounds.{HasSplit, TakesInPass}
-use Rattle.lane_world.specs.declared.WorldPass.{WorldPass}
+use Rattle.lane_notes.specs.Rounds.{HasSplit, TakesInPass}
+use Rattle.lane_notes.specs.declared.lane.WorldPass.{WorldPass}
 use Rattle.std.proofs.Common.{◌<◌, zero, suc, length, get_or, refl}
-use Rattle.lane_world.proofs.Left.{sum_below}
+use Rattle.lane_notes.proofs.Left.{sum_below}
 use Rattle.pass_names.specs.Counts.{total}
-use Rattle.lane_world.proofs.Kept.{AddsPlaces, Tallies, base_note_place, note_place, places_noted}
+use Rattle.lane_notes.proofs.Kept.{AddsPlaces, Tallies, base_note_place, note_place, places_noted}
 
 -- ---- sums
 

@@ -10,7 +10,7 @@ use Rattle.seq_timer.specs.Systems.{after_entry, changed}
 use Rattle.seq_timer.specs.Tables.{runs_on}
 use Rattle.run_history.specs.Actions.{Entered}
 use Rattle.run_history.specs.Deeds.{evacuates}
-use Rattle.run_history.specs.Truths.{RunsNone, WasFront}
+use Rattle.run_history.specs.Truths.{RanNone, WasFront}
 use Rattle.run_history.specs.Fits.{Fits}
 use Rattle.run_history.specs.Histories.{timer_after}
 use Rattle.run_history.specs.Witnesses.{Evacuation, TimersList, Trace, Witness, witness_with}
@@ -112,7 +112,7 @@ busy_fits = fits_by busy_witness (record {
 
 -- a call that moved one timer off a base did so at a moment at which no function ran there
 one_moved : (w : Witness) (first last base : ℕ) (moved : List Evacuation) → 1 ≡ length moved → AllByRecursion (WasFront w first last base) moved
-    → (n : ℕ) × (first ≤ n) × (n ≤ last) × RunsNone w base n
+    → (n : ℕ) × (first ≤ n) × (n ≤ last) × RanNone w base n
 one_moved w first last base [] one turns = absurd (cc)
 one_moved w first last base (e ∷ moved) one turns = (turns.0.at, turns.0.from, turns.0.to, turns.0.idle)
 

@@ -15,7 +15,7 @@ use Rattle.script_text.specs.Declarations.{kind_of}
 use Rattle.signal_queue.specs.declared.signal.Signal.{Signal}
 use Rattle.run_history.specs.Fits.{Fits}
 use Rattle.run_history.specs.Objects.{lines_of_object}
-use Rattle.run_history.specs.Signals.{IsQueued}
+use Rattle.run_history.specs.Signals.{SendsSignals}
 use Rattle.fit_laws.specs.Signals.{AreDistinct, NamedNoLater, Sent, SentBefore}
 use Rattle.fit_laws.proofs.Signals.{found_room}
 use Rattle.run_cases.specs.Lines.{at, case_object_line, counted_entry}
@@ -55,7 +55,7 @@ differ k (suc n) = (later_differ k (k + 1) n (omega arith), differ (k + 1) n)
 -- each was sent by the run by which its timer expired
 sent : (i : ℕ) → i < 65 → Sent crowded_script crowded_record (at 0 (crowded_run i)) (signal_of i)
 sent i less = record {
-  queued = subst IsQueued (sym kind) tt;
+  queued = subst SendsSignals (sym kind) tt;
   made = record {
     before = 1;
     count = refl;

@@ -2,7 +2,7 @@
 use Rattle.std.proofs.Common.{◌≡◌, ℕ, true, false, [], ◌∷◌, List, arith, refl, inl, inr}
 use Rattle.ktime.specs.Times.{passed}
 use Rattle.ktime.specs.declared.mode.Mode.TheVariants as modes
-use Rattle.clock_model.specs.declared.write.Write.TheVariants as writes
+use Rattle.ktime.specs.declared.write.Write.TheVariants as writes
 use Rattle.seq_timer.specs.declared.context.Context.TheVariants as contexts
 use Rattle.seq_timer.specs.Systems.{after_entry, changed, IsSystemHistory}
 use Rattle.record_text.specs.declared.record.Answer.TheVariants as answers

@@ -1,7 +1,7 @@
 -- Records that fit, of a lane that looks at a timer and of writes of the clock beside another lane: a witness for each, and what makes it fit.
 use Rattle.std.proofs.Common.{false, [], ◌∷◌, refl, inl, inr}
 use Rattle.ktime.specs.declared.mode.Mode.TheVariants as modes
-use Rattle.clock_model.specs.declared.write.Write.TheVariants as writes
+use Rattle.ktime.specs.declared.write.Write.TheVariants as writes
 use Rattle.seq_timer.specs.declared.context.Context.TheVariants as contexts
 use Rattle.seq_timer.specs.Systems.{after_entry, changed}
 use Rattle.run_history.specs.Actions.{Entered, Wrote}

@@ -4,7 +4,7 @@ use Rattle.std.specs.List.{AllByRecursion}
 use Rattle.seq_timer.specs.Systems.{after_entry, after_shift, changed, shifted}
 use Rattle.record_text.specs.declared.record.Label.{Label}
 use Rattle.run_history.specs.Deeds.{evacuates}
-use Rattle.run_history.specs.Truths.{IsFront, WasFront}
+use Rattle.run_history.specs.Truths.{WasNextOff, WasFront}
 use Rattle.run_history.specs.Signals.{SignalMove}
 use Rattle.run_history.specs.Fits.{Fits}
 use Rattle.run_history.specs.Traces.{all_entered}
@@ -39,7 +39,7 @@ module _ (signals : List SignalMove) (traces : Label → Trace) where
   w = witness_with turns_script turns_record in_order signals traces
 
   -- the first timer is nowhere the next one, where it has its first two entries
-  never_next : (n : ℕ) → (timer_along w n 0).stamp ≡ 2 → IsFront w 1 0 n → ⊥
+  never_next : (n : ℕ) → (timer_along w n 0).stamp ≡ 2 → WasNextOff w 1 0 n → ⊥
   unfolding after_entry after_shift changed shifted
   never_next zero so front = omega (arith, so)
   never_next (suc zero) so front = omega (arith, so)
@@ -60,7 +60,7 @@ module _ (signals : List SignalMove) (traces : Label → Trace) where
       let before : e.before ≡ 2 = omega (arith, ap (λ (x : ℕ × Shown). x.0) head, third) in
       let timer : e.timer ≡ 0 = sym (ap (λ (x : ℕ × Shown). timer_in x.1) head) ∙ own in
       let t = turns.0 in
-      never_next t.at (subst (λ k. (timer_along w t.at k).stamp ≡ 2) timer (t.stamp ∙ before)) (subst (λ k. IsFront w 1 k t.at) timer t.front)
+      never_next t.at (subst (λ k. (timer_along w t.at k).stamp ≡ 2) timer (t.stamp ∙ before)) (subst (λ k. WasNextOff w 1 k t.at) timer t.front)
 
 -- law: it does not fit
 pub turns_dont_fit : Fits turns_script turns_record → ⊥

@@ -1,6 +1,6 @@
 -- Records that fit, of signals of queued timers: a witness for each, and what makes it fit.
 use Rattle.std.proofs.Common.{ℕ, true, false, [], ◌∷◌, None, refl, inl, inr}
-use Rattle.clock_model.specs.declared.write.Write.TheVariants as writes
+use Rattle.ktime.specs.declared.write.Write.TheVariants as writes
 use Rattle.ktime.specs.Times.{passed}
 use Rattle.seq_timer.specs.declared.context.Context.TheVariants as contexts
 use Rattle.seq_timer.specs.Systems.{after_entry, changed}

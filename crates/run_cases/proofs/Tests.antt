@@ -8,7 +8,7 @@ use Rattle.seq_timer.specs.declared.event.EventBy.TheVariants as events
 use Rattle.record_text.specs.declared.record.Label.{Label}
 use Rattle.script_text.specs.declared.script.Script.{Script}
 use Rattle.run_history.specs.Actions.{Action, also, Began, Entered, Looked, looked, Made, made, own, Shifted, Skipped, skipped, Wrote}
-use Rattle.run_history.specs.Order.{AreSorted, calls_of, is_before, is_label, is_lower, IsInOrder, IsLabel, IsPoint, IsWithin, made_by, NeverFall}
+use Rattle.run_history.specs.Order.{AreSorted, calls_of, is_before, is_label, is_lower, IsInOrder, IsLabel, IsPoint, StandsWithin, made_by, NeverFall}
 use Rattle.record_text.specs.declared.record.Answer.{Answer}
 use Rattle.signal_queue.specs.declared.signal.Signal.{Signal}
 use Rattle.signal_queue.specs.declared.signal.Turn.{Turn}
@@ -18,7 +18,7 @@ use Rattle.run_history.specs.Signals.{SignalMove, most_signals, popped_by, pushe
 use Rattle.run_history.specs.Witnesses.{Trace, Witness, labels}
 use Rattle.run_history.specs.Fits.{HasSignalled, IsSignalOrder, LabelsNeverFall}
 use Rattle.run_history.specs.Traces.{all_entered}
-use Rattle.run_history.specs.Told.{IsBelowLimit, observed}
+use Rattle.run_history.specs.Told.{IsArmedBelowLimit, observed}
 use Rattle.run_history.specs.Truths.{AreTrue, IsMoment, IsTrue, IsTrueEntry, OfClaim, Saw, SawFull, SawWaiting}
 
 -- numbers that a test compared
@@ -92,7 +92,7 @@ point_passes s c own n ls e =
 abbrev pub is_within : Script → Label → ℕ → List Label → Bool
 is_within s c n ls = (nat_le n (length ls) && list_all (λ x. not (is_before s c x)) (take n ls)) && list_all (λ x. not (is_before s x c)) (drop n ls)
 
-pub within_passes : (s : Script) (c : Label) (n : ℕ) (ls : List Label) → is_within s c n ls ≡ true → IsWithin s c n ls
+pub within_passes : (s : Script) (c : Label) (n : ℕ) (ls : List Label) → is_within s c n ls ≡ true → StandsWithin s c n ls
 within_passes s c n ls e =
     let parts = and_parts (nat_le n (length ls) && list_all (λ x. not (is_before s c x)) (take n ls)) (list_all (λ x. not (is_before s x c)) (drop n ls)) e in
     let early = and_parts (nat_le n (length ls)) (list_all (λ x. not (is_before s c x)) (take n ls)) parts.0 in
@@ -258,7 +258,7 @@ AreTold w c before [] = Unit
 AreTold w c before (Wrote number write ∷ ds) = AreTold w c (before ++ Wrote number write ∷ []) ds
 AreTold w c before (Entered t number entry ∷ ds) = AreTold w c (before ++ Entered t number entry ∷ []) ds
 AreTold w c before (Looked t number look ∷ ds) =
-    (Saw w t number (observed look) (place_behind w c before) × IsBelowLimit w.script.limit number look)
+    (Saw w t number (observed look) (place_behind w c before) × IsArmedBelowLimit w.script.limit number look)
     × AreTold w c (before ++ Looked t number look ∷ []) ds
 AreTold w c before (Began i stamp ∷ ds) = AreTold w c (before ++ Began i stamp ∷ []) ds
 AreTold w c before (Made i number entry ∷ ds) =

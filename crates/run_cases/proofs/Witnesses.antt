@@ -33,7 +33,7 @@ use Rattle.run_history.specs.Actions.{Action, also, Began, Entered, Made}
 use Rattle.run_history.specs.Histories.{reading_at}
 use Rattle.script_text.specs.Declarations.{base_of, declared_as, declareds_of, terms_of}
 use Rattle.run_history.specs.Order.{calls_from}
-use Rattle.run_history.specs.Starts.{Arming, IsArming, IsJustBefore, IsSentBy, first_number}
+use Rattle.run_history.specs.Starts.{Arming, IsArming, IsJustBefore, IsSentByHeirs, first_number}
 use Rattle.run_history.specs.Deeds.{fires}
 use Rattle.run_history.specs.ObjectCalls.{AreValidFor, Arms, MakesAnew, nanoseconds_of}
 use Rattle.timer_setting.specs.Arguments.{mode_by}
@@ -117,7 +117,7 @@ pub stays : {Reached : ℕ → ℕ → Type 0} {limit base : ℕ} {a : Arming} �
 stays {Reached} {limit} {base} {a} below none same = record {
   below = subst (λ outs. first_number outs a.number ≤ limit) (sym none) (le below);
   next = subst (λ outs. IsJustBefore outs a.number) (sym none) tt;
-  way = subst (λ outs. IsSentBy Reached base (map (λ out. out.base) outs) a.asked) (sym none) ([], same);
+  way = subst (λ outs. IsSentByHeirs Reached base (map (λ out. out.base) outs) a.asked) (sym none) ([], same);
 }
 
 -- a call on an object that found its timer idle, starts it by this entry, and makes this entry of its object

@@ -2,7 +2,7 @@
 use Rattle.std.specs.Prelude.{ℕ, true, false, List, [], ◌∷◌, ◌++◌, map}
 use Rattle.ktime.specs.declared.clock_id.ClockId.TheVariants as clocks
 use Rattle.ktime.specs.declared.mode.Mode.TheVariants as modes
-use Rattle.clock_model.specs.declared.write.Write.TheVariants as writes
+use Rattle.ktime.specs.declared.write.Write.TheVariants as writes
 use Rattle.record_text.specs.declared.record.AcceptReply.TheVariants as acceptances
 use Rattle.seq_timer.specs.declared.context.Context.TheVariants as contexts
 use Rattle.seq_timer.specs.declared.event.EventBy.TheVariants as events
@@ -30,7 +30,7 @@ use Rattle.script_text.specs.declared.script.Call.TheVariants as calls
 use Rattle.script_text.specs.declared.script.Callback.TheVariants as callbacks
 use Rattle.script_text.specs.declared.script.Kind.TheVariants as kinds
 use Rattle.script_text.specs.declared.script.Script.{Script}
-use Rattle.run_cases.specs.Lines.{accepted_entry, advance_line, at, base_line, by, cancel_entry, case_object_line, case_record_in, case_script, case_script_in, case_start, case_start_entry, claim_entry, claim_lines, claimed_by, counted_entry, expired_record, expired_script, finish_entry, hard_expire, hard_raw, line, object_record, off_line_record, out_entry, queued_record, queued_script, raw_record, set_entry_of, set_start, settime_of, settime_to, slack_entry, slack_start, sleep_of, sleeper_record, sleeper_script, start}
+use Rattle.run_cases.specs.Lines.{accepted_entry, advance_line, at, base_entry_line, by, cancel_entry, case_object_line, case_record_in, case_script, case_script_in, case_start, case_start_entry, claim_entry, claim_lines, claimed_by, counted_entry, expired_record, expired_script, finish_entry, hard_expire, hard_raw, line, object_record, off_line_record, out_entry, queued_record, queued_script, raw_record, set_entry_of, set_start, settime_of, settime_to, slack_entry, slack_start, sleep_of, sleeper_record, sleeper_script, start}
 
 -- ---- a timer is started, expires, is cancelled when it is idle, and is looked at
 
@@ -458,7 +458,7 @@ heir_lines = line 0 0 (out_entry 1 false) ∷ line 0 0 (case_start_entry modes.A
 
 -- its record
 abbrev pub heir_record : RunRecord
-heir_record = off_line_record ([] ∷ (base_line 1 (shifts.Offline 0) ∷ base_line 3 shifts.Online ∷ []) ∷ []) (heir_lines ∷ [])
+heir_record = off_line_record ([] ∷ (base_entry_line 1 (shifts.Offline 0) ∷ base_entry_line 3 shifts.Online ∷ []) ∷ []) (heir_lines ∷ [])
     (answers.Started 2 1 false ∷ answers.Offline 1 1 ∷ answers.Started 5 0 true ∷ answers.Online 2 ∷ [])
 
 -- ---- a base is taken off line, and then another is asked to go off line with that one as its heir
@@ -469,7 +469,7 @@ refused_script = case_script_in versions.Two 3 1 [] ((by 0 (calls.Offline 1 0 4)
 
 -- the entries of the other base, what its call was answered, and all else
 abbrev pub refused_by : List BaseLine → Answer → RunRecord
-refused_by lines answer = off_line_record ([] ∷ (base_line 0 (shifts.Offline 0) ∷ []) ∷ lines ∷ []) [] (answers.Offline 0 1 ∷ answer ∷ [])
+refused_by lines answer = off_line_record ([] ∷ (base_entry_line 0 (shifts.Offline 0) ∷ []) ∷ lines ∷ []) [] (answers.Offline 0 1 ∷ answer ∷ [])
 
 -- its record
 abbrev pub refused_record : RunRecord

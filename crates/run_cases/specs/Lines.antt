@@ -1,6 +1,6 @@
 -- Short words for scripts and records of few calls.
 use Rattle.std.specs.Prelude.{ℕ, ◌+◌, Bool, true, false, Some, List, [], ◌∷◌, map, replicate}
-use Rattle.clock_model.specs.declared.write.Write.TheVariants as writes
+use Rattle.ktime.specs.declared.write.Write.TheVariants as writes
 use Rattle.ktime.specs.declared.clock_id.ClockId.TheVariants as clocks
 use Rattle.ktime.specs.declared.mode.Mode.{Mode}
 use Rattle.ktime.specs.declared.mode.Mode.TheVariants as modes
@@ -126,8 +126,8 @@ abbrev pub advance_line : ℕ → ℕ → ℕ → ClockLine
 advance_line lane call ns = record { label = at lane call; write = writes.Advance ns; mono = ns; real = ns; boot = ns; changes = 0 }
 
 -- an entry of a base that a call of lane 0 made
-abbrev pub base_line : ℕ → BaseEvent → BaseLine
-base_line call event = record { label = at 0 call; event = event }
+abbrev pub base_entry_line : ℕ → BaseEvent → BaseLine
+base_entry_line call event = record { label = at 0 call; event = event }
 
 -- a record of version 2 of timers by themselves, which has no objects, with these entries of bases, and in which no time passes
 abbrev pub off_line_record : List (List BaseLine) → List (List TimerLine) → List Answer → RunRecord

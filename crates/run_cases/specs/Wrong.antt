@@ -2,7 +2,7 @@
 use Rattle.std.specs.List.{range_with_len}
 use Rattle.std.specs.Prelude.{ℕ, zero, suc, ◌+◌, nat_lt, if◌then◌else◌, true, false, List, [], ◌∷◌, ◌++◌, map}
 use Rattle.ktime.specs.declared.mode.Mode.TheVariants as modes
-use Rattle.clock_model.specs.declared.write.Write.TheVariants as writes
+use Rattle.ktime.specs.declared.write.Write.TheVariants as writes
 use Rattle.seq_timer.specs.declared.context.Context.TheVariants as contexts
 use Rattle.seq_timer.specs.declared.standing.BaseEvent.TheVariants as shifts
 use Rattle.record_text.specs.declared.record.Answer.TheVariants as answers
@@ -21,7 +21,7 @@ use Rattle.script_text.specs.declared.script.Kind.TheVariants as kinds
 use Rattle.script_text.specs.declared.script.Kind.{Kind}
 use Rattle.script_text.specs.declared.script.Script.{Script}
 use Rattle.run_cases.specs.Fitting.{accepts_by, armed_seen_by, asleep_entry, awaited_by, busy_by, canceled_by, first_expiry, full_by, interrupted_by, nothing_by, read_again, refused_by, second_set, seen_by, set_seen_by, signals_by, skipped_by, started_by, two_expiries_by, unreadable_by}
-use Rattle.run_cases.specs.Lines.{accepted_entry, advance_line, at, base_line, by, cancel_entry, case_object_line, case_record_in, case_script, case_script_in, case_start, case_start_entry, claim_entry, claim_lines, claimed_by, counted_entry, expired_record, expired_script, finish_entry, hard_expire, hard_raw, line, object_record, off_line_record, out_entry, queued_record, queued_script, raw_record, set_entry_of, set_start, settime_of, settime_to, slack_entry, slack_start, sleep_of, sleeper_record, sleeper_script, start}
+use Rattle.run_cases.specs.Lines.{accepted_entry, advance_line, at, base_entry_line, by, cancel_entry, case_object_line, case_record_in, case_script, case_script_in, case_start, case_start_entry, claim_entry, claim_lines, claimed_by, counted_entry, expired_record, expired_script, finish_entry, hard_expire, hard_raw, line, object_record, off_line_record, out_entry, queued_record, queued_script, raw_record, set_entry_of, set_start, settime_of, settime_to, slack_entry, slack_start, sleep_of, sleeper_record, sleeper_script, start}
 
 -- two timers whose callbacks do nothing
 abbrev pub two_timers : List Kind
@@ -248,7 +248,7 @@ stranded_script = two_bases (calls.Offline 1 0 4 ∷ case_start 0 modes.Abs 100 
 
 -- a record that breaks it
 abbrev pub stranded_record : RunRecord
-stranded_record = off_line_record ([] ∷ (base_line 0 (shifts.Offline 0) ∷ []) ∷ []) (lines_there 1 ∷ [])
+stranded_record = off_line_record ([] ∷ (base_entry_line 0 (shifts.Offline 0) ∷ []) ∷ []) (lines_there 1 ∷ [])
     (answers.Offline 0 1 ∷ answers.Started 2 1 false ∷ [])
 
 -- ---- a base goes off line with a timer armed on it
@@ -259,14 +259,14 @@ left_script = two_bases (case_start 0 modes.Abs 100 1 ∷ calls.Offline 1 0 4 �
 
 -- a record that breaks it
 abbrev pub left_record : RunRecord
-left_record = off_line_record ([] ∷ (base_line 1 (shifts.Offline 0) ∷ []) ∷ []) (lines_there 0 ∷ [])
+left_record = off_line_record ([] ∷ (base_entry_line 1 (shifts.Offline 0) ∷ []) ∷ []) (lines_there 0 ∷ [])
     (answers.Started 2 1 false ∷ answers.Offline 0 1 ∷ [])
 
 -- ---- a timer that is moved off a base gets another expiry: the same script
 
 -- a record that breaks it
 abbrev pub early_move_record : RunRecord
-early_move_record = off_line_record ([] ∷ (base_line 1 (shifts.Offline 0) ∷ []) ∷ [])
+early_move_record = off_line_record ([] ∷ (base_entry_line 1 (shifts.Offline 0) ∷ []) ∷ [])
     ((lines_there 0 ++ line 0 1 (out_entry 0 true) ∷ line 0 1 (case_start_entry modes.Keep 90 0 0 0 90 false) ∷ []) ∷ [])
     (answers.Started 2 1 false ∷ answers.Offline 1 1 ∷ [])
 
@@ -298,7 +298,7 @@ running_moved_record = busy_by (answers.Peek 3 1 false true false)
 
 -- a record that breaks it
 abbrev pub taken_record : RunRecord
-taken_record = refused_by (base_line 1 (shifts.Offline 1) ∷ []) (answers.Offline 0 1)
+taken_record = refused_by (base_entry_line 1 (shifts.Offline 1) ∷ []) (answers.Offline 0 1)
 
 -- ---- a call answers that a base is on line again, and the base has no such entry
 
@@ -308,7 +308,7 @@ silent_script = two_bases (calls.Offline 1 0 4 ∷ calls.Online 1 ∷ [])
 
 -- a record that breaks it
 abbrev pub silent_record : RunRecord
-silent_record = off_line_record ([] ∷ (base_line 0 (shifts.Offline 0) ∷ []) ∷ []) ([] ∷ []) (answers.Offline 0 1 ∷ answers.Online 2 ∷ [])
+silent_record = off_line_record ([] ∷ (base_entry_line 0 (shifts.Offline 0) ∷ []) ∷ []) ([] ∷ []) (answers.Offline 0 1 ∷ answers.Online 2 ∷ [])
 
 -- ---- a sleep up to a time tells the time left: the script of the interrupted sleeps
 

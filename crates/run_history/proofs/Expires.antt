@@ -20,7 +20,7 @@ use Rattle.record_text.specs.declared.record.Label.{Label}
 use Rattle.record_text.specs.declared.record.ObjectEntry.TheVariants as object_entries
 use Rattle.record_text.specs.declared.record.ObjectEntry.{ObjectEntry}
 use Rattle.run_history.specs.Actions.{Action, Began, Entered, Looked, Made, Skipped}
-use Rattle.run_history.specs.Told.{IsBelowLimit, observed}
+use Rattle.run_history.specs.Told.{IsArmedBelowLimit, observed}
 use Rattle.script_text.specs.Declarations.{kind_of, declared_of, without_slack}
 use Rattle.run_history.specs.Starts.{arming_actions}
 use Rattle.script_text.specs.declared.script.Call.TheVariants as calls
@@ -30,7 +30,7 @@ use Rattle.script_text.specs.declared.script.Kind.TheVariants as kinds
 use Rattle.script_text.specs.declared.script.Kind.{Kind}
 use Rattle.run_history.specs.Calls.{Does, AnswerHolds}
 use Rattle.run_history.specs.Deeds.{fires, IsBody, IsCallback, IsExpiryRun, IsQueuedTrigger, IsTrigger}
-use Rattle.run_history.specs.Order.{IsWithin}
+use Rattle.run_history.specs.Order.{StandsWithin}
 use Rattle.run_history.specs.Signals.{most_signals, signal_labels, waiting_at}
 use Rattle.signal_queue.specs.declared.signal.Turn.{Turn}
 use Rattle.run_history.specs.Truths.{AreTrue, IsDone, IsMoment, Saw, SawFull, WasOffLine}
@@ -88,7 +88,7 @@ pub record HeardFull (w : Witness) (heard : ℕ × ℕ) : Type 0 where
 -- what a callback was told holds when the pass had seen so many entries: a look, of the timer as it was then; a refused expiry, of the object, whose
 -- history was full; and an overflow, of the queue, which had no room
 abbrev pub ReplyHolds : Witness → ℕ × ℕ → ℕ → List Action → Type 0
-ReplyHolds w heard acted (Looked timer number look ∷ []) = Saw w timer number (observed look) acted × IsBelowLimit w.script.limit number look
+ReplyHolds w heard acted (Looked timer number look ∷ []) = Saw w timer number (observed look) acted × IsArmedBelowLimit w.script.limit number look
 ReplyHolds w heard acted (Skipped i number generation ∷ []) = SawFull w i number acted
 ReplyHolds w heard acted (Began i stamp ∷ Made j number (object_entries.Overflow generation reading) ∷ []) = HeardFull w heard
 ReplyHolds w heard acted ds = Unit
@@ -154,7 +154,7 @@ AreMoments w c notes low high = (early : List Action) (n : ℕ) → low ≤ n �
 
 -- the numbers of pushes and pops between these are within the call's bounds
 abbrev pub AreHeard : Witness → Label → ℕ × ℕ → Type 0
-AreHeard w c heard = (n : ℕ) → heard.0 ≤ n → n ≤ heard.1 → IsWithin w.script c n (signal_labels w.signals)
+AreHeard w c heard = (n : ℕ) → heard.0 ≤ n → n ≤ heard.1 → StandsWithin w.script c n (signal_labels w.signals)
 
 -- a callback among a call's receipts, those before it and those behind
 module _ {w : Witness} {order : List SystemEntry} {context : Context} {base at : ℕ} {heard : ℕ × ℕ} {f : Fired} {from to : ℕ} (c : Label)

@@ -9,7 +9,7 @@ use Rattle.record_text.specs.declared.record.Label.{Label}
 use Rattle.record_text.specs.declared.record.RunRecord.{RunRecord}
 use Rattle.run_history.specs.Actions.{also}
 use Rattle.run_history.specs.Witnesses.{BasesList, CountersList, Owner, ShownLine, TimersList, is_owner, lines_at, owner_of}
-use Rattle.run_history.specs.Receipts.{AreFiled, count, Filed, files_on, IsAhead, IsMade, line_filed, owner_filed, PlacedEntry, RiseBy, Rises}
+use Rattle.run_history.specs.Receipts.{AreFiled, count_owned, Filed, files_on, IsAhead, IsMade, line_filed, owner_filed, PlacedEntry, RiseBy, Rises}
 use Rattle.run_history.proofs.Laid.{AreReceipts, counts_more, IsLine, IsNoted}
 use Rattle.run_history.proofs.Lists.{all_at, at_map, each, map_get}
 use Rattle.run_history.proofs.Owners.{other_owner, owner_is, same_owner}
@@ -140,17 +140,17 @@ module _ (r : RunRecord) (order : List SystemEntry) (notes : Label → List Plac
       (each (λ n. n < 1 + length (map number_of (files_on o sorted))) (map number_of (files_on o sorted)) (λ i n at.
       let g = map_get number_of (files_on o sorted) i n at in
       let s = found_on o i g.0 sorted g.1 in
-      below n _ _ (subst (λ m. m ≤ count o order) g.2 (at_most g.0 (made_of s.0 g.0 s.1) s.2)) (length-map (files_on o sorted) number_of) (filed.as_many o)))
+      below n _ _ (subst (λ m. m ≤ count_owned o order) g.2 (at_most g.0 (made_of s.0 g.0 s.1) s.2)) (length-map (files_on o sorted) number_of) (filed.as_many o)))
       (at_map number_of (files_on o sorted) j f at))
     where
       at_least : {x : PlacedEntry} → IsMade order x → 1 ≤ x.number
       at_least made = omega (arith, made.number)
 
-      at_most : (g : Filed) → IsMade order g.note → owner_filed g ≡ o → g.note.number ≤ count o order
+      at_most : (g : Filed) → IsMade order g.note → owner_filed g ≡ o → g.note.number ≤ count_owned o order
       at_most g made is = omega (
         arith,
-        subst (λ u. count u (take g.note.place order) + 1 ≡ g.note.number) is made.number,
-        subst (λ xs. count o (take g.note.place order) + 1 ≤ count o xs) (take_all (length order) order (omega arith))
+        subst (λ u. count_owned u (take g.note.place order) + 1 ≡ g.note.number) is made.number,
+        subst (λ xs. count_owned o (take g.note.place order) + 1 ≤ count_owned o xs) (take_all (length order) order (omega arith))
             (counts_more order g.note.place (length order) o made.step made.there (made.owner ∙ is) (slice_get_within order g.note.place made.step made.there)),
       )
 

@@ -8,13 +8,13 @@ use Rattle.record_text.specs.declared.record.Label.{Label}
 use Rattle.run_history.specs.Actions.{Action, also, looked, made, own, own_looks, own_skips, skipped, wrote}
 use Rattle.run_history.specs.Histories.{clock_labels, lines_of_timer}
 use Rattle.run_history.specs.Objects.{lines_of_object}
-use Rattle.run_history.specs.Order.{is_label, IsLabel, IsPoint, IsWithin, NeverFall}
+use Rattle.run_history.specs.Order.{is_label, IsLabel, IsPoint, StandsWithin, NeverFall}
 use Rattle.script_text.specs.declared.script.Call.{Call}
 use Rattle.run_history.specs.Calls.{Does, AnswerHolds}
 use Rattle.run_history.specs.Deeds.{AllKeepExpiries, AllMoved}
 use Rattle.run_history.specs.Truths.{AreTrue, IsMoment, WasFront, WasOffLine}
 use Rattle.run_history.specs.Witnesses.{Witness, labels, Move, Trace}
-use Rattle.run_history.specs.Fits.{FitsCall, FitsTrace, HasSignalled, Seen}
+use Rattle.run_history.specs.Fits.{FitsCall, TraceExplains, HasSignalled, Seen}
 use Rattle.run_history.specs.Signals.{signal_labels}
 use Rattle.run_history.specs.Receipts.{AreAll, at_place, PlacedEntry, receipt, shape}
 use Rattle.run_history.specs.Rounds.{IsLaid, Spans}
@@ -83,7 +83,7 @@ pub record IsKept (w : Witness) (moves signals : Spans) (c : Label) (t : Trace) 
   pub clock_steps : NeverFall before.clock (t.at ∷ map (λ x. x.0) (wrote t.actions)) after.clock
   pub move_steps : (before.moves ≤ moves.first c) × (moves.last c ≤ after.moves)
   pub signalled : HasSignalled w c t answer
-  pub hears : (n : ℕ) → signals.first c ≤ n → n ≤ signals.last c → IsWithin w.script c n (signal_labels w.signals)
+  pub hears : (n : ℕ) → signals.first c ≤ n → n ≤ signals.last c → StandsWithin w.script c n (signal_labels w.signals)
   pub signal_steps : NeverFall before.signals (map (λ x. x.0) t.turns) after.signals
 
 module _ {w : Witness} {moves signals : Spans} {c : Label} {t : Trace} {notes : List PlacedEntry} {call : Call} {answer : Answer} {before after : Seen}
@@ -118,7 +118,7 @@ module _ {w : Witness} {moves signals : Spans} {c : Label} {t : Trace} {notes : 
       → AreTrue w c t.first [] t.actions t.last → AnswerHolds w t.first t.last c t.at t.actions call answer
       → FitsCall w c call answer before after
   call_made low high behind does moved truth holds =
-      subst (λ x. FitsTrace w c x call answer before after) (sym kept.trace) (record {
+      subst (λ x. TraceExplains w c x call answer before after) (sym kept.trace) (record {
         traced = record {
           clock = kept.clock;
           moves = own_moves_are c 0 w.moves ∙ ap (map (λ e. e.1)) kept.all ∙ receipts_are notes ∙ kept.entered;

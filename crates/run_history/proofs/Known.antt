@@ -17,9 +17,9 @@ use Rattle.record_text.specs.declared.record.RunRecord.{RunRecord}
 use Rattle.run_history.specs.Actions.{Action}
 use Rattle.run_history.specs.Histories.{entry_shown}
 use Rattle.script_text.proofs.Lists.{All-append, All-weaker}
-use Rattle.run_history.specs.Receipts.{count, IsMade, PlacedEntry, receipt, Rises, ShowsEntry}
+use Rattle.run_history.specs.Receipts.{count_owned, IsMade, PlacedEntry, receipt, Rises, ShowsEntry}
 use Rattle.run_history.specs.Traces.{all_entered}
-use Rattle.run_history.specs.Promises.{GoesOn}
+use Rattle.run_history.specs.Promises.{RunGoesOn}
 use Rattle.run_history.specs.Runs.{Ending, IsJoined, witness_of}
 use Rattle.script_text.specs.declared.script.Script.{Script}
 use Rattle.run_history.specs.Witnesses.{BasesList, OfBase, OfRise, OfTimer, Owner, Shown, TimersList, entries_in, entry_of_shown, is_owner, owner_of, owner_of_entry}
@@ -71,19 +71,19 @@ one_note xs e is =
 
 -- behind an entry of a list there is one more
 count_next : (o : Owner) (p : ℕ) (x : SystemEntry) (xs : List SystemEntry) → slice_get xs p ≡ Some x → owner_of_entry x ≡ o
-    → count o (take (suc p) xs) ≡ count o (take p xs) + 1
+    → count_owned o (take (suc p) xs) ≡ count_owned o (take p xs) + 1
 count_next o p x [] at is = absurd (cc)
 count_next o zero x (y ∷ xs) at is =
-    count_cons o y (take 0 xs) ∙ ap (λ b. and_one b (count o (take 0 xs))) (owner_is (owner_of_entry y) o (ap owner_of_entry (same_Some y x at) ∙ is))
+    count_cons o y (take 0 xs) ∙ ap (λ b. and_one b (count_owned o (take 0 xs))) (owner_is (owner_of_entry y) o (ap owner_of_entry (same_Some y x at) ∙ is))
     ∙ ap (λ n. n + 1) (none xs)
   where
-    none : (xs : List SystemEntry) → count o (take 0 xs) ≡ count o (take 0 (y ∷ xs))
+    none : (xs : List SystemEntry) → count_owned o (take 0 xs) ≡ count_owned o (take 0 (y ∷ xs))
     none [] = refl
     none (z ∷ xs) = refl
 count_next o (suc p) x (y ∷ xs) at is =
     let rest = count_next o p x xs at is in
     count_cons o y (take (suc p) xs)
-    ∙ elim (is_owner (owner_of_entry y) o) as (λ b. and_one b (count o (take (suc p) xs)) ≡ and_one b (count o (take p xs)) + 1) [
+    ∙ elim (is_owner (owner_of_entry y) o) as (λ b. and_one b (count_owned o (take (suc p) xs)) ≡ and_one b (count_owned o (take p xs)) + 1) [
       | true ↦ ap (λ n. n + 1) rest
       | false ↦ rest
     ]
@@ -92,7 +92,7 @@ count_next o (suc p) x (y ∷ xs) at is =
 -- the entries of a list from a number on stand at rising places, behind a length at which there were no more
 made_from : (o : Owner) (k low : ℕ) (xs es : List SystemEntry) (shown : List Shown) → length shown ≡ length es
     → AllByRecursion (λ s. owner_of s ≡ o) shown
-    → ((j : ℕ) (e : SystemEntry) → slice_get es j ≡ Some e → slice_get (entries_at o xs) (k + j) ≡ Some e) → count o (take low xs) ≤ k
+    → ((j : ℕ) (e : SystemEntry) → slice_get es j ≡ Some e → slice_get (entries_at o xs) (k + j) ≡ Some e) → count_owned o (take low xs) ≤ k
     → (notes : List PlacedEntry) × AreMade xs low (length xs) notes × (map receipt notes ≡ numbered_on k shown) × AreEntries xs notes es
 made_from o k low xs [] [] same own at few = ([], record { rise = tt; below = tt; made = tt }, refl, tt)
 made_from o k low xs [] (x ∷ shown) same own at few = absurd (omega (arith, same))
@@ -100,13 +100,13 @@ made_from o k low xs (e ∷ es) [] same own at few = absurd (omega (arith, same)
 made_from o k low xs (e ∷ es) (x ∷ shown) same own at few =
     let f = entry_place o k e xs (subst (λ n. slice_get (entries_at o xs) n ≡ Some e) (none k) (at 0 e refl)) in
     let p = f.place in
-    let next : count o (take (suc p) xs) ≡ count o (take p xs) + 1 = count_next o p e xs f.there f.owner in
+    let next : count_owned o (take (suc p) xs) ≡ count_owned o (take p xs) + 1 = count_next o p e xs f.there f.owner in
     let later : low ≤ p =
     ⊎_elim (λ (less : p < low). absurd (omega (arith, few, f.number, counts_more xs p low o e f.there f.owner less)))
     (λ more. more) (cases_lt p low) in
     let rest = made_from o (k + 1) (p + 1) xs es shown (omega (arith, same)) own.1
     (λ j z is. subst (λ n. slice_get (entries_at o xs) n ≡ Some z) (shift k j) (at (suc j) z is))
-    (subst (λ n. count o (take n xs) ≤ k + 1) (add_one p) (omega (arith, next, f.number))) in
+    (subst (λ n. count_owned o (take n xs) ≤ k + 1) (add_one p) (omega (arith, next, f.number))) in
     let note : PlacedEntry = record { place = p; number = k + 1; shown = x } in (
       note ∷ rest.0,
       record {
@@ -117,7 +117,7 @@ made_from o k low xs (e ∷ es) (x ∷ shown) same own at few =
             step = e;
             there = f.there;
             owner = f.owner ∙ sym own.0;
-            number = ap (λ u. count u (take p xs) + 1) own.0 ∙ ap (λ n. n + 1) f.number;
+            number = ap (λ u. count_owned u (take p xs) + 1) own.0 ∙ ap (λ n. n + 1) f.number;
           },
           rest.1.made,
         );
@@ -150,12 +150,12 @@ at_right (x ∷ xs) ys j y at = subst (λ n. slice_get (x ∷ xs ++ ys) n ≡ So
 pub adds_made_on : (before more : List SystemEntry) (o : Owner) (es : List SystemEntry) (shown : List Shown)
     → entries_at o (before ++ more) ≡ entries_at o before ++ es → length shown ≡ length es → AllByRecursion (λ s. owner_of s ≡ o) shown
     → (notes : List PlacedEntry) × AreMade (before ++ more) (length before) (length (before ++ more)) notes
-    × (map receipt notes ≡ numbered_on (count o before) shown) × AreEntries (before ++ more) notes es
+    × (map receipt notes ≡ numbered_on (count_owned o before) shown) × AreEntries (before ++ more) notes es
 adds_made_on before more o es shown adds same own =
-    made_from o (count o before) (length before) (before ++ more) es shown same own
-    (λ j e at. ap (λ xs. slice_get xs (count o before + j)) adds
+    made_from o (count_owned o before) (length before) (before ++ more) es shown same own
+    (λ j e at. ap (λ xs. slice_get xs (count_owned o before + j)) adds
     ∙ subst (λ n. slice_get (entries_at o before ++ es) (n + j) ≡ Some e) (sym (count_is o before)) (at_right (entries_at o before) es j e at))
-    (subst (λ xs. count o xs ≤ count o before) (sym (take-append_seam before more)) (omega arith))
+    (subst (λ xs. count_owned o xs ≤ count_owned o before) (sym (take-append_seam before more)) (omega arith))
 
 timers_own : (t : ℕ) (shown : List Entry) → AllByRecursion (λ s. owner_of s ≡ TimersList t) (map (OfTimer t) shown)
 timers_own t [] = tt
@@ -165,7 +165,7 @@ timers_own t (e ∷ es) = (refl, timers_own t es)
 pub adds_made : (before more : List SystemEntry) (t : ℕ) (es : List histories.Entry) (shown : List Entry)
     → entries_of t (before ++ more) ≡ entries_of t before ++ es → length shown ≡ length es
     → (notes : List PlacedEntry) × AreMade (before ++ more) (length before) (length (before ++ more)) notes
-    × (map receipt notes ≡ numbered t (count (TimersList t) before) shown) × AreEntries (before ++ more) notes (map (timers_entry t) es)
+    × (map receipt notes ≡ numbered t (count_owned (TimersList t) before) shown) × AreEntries (before ++ more) notes (map (timers_entry t) es)
 adds_made before more t es shown adds same =
     adds_made_on before more (TimersList t) (map (timers_entry t) es) (map (OfTimer t) shown)
     (entries_at-timer t (before ++ more) ∙ ap (map (timers_entry t)) adds ∙ map-append (timers_entry t) (entries_of t before) es
@@ -175,7 +175,7 @@ adds_made before more t es shown adds same =
 -- law: and of an entry of a base
 pub shift_made : (before more : List SystemEntry) (b : ℕ) (event : BaseEvent) → shifts_of b (before ++ more) ≡ shifts_of b before ++ event ∷ []
     → (notes : List PlacedEntry) × AreMade (before ++ more) (length before) (length (before ++ more)) notes
-    × (map receipt notes ≡ (count (BasesList b) before + 1, OfBase b event) ∷ []) × AreEntries (before ++ more) notes (bases_entry b event ∷ [])
+    × (map receipt notes ≡ (count_owned (BasesList b) before + 1, OfBase b event) ∷ []) × AreEntries (before ++ more) notes (bases_entry b event ∷ [])
 shift_made before more b event adds =
     adds_made_on before more (BasesList b) (bases_entry b event ∷ []) (OfBase b event ∷ [])
     (entries_at-base b (before ++ more) ∙ ap (map (bases_entry b)) adds ∙ map-append (bases_entry b) (shifts_of b before) (event ∷ [])
@@ -185,7 +185,7 @@ shift_made before more b event adds =
 -- law: and of a rise of a counter, the last of what the pass has seen
 pub rise_made : (k n low : ℕ) (before seen : List SystemEntry) → seen ≡ before ++ entries.Rise k ∷ [] → rises_of k before ≡ n → low ≤ length before
     → (x : PlacedEntry) × AreMade seen low (length seen) (x ∷ []) × (receipt x ≡ (n + 1, OfRise k)) × AreEntries seen (x ∷ []) (entries.Rise k ∷ [])
-rise_made k n low before seen is count le =
+rise_made k n low before seen is count_owned le =
     let there : slice_get seen (length before) ≡ Some (entries.Rise k) =
     ap (λ xs. slice_get xs (length before)) is ∙ at_seam before [] (entries.Rise k) in (
       record { place = length before; number = n + 1; shown = OfRise k },
@@ -198,7 +198,7 @@ rise_made k n low before seen is count le =
             there = there;
             owner = refl;
             number = ap (λ xs. rises_of k (take (length before) xs) + 1) is
-                ∙ ap (λ xs. rises_of k xs + 1) (take-append_seam before (entries.Rise k ∷ [])) ∙ ap (λ m. m + 1) count;
+                ∙ ap (λ xs. rises_of k xs + 1) (take-append_seam before (entries.Rise k ∷ [])) ∙ ap (λ m. m + 1) count_owned;
           },
           tt,
         );
@@ -210,7 +210,7 @@ rise_made k n low before seen is count le =
 -- ---- how many of a list stand before a moment
 
 -- law: of the first entries, which a pass has seen, as many are rises of a counter as were seen
-pub rises_along : {s : Script} {e : Ending} (k : ℕ) (seen : List SystemEntry) → IsJoined s e → GoesOn seen e
+pub rises_along : {s : Script} {e : Ending} (k : ℕ) (seen : List SystemEntry) → IsJoined s e → RunGoesOn seen e
     → rises_of k (take (length seen) (entries_in (witness_of s e))) ≡ rises_of k seen
 rises_along k seen joined on =
     ap (λ es. rises_of k (take (length seen) es)) (seen_first seen joined on) ∙ ap (rises_of k) (take-append_seam seen on.0)
@@ -225,7 +225,7 @@ made_on xs ys (x ∷ notes) made =
         step = made.0.step;
         there = at_left xs ys x.place made.0.step made.0.there;
         owner = made.0.owner;
-        number = ap (λ zs. count (owner_of x.shown) zs + 1) (take-append-le x.place xs ys (omega (arith, inside))) ∙ made.0.number;
+        number = ap (λ zs. count_owned (owner_of x.shown) zs + 1) (take-append-le x.place xs ys (omega (arith, inside))) ∙ made.0.number;
       },
       made_on xs ys notes made.1,
     )

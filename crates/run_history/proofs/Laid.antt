@@ -10,7 +10,7 @@ use Rattle.record_text.specs.declared.record.Label.{Label}
 use Rattle.record_text.specs.declared.record.RunRecord.{RunRecord}
 use Rattle.run_history.specs.Order.{is_label}
 use Rattle.run_history.specs.Witnesses.{Move, Owner, Shown, ShownLine, is_owner, lines_at, owner_of, owner_of_entry}
-use Rattle.run_history.specs.Receipts.{AreAll, at_place, count, IsMade, move_at, move_of, no_line, PlacedEntry, Rises, shape, weave}
+use Rattle.run_history.specs.Receipts.{AreAll, at_place, count_owned, IsMade, move_at, move_of, no_line, PlacedEntry, Rises, shape, weave}
 use Rattle.run_history.proofs.Items.{Among, among_at, at_among, own_items, RiseIn, StandsIn}
 use Rattle.run_history.proofs.Labels.{label_itself, same_label}
 use Rattle.run_history.proofs.Lists.{all_at, at_map, map_get}
@@ -34,25 +34,25 @@ step_there r done (y ∷ xs) (suc p) m at = step_there r (done ++ y ∷ []) xs p
 
 -- of two places of one list the later one has more of the list's entries before it
 pub counts_more : (xs : List SystemEntry) (p q : ℕ) (o : Owner) (x : SystemEntry) → slice_get xs p ≡ Some x → owner_of_entry x ≡ o → p < q
-    → count o (take p xs) + 1 ≤ count o (take q xs)
+    → count_owned o (take p xs) + 1 ≤ count_owned o (take q xs)
 counts_more [] p q o x at is less = absurd (cc)
 counts_more (y ∷ xs) zero zero o x at is less = absurd (omega (arith, less))
 counts_more (y ∷ xs) zero (suc q) o x at is less =
-    subst (λ n. n + 1 ≤ count o (y ∷ take q xs)) (sym (count_none o)) (subst (λ n. 0 + 1 ≤ n) (sym (count_cons o y (take q xs)))
-    (subst (λ b. 0 + 1 ≤ and_one b (count o (take q xs)))
+    subst (λ n. n + 1 ≤ count_owned o (y ∷ take q xs)) (sym (count_none o)) (subst (λ n. 0 + 1 ≤ n) (sym (count_cons o y (take q xs)))
+    (subst (λ b. 0 + 1 ≤ and_one b (count_owned o (take q xs)))
     (sym (owner_is (owner_of_entry y) o (ap owner_of_entry (same_Some y x at) ∙ is))) (omega arith)))
 counts_more (y ∷ xs) (suc p) zero o x at is less = absurd (omega (arith, less))
 counts_more (y ∷ xs) (suc p) (suc q) o x at is less =
     let rest = counts_more xs p q o x at is (omega (arith, less)) in
-    subst (λ n. n + 1 ≤ count o (y ∷ take q xs)) (sym (count_cons o y (take p xs)))
-    (subst (λ n. and_one (is_owner (owner_of_entry y) o) (count o (take p xs)) + 1 ≤ n) (sym (count_cons o y (take q xs)))
-    (elim (is_owner (owner_of_entry y) o) as (λ b. and_one b (count o (take p xs)) + 1 ≤ and_one b (count o (take q xs))) [
+    subst (λ n. n + 1 ≤ count_owned o (y ∷ take q xs)) (sym (count_cons o y (take p xs)))
+    (subst (λ n. and_one (is_owner (owner_of_entry y) o) (count_owned o (take p xs)) + 1 ≤ n) (sym (count_cons o y (take q xs)))
+    (elim (is_owner (owner_of_entry y) o) as (λ b. and_one b (count_owned o (take p xs)) + 1 ≤ and_one b (count_owned o (take q xs))) [
       | true ↦ omega (arith, rest)
       | false ↦ rest
     ]))
 
 pub same_place : (xs : List SystemEntry) (p q : ℕ) (o : Owner) (x y : SystemEntry) → slice_get xs p ≡ Some x → slice_get xs q ≡ Some y
-    → owner_of_entry x ≡ o → owner_of_entry y ≡ o → count o (take p xs) ≡ count o (take q xs) → p ≡ q
+    → owner_of_entry x ≡ o → owner_of_entry y ≡ o → count_owned o (take p xs) ≡ count_owned o (take q xs) → p ≡ q
 same_place xs p q o x y at_p at_q is_x is_y same =
     ⊎_elim (λ (less : p < q). absurd (omega (arith, same, counts_more xs p q o x at_p is_x less)))
     (λ (le : q ≤ p). ⊎_elim (λ (less : q < p). absurd (omega (arith, same, counts_more xs q p o y at_q is_y less)))
@@ -82,7 +82,7 @@ pub record AreReceipts (r : RunRecord) (order : List SystemEntry) (notes : Label
   pub made : (c : Label) → AllByRecursion (IsMade order) (notes c)
   pub lines : (c : Label) → AllByRecursion (IsLine r c) (notes c)
   pub noted : (o : Owner) (before : ℕ) (line : ShownLine) → slice_get (lines_at r o) before ≡ Some line → IsNoted notes o before line
-  pub whole : (o : Owner) → length (lines_at r o) ≡ count o order
+  pub whole : (o : Owner) → length (lines_at r o) ≡ count_owned o order
 
 less_one : (a b n : ℕ) → a + 1 ≡ n → b + 1 ≡ n → a ≡ b
 less_one a b n e f = omega (arith, e, f)
@@ -105,8 +105,8 @@ stands_at r order c x here line =
     let o = owner_of x.shown in
     let move = move_of r (take x.place order) here.step in
     let move_is : move ≡ record { before = line.before; label = c; shown = x.shown } =
-    ap (λ (y : Owner). move_at r y (count y (take x.place order))) here.owner
-    ∙ ap (move_at r o) (less_one (count o (take x.place order)) line.before x.number here.number line.number)
+    ap (λ (y : Owner). move_at r y (count_owned y (take x.place order))) here.owner
+    ∙ ap (move_at r o) (less_one (count_owned o (take x.place order)) line.before x.number here.number line.number)
     ∙ ap (λ (l : ShownLine). record { before = line.before; label = l.label; shown = l.shown })
     (get_or_from_slice_get (lines_at r o) line.before (record { label = c; shown = x.shown }) (no_line o) line.there) in
     record {
@@ -129,23 +129,23 @@ module _ (r : RunRecord) (order : List SystemEntry) (notes : Label → List Plac
   is_among p m there own =
       let s = step_there r [] order p m there in
       let o = owner_of_entry s.0 in
-      let n = count o (take p order) in
+      let n = count_owned o (take p order) in
       let move_is : m ≡ move_of r (take p order) s.0 = sym (same_Some (move_of r (take p order) s.0) m (sym (weave_at r [] order p s.0 s.1) ∙ there)) in
-      let more : count o (take p order) + 1 ≤ count o (take (length order) order) =
+      let more : count_owned o (take p order) + 1 ≤ count_owned o (take (length order) order) =
       counts_more order p (length order) o s.0 s.1 refl (slice_get_within order p s.0 s.1) in
-      let inside : n < length (lines_at r o) = within n _ _ (all.whole o) more (ap (count o) (take_all (length order) order (omega arith))) in
+      let inside : n < length (lines_at r o) = within n _ _ (all.whole o) more (ap (count_owned o) (take_all (length order) order (omega arith))) in
       let line = get_or (lines_at r o) n (no_line o) in
       let noted = all.noted o n line (slice_get-get_or (lines_at r o) n (no_line o) inside) in
       let note = noted.note in
       let label : line.label ≡ c = ap (λ (x : Move). x.label) (sym move_is) ∙ same_label c m.label own in
       let its : slice_get (notes c) noted.index ≡ Some note = subst (λ l. slice_get (notes l) noted.index ≡ Some note) label noted.there in
       let made = all_at (IsMade order) (notes c) noted.index note (all.made c) its in
-      let number : count o (take note.place order) + 1 ≡ note.number =
-      subst (λ u. count u (take note.place order) + 1 ≡ note.number) noted.owner made.number in
+      let number : count_owned o (take note.place order) + 1 ≡ note.number =
+      subst (λ u. count_owned u (take note.place order) + 1 ≡ note.number) noted.owner made.number in
       let owner : owner_of_entry made.step ≡ o = ◌∙◌ {a = owner_of_entry made.step} made.owner noted.owner in
       let same : note.place ≡ p =
       same_place order note.place p o made.step s.0 made.there s.1 owner refl
-      (less_one (count o (take note.place order)) n note.number number (sym noted.number)) in
+      (less_one (count_owned o (take note.place order)) n note.number number (sym noted.number)) in
       subst (λ e. Among e (map at_place (notes c))) (shown note m p (each_stands noted.index note its) same there)
       (among_at (map at_place (notes c)) noted.index (at_place note) (at_map at_place (notes c) noted.index note its))
     where

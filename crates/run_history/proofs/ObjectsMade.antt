@@ -29,7 +29,7 @@ use Rattle.record_text.specs.declared.record.InterruptReply.{InterruptReply}
 use Rattle.timer_setting.specs.Arguments.{mode_by}
 use Rattle.timer_setting.specs.declared.arming.Wanted.{Wanted}
 use Rattle.run_history.specs.Actions.{Action, Began, Made}
-use Rattle.run_history.specs.ObjectCalls.{AreValidFor, Arms, ArmsAs, cancels, IsValidSleep, MakesAnew, MakesRearming, nanoseconds_of}
+use Rattle.run_history.specs.ObjectCalls.{AreValidFor, Arms, ArmsAs, cancels, IsProperSleep, MakesAnew, MakesRearming, nanoseconds_of}
 use Rattle.script_text.specs.Declarations.{base_of, kind_of, without_slack}
 use Rattle.run_history.specs.Starts.{SentTo, arming_actions}
 use Rattle.script_text.specs.declared.script.Call.TheVariants as calls
@@ -42,7 +42,7 @@ use Rattle.run_history.specs.Fits.{FitsCall, Seen}
 use Rattle.run_history.specs.Receipts.{PlacedEntry}
 use Rattle.run_history.specs.Rounds.{Spans}
 use Rattle.run_history.specs.Objects.{queued_after}
-use Rattle.run_history.specs.Signals.{IsQueued}
+use Rattle.run_history.specs.Signals.{SendsSignals}
 use Rattle.posix_timer.specs.Queued.{is_fresh}
 use Rattle.signal_queue.specs.declared.signal.Turn.{Turn}
 use Rattle.run_history.proofs.Kept.{call_made, IsKept, moment_of, Stops}
@@ -219,7 +219,7 @@ module _ {w : Witness} {moves signals : Spans} {c : Label} {at begin last timer 
       (nanoseconds_of time) at arm reply))) notes
       (calls.Sleep timer flags time) (answer_of_sleep reply) before after
       → moves.first c ≤ begin → (anew : IsAnew w c notes at begin last timer (start_of flags time) cancel arm start stamp)
-      → IsValidSleep flags time → UnsleptBy w timer reply anew.ends
+      → IsProperSleep flags time → UnsleptBy w timer reply anew.ends
       → FitsCall w c (calls.Sleep timer flags time) (answer_of_sleep reply) before after
   sleep_made {flags = flags} {time = time} sleeps.Slept kept low anew taken refused =
       let entry : Armed → ObjectEntry = λ arm. object_entries.Sleep flags (nanoseconds_of time) at arm sleeps.Slept in
@@ -307,7 +307,7 @@ module _ {w : Witness} {moves signals : Spans} {c : Label} {at begin last timer 
       → IsKept w moves signals c (turning at begin last (rearming_actions timer start stamp (object_entries.Accept at arm
       (acceptances.Accepted overrun))) turns)
       notes calls.Sigwait (answers.Signal timer number overrun) before after
-      → moves.first c ≤ begin → IsRearmed w c notes at begin last timer arm start stamp → IsQueued (kind_of w.script timer)
+      → moves.first c ≤ begin → IsRearmed w c notes at begin last timer arm start stamp → SendsSignals (kind_of w.script timer)
       → is_fresh (queued_after w.script w.run timer (base_of (kind_of w.script timer)) stamp) number ≡ true
       → FitsCall w c calls.Sigwait (answers.Signal timer number overrun) before after
   signal_made number overrun kept low rearmed queued fresh =

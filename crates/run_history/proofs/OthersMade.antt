@@ -1,7 +1,7 @@
 -- Calls on timers but for expiry runs: those that make no entry, the cancel, the write of the clock and the start.
 use Rattle.std.proofs.Common.{◌≡◌, ◌≤◌, ℕ, List, [], ◌∷◌, arith, refl, sym, subst}
 use Rattle.std.specs.List.{AllByRecursion}
-use Rattle.clock_model.specs.declared.write.Write.{Write}
+use Rattle.ktime.specs.declared.write.Write.{Write}
 use Rattle.record_text.specs.declared.record.Answer.TheVariants as answers
 use Rattle.record_text.specs.declared.record.Answer.{Answer}
 use Rattle.seq_timer.specs.declared.event.EventBy.TheVariants as events

@@ -16,7 +16,7 @@ use Rattle.record_text.specs.declared.record.TimerLine.{TimerLine}
 use Rattle.run_history.specs.Actions.{also}
 use Rattle.run_history.specs.Histories.{lines_of_base, lines_of_timer}
 use Rattle.run_history.specs.Objects.{lines_of_object}
-use Rattle.run_history.specs.Receipts.{count, no_line}
+use Rattle.run_history.specs.Receipts.{count_owned, no_line}
 use Rattle.run_history.specs.Witnesses.{BasesList, CountersList, Owner, TimersList, is_owner, line_of_base, line_of_object, line_of_timer, line_of_write, lines_at, owner_of, owner_of_entry, twice}
 
 pub owner_itself : (o : Owner) → is_owner o o ≡ true
@@ -77,12 +77,12 @@ abbrev pub and_one : Bool → ℕ → ℕ
 and_one true n = n + 1
 and_one false n = n
 
-pub count_none : (o : Owner) → count o [] ≡ 0
+pub count_none : (o : Owner) → count_owned o [] ≡ 0
 count_none (TimersList t) = refl
 count_none (BasesList b) = refl
 count_none (CountersList k) = refl
 
-pub count_cons : (o : Owner) (x : SystemEntry) (xs : List SystemEntry) → count o (x ∷ xs) ≡ and_one (is_owner (owner_of_entry x) o) (count o xs)
+pub count_cons : (o : Owner) (x : SystemEntry) (xs : List SystemEntry) → count_owned o (x ∷ xs) ≡ and_one (is_owner (owner_of_entry x) o) (count_owned o xs)
 count_cons (TimersList t) (entries.Timer e) xs =
     elim (nat_eq e.timer t) as (λ b. length (if b then record { event = e.event; reply = e.reply } ∷ entries_of t xs else entries_of t xs)
     ≡ and_one b (length (entries_of t xs))) [
@@ -106,17 +106,17 @@ count_cons (CountersList k) (entries.Rise j) xs =
       | false ↦ refl
     ]
 
-pub count-append : (o : Owner) (xs ys : List SystemEntry) → count o (xs ++ ys) ≡ count o xs + count o ys
+pub count-append : (o : Owner) (xs ys : List SystemEntry) → count_owned o (xs ++ ys) ≡ count_owned o xs + count_owned o ys
 count-append (TimersList t) xs ys = ap length (entries_of-append t xs ys) ∙ length-append (entries_of t xs) (entries_of t ys)
 count-append (BasesList b) xs ys = ap length (shifts_of-append b xs ys) ∙ length-append (shifts_of b xs) (shifts_of b ys)
 count-append (CountersList k) xs ys = rises_of-append k xs ys
 
-pub count_push : (o : Owner) (xs : List SystemEntry) (x : SystemEntry) → count o (xs ++ x ∷ []) ≡ and_one (is_owner (owner_of_entry x) o) (count o xs)
+pub count_push : (o : Owner) (xs : List SystemEntry) (x : SystemEntry) → count_owned o (xs ++ x ∷ []) ≡ and_one (is_owner (owner_of_entry x) o) (count_owned o xs)
 count_push o xs x =
-    count-append o xs (x ∷ []) ∙ ap (λ n. count o xs + n) (count_cons o x [] ∙ ap (and_one (is_owner (owner_of_entry x) o)) (count_none o))
+    count-append o xs (x ∷ []) ∙ ap (λ n. count_owned o xs + n) (count_cons o x [] ∙ ap (and_one (is_owner (owner_of_entry x) o)) (count_none o))
     ∙ last (is_owner (owner_of_entry x) o)
   where
-    last : (b : Bool) → count o xs + and_one b 0 ≡ and_one b (count o xs)
+    last : (b : Bool) → count_owned o xs + and_one b 0 ≡ and_one b (count_owned o xs)
     last true = omega arith
     last false = omega arith
 
@@ -134,11 +134,11 @@ entries_at-append o (x ∷ xs) ys =
     ]
 
 -- law: they are as many as are counted
-pub count_is : (o : Owner) (xs : List SystemEntry) → count o xs ≡ length (entries_at o xs)
+pub count_is : (o : Owner) (xs : List SystemEntry) → count_owned o xs ≡ length (entries_at o xs)
 count_is o [] = count_none o
 count_is o (x ∷ xs) = count_cons o x xs ∙ here (is_owner (owner_of_entry x) o) (count_is o xs)
   where
-    here : (b : Bool) → count o xs ≡ length (entries_at o xs) → and_one b (count o xs) ≡ length (also b x (entries_at o xs))
+    here : (b : Bool) → count_owned o xs ≡ length (entries_at o xs) → and_one b (count_owned o xs) ≡ length (also b x (entries_at o xs))
     here true rest = omega (arith, rest)
     here false rest = rest
 

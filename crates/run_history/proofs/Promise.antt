@@ -2,8 +2,8 @@
 use Rattle.std.proofs.Common.{take, ap, ◌≡◌, ◌<◌, ◌≤◌, ℕ, List, ◌++◌, length, sym, ◌∙◌, subst}
 use Rattle.std.specs.List.{AllByRecursion}
 use Rattle.std.proofs.lemmas.List.{take-append-le, take-map}
-use Rattle.clock_model.specs.Clocks.{at_stamp, clock_after}
-use Rattle.clock_model.specs.declared.write.Write.{Write}
+use Rattle.ktime.specs.Clocks.{at_stamp, clock_after}
+use Rattle.ktime.specs.declared.write.Write.{Write}
 use Rattle.seq_timer.specs.declared.system.SystemEntry.{SystemEntry}
 use Rattle.record_text.specs.declared.record.Answer.{Answer}
 use Rattle.record_text.specs.declared.record.ClockLine.{ClockLine}
@@ -14,7 +14,7 @@ use Rattle.script_text.specs.declared.script.Call.{Call}
 use Rattle.script_text.specs.declared.script.Script.{Script}
 use Rattle.run_history.specs.Witnesses.{entries_in}
 use Rattle.run_history.specs.Fits.{Seen}
-use Rattle.run_history.specs.Promises.{GoesOn, GoesOnClock, HasLog, IsRightLog}
+use Rattle.run_history.specs.Promises.{RunGoesOn, GoesOnClock, HasLog, IsRightLog}
 use Rattle.run_history.specs.Receipts.{AreAll}
 use Rattle.run_history.specs.Runs.{CallLog, clock_spans, witness_of, Ending, IsJoined, moves_spans, signal_spans}
 use Rattle.run_history.specs.Signals.{signal_labels}
@@ -54,7 +54,7 @@ module _ {s : Script} {e : Ending} {c : Label} {log : CallLog} (joined : IsJoine
 -- ---- what its passes had seen
 
 -- the entries along the record's lines begin with what a pass of the timers' table had seen
-pub seen_first : {s : Script} {e : Ending} (seen : List SystemEntry) → IsJoined s e → (on : GoesOn seen e) → entries_in (witness_of s e) ≡ seen ++ on.0
+pub seen_first : {s : Script} {e : Ending} (seen : List SystemEntry) → IsJoined s e → (on : RunGoesOn seen e) → entries_in (witness_of s e) ≡ seen ++ on.0
 seen_first seen joined on = joined.entries ∙ on.1
 
 -- a reading that a stamp names is the one after so many of the writes that a pass of the clock's table had seen

@@ -18,7 +18,7 @@ use Rattle.run_history.specs.Actions.{Action}
 use Rattle.run_history.specs.Deeds.{Anew, Deed, Did, IsBody, IsCallback, IsExpiryRun, Rearms, Runs, Starts, Where}
 use Rattle.run_history.specs.Truths.{WasOffLine}
 use Rattle.run_history.specs.ObjectCalls.{Arms, ArmsAs, MakesAnew, MakesRearming}
-use Rattle.run_history.specs.Starts.{Arming, IsArming, IsSentBy, IsWay}
+use Rattle.run_history.specs.Starts.{Arming, IsArming, IsSentByHeirs, HeirsLeadTo}
 use Rattle.run_history.specs.Witnesses.{Evacuation, Fired, Witness}
 
 -- law: what was off line between two moments was so between earlier and later ones
@@ -29,11 +29,11 @@ was_wider w under over base heir was = (was.0, omega (arith, under, was.1), omeg
 module _ (Fewer More : ℕ → ℕ → Type 0) (to : (base heir : ℕ) → Fewer base heir → More base heir) where
   -- ---- the way of a start
 
-  way_wider : (base : ℕ) (heirs : List ℕ) (last : ℕ) → IsWay Fewer base heirs last → IsWay More base heirs last
+  way_wider : (base : ℕ) (heirs : List ℕ) (last : ℕ) → HeirsLeadTo Fewer base heirs last → HeirsLeadTo More base heirs last
   way_wider base [] last way = way
   way_wider base (heir ∷ heirs) last way = (to base heir way.0, way_wider heir heirs last way.1)
 
-  sent_wider : (base : ℕ) (sent : List ℕ) (last : ℕ) → IsSentBy Fewer base sent last → IsSentBy More base sent last
+  sent_wider : (base : ℕ) (sent : List ℕ) (last : ℕ) → IsSentByHeirs Fewer base sent last → IsSentByHeirs More base sent last
   sent_wider base [] last sent = (sent.0, way_wider base sent.0 last sent.1)
   sent_wider base (b ∷ bs) last sent = ((sent.0.0, way_wider base sent.0.0 b sent.0.1), way_wider b bs last sent.1, sent.2)
 

@@ -5,7 +5,7 @@ use Rattle.std.proofs.Math.Logic.{⊎_elim}
 use Rattle.std.proofs.lemmas.Bool.Decides.{nat_tests}
 use Rattle.std.proofs.lemmas.Bool.{and_parts, eqb-true}
 use Rattle.record_text.specs.declared.record.Label.{Label}
-use Rattle.run_history.specs.Order.{calls_of, is_before, IsInOrder, IsLabel, IsWithin, round_of}
+use Rattle.run_history.specs.Order.{calls_of, is_before, IsInOrder, IsLabel, StandsWithin, round_of}
 use Rattle.script_text.specs.declared.script.Script.{Script}
 use Rattle.run_history.specs.Rounds.{IsLaid, IsLedger, label_at, Spans}
 use Rattle.run_history.proofs.Labels.{refuted}
@@ -95,7 +95,7 @@ module _ (s : Script) (labels : List Label) (p : Spans) (laid : IsLaid s labels 
   in_order = in_order_from s labels p 0 (λ n x at. let i = laid.inside n x at in (i.0, omega (arith, i.1), omega (arith, i.2)))
       (apart_from s p laid.ledger)
 
-  pub within_span : (c : Label) (n : ℕ) → IsLabel s c → p.first c ≤ n → n ≤ p.last c → IsWithin s c n labels
+  pub within_span : (c : Label) (n : ℕ) → IsLabel s c → p.first c ≤ n → n ≤ p.last c → StandsWithin s c n labels
   within_span c n is low high = record {
     small = omega (arith, high, laid.most c is);
     before = each_take (λ x. is_before s c x ≡ false) n labels (λ k x at less. refuted (is_before s c x) (λ before.

@@ -9,7 +9,7 @@ use Rattle.record_text.specs.declared.record.Label.{Label}
 use Rattle.record_text.specs.declared.record.RunRecord.{RunRecord}
 use Rattle.run_history.specs.Actions.{also}
 use Rattle.run_history.specs.Witnesses.{Owner, ShownLine, entry_of_shown, is_owner, lines_at, owner_of_entry}
-use Rattle.run_history.specs.Receipts.{count, IsMade, no_line, PlacedEntry, ShowsEntry}
+use Rattle.run_history.specs.Receipts.{count_owned, IsMade, no_line, PlacedEntry, ShowsEntry}
 use Rattle.run_history.proofs.Laid.{AreReceipts, counts_more, IsLine, same_place}
 use Rattle.run_history.proofs.Lists.{all_at, at_seam}
 use Rattle.run_history.proofs.Owners.{and_one, count_cons, count_none, entries_at, same_owner}
@@ -28,7 +28,7 @@ pub record EntryAt (o : Owner) (k : ℕ) (e : SystemEntry) (xs : List SystemEntr
   pub place : ℕ
   pub there : slice_get xs place ≡ Some e
   pub owner : owner_of_entry e ≡ o
-  pub number : count o (take place xs) ≡ k
+  pub number : count_owned o (take place xs) ≡ k
 
 pub entry_place : (o : Owner) (k : ℕ) (e : SystemEntry) (xs : List SystemEntry) → slice_get (entries_at o xs) k ≡ Some e → EntryAt o k e xs
 entry_place o k e [] at = absurd (cc)
@@ -37,10 +37,10 @@ entry_place o k e (y ∷ xs) at =
     → EntryAt o k e (y ∷ xs)) [
       | true ↦ λ is at. here k at is (λ k at. entry_place o k e xs at)
       | false ↦ λ is at. let r = entry_place o k e xs at in
-          later k r (count_cons o y (take r.place xs) ∙ ap (λ b. and_one b (count o (take r.place xs))) is ∙ r.number)
+          later k r (count_cons o y (take r.place xs) ∙ ap (λ b. and_one b (count_owned o (take r.place xs))) is ∙ r.number)
     ] refl at
   where
-    later : (k : ℕ) {j : ℕ} → (r : EntryAt o j e xs) → count o (take (suc r.place) (y ∷ xs)) ≡ k → EntryAt o k e (y ∷ xs)
+    later : (k : ℕ) {j : ℕ} → (r : EntryAt o j e xs) → count_owned o (take (suc r.place) (y ∷ xs)) ≡ k → EntryAt o k e (y ∷ xs)
     later k r number = record { place = suc r.place; there = r.there; owner = r.owner; number = number }
 
     here : (k : ℕ) → slice_get (y ∷ entries_at o xs) k ≡ Some e → is_owner (owner_of_entry y) o ≡ true
@@ -49,8 +49,8 @@ entry_place o k e (y ∷ xs) at =
         record { place = 0; there = at; owner = ap owner_of_entry (sym (same_Some y e at)) ∙ same_owner (owner_of_entry y) o is; number = count_none o }
     here (suc k) at is further =
         let r = further k at in
-        later (suc k) r (count_cons o y (take r.place xs) ∙ ap (λ b. and_one b (count o (take r.place xs))) is
-        ∙ one_more (count o (take r.place xs)) k r.number)
+        later (suc k) r (count_cons o y (take r.place xs) ∙ ap (λ b. and_one b (count_owned o (take r.place xs))) is
+        ∙ one_more (count_owned o (take r.place xs)) k r.number)
       where
         one_more : (a k : ℕ) → a ≡ k → a + 1 ≡ suc k
         one_more a k e = omega (arith, e)
@@ -63,22 +63,22 @@ shows_from r order notes all entries before x later is =
     let o = owner_of_entry x in
     let p = length before in
     let there : slice_get order p ≡ Some x = ap (λ xs. slice_get xs p) is ∙ at_seam before later x in
-    let upto : count o (take p order) ≡ count o before = ap (count o) (ap (take p) is ∙ take-append_seam before (x ∷ later)) in
-    let n = count o before in
+    let upto : count_owned o (take p order) ≡ count_owned o before = ap (count_owned o) (ap (take p) is ∙ take-append_seam before (x ∷ later)) in
+    let n = count_owned o before in
     let more = counts_more order p (length order) o x there refl (slice_get_within order p x there) in
-    let inside : n < length (lines_at r o) = within n _ _ _ upto (all.whole o) more (ap (count o) (take_all (length order) order (omega arith))) in
+    let inside : n < length (lines_at r o) = within n _ _ _ upto (all.whole o) more (ap (count_owned o) (take_all (length order) order (omega arith))) in
     let line = get_or (lines_at r o) n (no_line o) in
     let noted = all.noted o n line (slice_get-get_or (lines_at r o) n (no_line o) inside) in
     let note = noted.note in
     let made = all_at (IsMade order) (notes line.label) noted.index note (all.made line.label) noted.there in
     let its = all_at (IsLine r line.label) (notes line.label) noted.index note (all.lines line.label) noted.there in
     let shows = all_at (ShowsEntry r order) (notes line.label) noted.index note (entries line.label) noted.there in
-    let number : count o (take note.place order) + 1 ≡ note.number =
-    subst (λ u. count u (take note.place order) + 1 ≡ note.number) noted.owner made.number in
+    let number : count_owned o (take note.place order) + 1 ≡ note.number =
+    subst (λ u. count_owned u (take note.place order) + 1 ≡ note.number) noted.owner made.number in
     let owner : owner_of_entry made.step ≡ o = ◌∙◌ {a = owner_of_entry made.step} made.owner noted.owner in
     let place : note.place ≡ p =
     same_place order note.place p o made.step x made.there there owner refl
-    (less_one (count o (take note.place order)) _ note.number n number noted.number upto) in
+    (less_one (count_owned o (take note.place order)) _ note.number n number noted.number upto) in
     let step_is : shows.step ≡ x = same_Some shows.step x (sym shows.there ∙ ap (slice_get order) place ∙ there) in
     let before_is : its.before ≡ n = one_less its.before n note.number its.number noted.number in
     let line_is : line ≡ record { label = line.label; shown = note.shown } =

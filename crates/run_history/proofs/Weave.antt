@@ -9,33 +9,33 @@ use Rattle.run_history.specs.Actions.{also}
 use Rattle.script_text.specs.Declarations.{terms_of, declareds_of}
 use Rattle.script_text.specs.declared.script.Script.{Script}
 use Rattle.run_history.specs.Witnesses.{entries_in, entry_of_move, IsOneHistory, is_owner, lines_at, moves_from, moves_on, Owner, owner_of, owner_of_entry}
-use Rattle.run_history.specs.Receipts.{count, move_at, move_of, no_line, weave}
+use Rattle.run_history.specs.Receipts.{count_owned, move_at, move_of, no_line, weave}
 use Rattle.run_history.specs.Runs.{witness_of, Ending}
 use Rattle.run_history.proofs.Owners.{and_one, count_cons, count_none, count_push, owner_at, same_owner}
 
 -- ---- the moves of each list are its lines
 
-weave_on : (r : RunRecord) (o : Owner) (done xs : List SystemEntry) → count o done + count o xs ≡ length (lines_at r o)
-    → moves_on o (weave r done xs) ≡ moves_from (count o done) (drop (count o done) (lines_at r o))
+weave_on : (r : RunRecord) (o : Owner) (done xs : List SystemEntry) → count_owned o done + count_owned o xs ≡ length (lines_at r o)
+    → moves_on o (weave r done xs) ≡ moves_from (count_owned o done) (drop (count_owned o done) (lines_at r o))
 weave_on r o done [] all =
-    ap (moves_from (count o done)) (sym (drop_all (count o done) (lines_at r o) (omega (arith, all, count_none o))))
+    ap (moves_from (count_owned o done)) (sym (drop_all (count_owned o done) (lines_at r o) (omega (arith, all, count_none o))))
 weave_on r o done (x ∷ xs) all =
     let its = is_owner (owner_of_entry x) o in
     let whose : is_owner (owner_of (move_of r done x).shown) o ≡ its =
-    ap (λ y. is_owner y o) (owner_at r (owner_of_entry x) (count (owner_of_entry x) done)) in
+    ap (λ y. is_owner y o) (owner_at r (owner_of_entry x) (count_owned (owner_of_entry x) done)) in
     ap (λ b. also b (move_of r done x) (moves_on o (weave r (done ++ x ∷ []) xs))) whose
-    ∙ go its refl (count_push o done x) (ap (λ n. count o done + n) (sym (count_cons o x xs)) ∙ all) (weave_on r o (done ++ x ∷ []) xs)
+    ∙ go its refl (count_push o done x) (ap (λ n. count_owned o done + n) (sym (count_cons o x xs)) ∙ all) (weave_on r o (done ++ x ∷ []) xs)
   where
-    go : (b : Bool) → is_owner (owner_of_entry x) o ≡ b → count o (done ++ x ∷ []) ≡ and_one b (count o done)
-        → count o done + and_one b (count o xs) ≡ length (lines_at r o)
-        → (count o (done ++ x ∷ []) + count o xs ≡ length (lines_at r o)
-        → moves_on o (weave r (done ++ x ∷ []) xs) ≡ moves_from (count o (done ++ x ∷ [])) (drop (count o (done ++ x ∷ [])) (lines_at r o)))
-        → also b (move_of r done x) (moves_on o (weave r (done ++ x ∷ []) xs)) ≡ moves_from (count o done) (drop (count o done) (lines_at r o))
+    go : (b : Bool) → is_owner (owner_of_entry x) o ≡ b → count_owned o (done ++ x ∷ []) ≡ and_one b (count_owned o done)
+        → count_owned o done + and_one b (count_owned o xs) ≡ length (lines_at r o)
+        → (count_owned o (done ++ x ∷ []) + count_owned o xs ≡ length (lines_at r o)
+        → moves_on o (weave r (done ++ x ∷ []) xs) ≡ moves_from (count_owned o (done ++ x ∷ [])) (drop (count_owned o (done ++ x ∷ [])) (lines_at r o)))
+        → also b (move_of r done x) (moves_on o (weave r (done ++ x ∷ []) xs)) ≡ moves_from (count_owned o done) (drop (count_owned o done) (lines_at r o))
     go true is now all further =
         let rest = further (omega (arith, all, now)) in
-        ap (λ (y : Owner). move_at r y (count y done) ∷ moves_on o (weave r (done ++ x ∷ []) xs)) (same_owner (owner_of_entry x) o is)
-        ∙ ap (λ ms. move_at r o (count o done) ∷ ms) (rest ∙ ap (λ n. moves_from n (drop n (lines_at r o))) now)
-        ∙ ap (moves_from (count o done)) (sym (drop_more (lines_at r o) (count o done) (no_line o) (omega (arith, all))))
+        ap (λ (y : Owner). move_at r y (count_owned y done) ∷ moves_on o (weave r (done ++ x ∷ []) xs)) (same_owner (owner_of_entry x) o is)
+        ∙ ap (λ ms. move_at r o (count_owned o done) ∷ ms) (rest ∙ ap (λ n. moves_from n (drop n (lines_at r o))) now)
+        ∙ ap (moves_from (count_owned o done)) (sym (drop_more (lines_at r o) (count_owned o done) (no_line o) (omega (arith, all))))
     go false is now all further =
         further (omega (arith, all, now)) ∙ ap (λ n. moves_from n (drop n (lines_at r o))) now
 
@@ -63,10 +63,10 @@ module _ (s : Script) (e : Ending)
   pub woven : entries_in (witness_of s e) ≡ e.order
   woven = weave_shows e.run e.order [] e.order refl shows
 
-  pub one_history_from : ((o : Owner) → length (lines_at e.run o) ≡ count o e.order)
+  pub one_history_from : ((o : Owner) → length (lines_at e.run o) ≡ count_owned o e.order)
       → IsSystemHistory s.bases (declareds_of s) (terms_of s) e.order → IsOneHistory (witness_of s e)
   one_history_from whole history = record {
-    all = λ o. weave_on e.run o [] e.order (ap (λ n. n + count o e.order) (count_none o) ∙ from_none (count o e.order) ∙ sym (whole o))
+    all = λ o. weave_on e.run o [] e.order (ap (λ n. n + count_owned o e.order) (count_none o) ∙ from_none (count_owned o e.order) ∙ sym (whole o))
         ∙ ap (λ n. moves_from n (drop n (lines_at e.run o))) (count_none o);
     history = subst (IsSystemHistory s.bases (declareds_of s) (terms_of s)) (sym woven) history;
   }

@@ -1,7 +1,7 @@
 -- What one call did, in its order: its writes of the clock, its entries of timers, bases and objects, what its callbacks were told in place of entries, and
 -- the expiries that an object refused.
 use Rattle.std.specs.Prelude.{ℕ, ◌+◌, Bool, true, false, nat_eq, List, [], ◌∷◌, ◌++◌}
-use Rattle.clock_model.specs.declared.write.Write.{Write}
+use Rattle.ktime.specs.declared.write.Write.{Write}
 use Rattle.record_text.specs.declared.record.Label.{Label}
 use Rattle.record_text.specs.declared.record.Entry.{Entry}
 use Rattle.record_text.specs.declared.record.CallbackReply.{CallbackReply}

@@ -1,6 +1,6 @@
 -- The table of calls: for each call and each answer that it may have, what the call then did, and what the answer tells.
 use Rattle.std.specs.Prelude.{ℕ, ◌≡◌, ◌≤◌, ◌<◌, Bool, true, false, Some, None, IsSome, List, [], ◌∷◌}
-use Rattle.clock_model.specs.Clocks.{after_write, greatest}
+use Rattle.ktime.specs.Clocks.{after_write, greatest}
 use Rattle.timer_fd.specs.Steps.{count_length}
 use Rattle.posix_timer.specs.States.{setting_of}
 use Rattle.timer_fd.specs.States.{is_readable}
@@ -35,12 +35,12 @@ use Rattle.record_text.specs.declared.record.SleepReply.{SleepReply}
 use Rattle.record_text.specs.declared.record.SleepReply.TheVariants as begun
 use Rattle.run_history.specs.Actions.{Action, Shifted}
 use Rattle.run_history.specs.Histories.{reading_at}
-use Rattle.run_history.specs.ObjectCalls.{AreValidFor, IsValidSleep, nanoseconds_of}
+use Rattle.run_history.specs.ObjectCalls.{AreValidFor, IsProperSleep, nanoseconds_of}
 use Rattle.run_history.specs.Objects.{fd_after, posix_at, sleeper_after}
-use Rattle.run_history.specs.Signals.{IsQueued}
+use Rattle.run_history.specs.Signals.{SendsSignals}
 use Rattle.run_history.specs.Told.{IsOutOfRange}
 use Rattle.run_history.specs.Witnesses.{Evacuation, Fired, Witness, standing_along, timer_along}
-use Rattle.run_history.specs.Truths.{DisarmedFirst, HadEntries, IsDone, MayGo, NothingTold, RefusedBefore, RunsFirst, RunsNone}
+use Rattle.run_history.specs.Truths.{DisarmedFirst, HadEntries, IsDone, MayGo, NothingTold, RefusedBefore, RanFirst, RanNone}
 use Rattle.run_history.specs.Truths.{Saw, SawFull, SawFullOn, SawRefusal, SawStale, SawWaiting, StandsAt, WasFresh, WentStale}
 use Rattle.run_history.specs.Deeds.{Anew, Cancels, Deed, Did, Evacuates, Never, Nothing, Rearms, Runs, Shifts, Starts, Where, Writes}
 
@@ -62,8 +62,8 @@ abbrev pub only : Deed → CallRow
 only did = record { did = did; tells = λ c. NothingTold }
 
 -- the call did nothing, and its answer tells this
-abbrev pub looked : (CallSpan → Type 0) → CallRow
-looked tells = record { did = Nothing; tells = tells }
+abbrev pub told_by_look : (CallSpan → Type 0) → CallRow
+told_by_look tells = record { did = Nothing; tells = tells }
 
 -- the call did nothing, since an object's history was full, and this holds besides
 abbrev pub full : ℕ → ℕ → Type 0 → CallRow
@@ -87,10 +87,10 @@ sets kind reading timer flags value interval reply =
     (λ arm. object_entries.Settime flags (nanoseconds_of value) (nanoseconds_of interval) reading arm reply)) (AreValidFor kind flags value interval)
 
 -- a sleep did
-abbrev pub sleeps : ℕ → ℕ → ℕ → TimeSpec → SleepReply → Deed
-sleeps reading timer flags time reply =
+abbrev pub slept_deed : ℕ → ℕ → ℕ → TimeSpec → SleepReply → Deed
+slept_deed reading timer flags time reply =
     Where (Anew timer (Some (record { mode = mode_by flags; ns = nanoseconds_of time })) (λ arm. object_entries.Sleep flags (nanoseconds_of time) reading arm reply))
-    (IsValidSleep flags time)
+    (IsProperSleep flags time)
 
 -- an interrupt did, which starts nothing
 abbrev pub interrupts : ℕ → ℕ → InterruptReply → Deed
@@ -118,12 +118,12 @@ IsFd kind = ⊥
 -- answer names (`popped_by`).
 abbrev pub call_row : Script → ℕ → Call → Answer → CallRow
 call_row s reading (calls.Start timer request) (answers.Started generation on was_armed) = only (Starts timer request generation on was_armed)
-call_row s reading (calls.Start timer request) (answers.Spent stamp) = looked (λ c. SawRefusal c.w timer stamp c.last)
+call_row s reading (calls.Start timer request) (answers.Spent stamp) = told_by_look (λ c. SawRefusal c.w timer stamp c.last)
 call_row s reading (calls.Cancel timer) (answers.Cancelled generation) = only (Cancels timer generation)
-call_row s reading (calls.Cancel timer) (answers.Running generation stamp) = looked (λ c. Saw c.w timer stamp (observations.Running generation) c.last)
-call_row s reading (calls.Cancel timer) (answers.Idle stamp) = looked (λ c. Saw c.w timer stamp observations.Idle c.last)
+call_row s reading (calls.Cancel timer) (answers.Running generation stamp) = told_by_look (λ c. Saw c.w timer stamp (observations.Running generation) c.last)
+call_row s reading (calls.Cancel timer) (answers.Idle stamp) = told_by_look (λ c. Saw c.w timer stamp observations.Idle c.last)
 call_row s reading (calls.Peek timer) (answers.Peek stamp base enqueued running moving) =
-    looked (λ c. Saw c.w timer stamp
+    told_by_look (λ c. Saw c.w timer stamp
     (observations.Peek (record { stamp = stamp; base = base; enqueued = enqueued; running = running; moving = moving })) c.last)
 call_row s reading (calls.Expire context base budget) (answers.Done shown timers) =
     record { did = Runs context base shown timers (λ number. number < budget); tells = λ c. IsDone c.w context reading base c.last }
@@ -134,7 +134,7 @@ call_row s reading (calls.Expire context base budget) (answers.Busy shown timers
 }
 call_row s reading (calls.Clock write) (answers.Clock stamp) = only (Writes stamp write)
 call_row s reading (calls.Clock write) (answers.Range would_be) =
-    looked (λ c. IsOutOfRange reading would_be (greatest (after_write (reading_at c.w.run.clock reading) write)))
+    told_by_look (λ c. IsOutOfRange reading would_be (greatest (after_write (reading_at c.w.run.clock reading) write)))
 call_row s reading (calls.Settime timer flags value interval) answers.Invalid =
     only (Where Nothing (AreValidFor (kind_of s timer) flags value interval → ⊥))
 call_row s reading (calls.Settime timer flags value interval) (answers.Spent stamp) = full timer stamp (AreValidFor (kind_of s timer) flags value interval)
@@ -156,9 +156,9 @@ call_row s reading (calls.Gettime timer) (answers.Spent stamp) = full timer stam
 call_row s reading (calls.Accept timer) (answers.Accepted overrun) =
     only (Rearms timer (λ arm. object_entries.Accept reading arm (acceptances.Accepted overrun)))
 call_row s reading (calls.Accept timer) answers.NoSignal = only (Rearms timer (λ arm. object_entries.Accept reading arm acceptances.NoSignal))
-call_row s reading (calls.Accept timer) (answers.Spent stamp) = looked (λ c. SawFull c.w timer stamp c.last)
+call_row s reading (calls.Accept timer) (answers.Spent stamp) = told_by_look (λ c. SawFull c.w timer stamp c.last)
 call_row s reading (calls.Overrun timer) (answers.Overrun overrun stamp) =
-    looked (λ c. HadEntries c.w timer stamp c.last × ((posix_at s c.w.run timer (kind_of s timer) stamp).overrun ≡ overrun))
+    told_by_look (λ c. HadEntries c.w timer stamp c.last × ((posix_at s c.w.run timer (kind_of s timer) stamp).overrun ≡ overrun))
 call_row s reading (calls.Read timer len) answers.Invalid = only (Where Nothing (len < count_length))
 call_row s reading (calls.Read timer len) (answers.Spent stamp) = full timer stamp (count_length ≤ len)
 call_row s reading (calls.Read timer len) (answers.Count total) =
@@ -172,17 +172,17 @@ call_row s reading (calls.Readable timer) (answers.Readable ready shown stamp) =
   tells = λ c. HadEntries c.w timer stamp c.last
       × (is_readable (fd_after s c.w.run timer (base_of (kind_of s timer)) stamp) (reading_at c.w.run.clock reading) ≡ ready);
 }
-call_row s reading (calls.Sleep timer flags time) answers.Invalid = only (Where Nothing (IsValidSleep flags time → ⊥))
-call_row s reading (calls.Sleep timer flags time) (answers.Spent stamp) = full timer stamp (IsValidSleep flags time)
+call_row s reading (calls.Sleep timer flags time) answers.Invalid = only (Where Nothing (IsProperSleep flags time → ⊥))
+call_row s reading (calls.Sleep timer flags time) (answers.Spent stamp) = full timer stamp (IsProperSleep flags time)
 call_row s reading (calls.Sleep timer flags time) (answers.Occupied stamp) = record {
-  did = Where Nothing (IsValidSleep flags time × (stamp < s.limit));
+  did = Where Nothing (IsProperSleep flags time × (stamp < s.limit));
   tells = SawSleep s timer stamp (λ sleep. is_free sleep ≡ false);
 }
-call_row s reading (calls.Sleep timer flags time) answers.Slept = disarmed timer (sleeps reading timer flags time begun.Slept)
-call_row s reading (calls.Sleep timer flags time) answers.Asleep = disarmed timer (sleeps reading timer flags time begun.Asleep)
+call_row s reading (calls.Sleep timer flags time) answers.Slept = disarmed timer (slept_deed reading timer flags time begun.Slept)
+call_row s reading (calls.Sleep timer flags time) answers.Asleep = disarmed timer (slept_deed reading timer flags time begun.Asleep)
 call_row s reading (calls.Sleep timer flags time) (answers.Unarmed stamp) =
-    unarmed timer stamp (sleeps reading timer flags time (begun.Unarmed stamp))
-call_row s reading (calls.Interrupt timer) (answers.Spent stamp) = looked (λ c. SawFull c.w timer stamp c.last)
+    unarmed timer stamp (slept_deed reading timer flags time (begun.Unarmed stamp))
+call_row s reading (calls.Interrupt timer) (answers.Spent stamp) = told_by_look (λ c. SawFull c.w timer stamp c.last)
 call_row s reading (calls.Interrupt timer) (answers.Awake stamp) = record {
   did = Where Nothing (stamp < s.limit);
   tells = SawSleep s timer stamp (λ sleep. is_free sleep ≡ true);
@@ -190,48 +190,48 @@ call_row s reading (calls.Interrupt timer) (answers.Awake stamp) = record {
 call_row s reading (calls.Interrupt timer) answers.Slept = disarmed timer (interrupts reading timer ended.Slept)
 call_row s reading (calls.Interrupt timer) (answers.SleepLeft ns) = disarmed timer (interrupts reading timer (ended.Left ns))
 call_row s reading (calls.Interrupt timer) answers.Interrupted = disarmed timer (interrupts reading timer ended.Interrupted)
-call_row s reading (calls.Slept timer) (answers.Sleeping stamp) = looked (SawSleep s timer stamp (λ sleep. slept_answer sleep ≡ looks.Sleeping))
-call_row s reading (calls.Slept timer) (answers.SleptAt stamp) = looked (SawSleep s timer stamp (λ sleep. slept_answer sleep ≡ looks.Slept))
-call_row s reading (calls.Slept timer) (answers.Awake stamp) = looked (SawSleep s timer stamp (λ sleep. slept_answer sleep ≡ looks.Awake))
+call_row s reading (calls.Slept timer) (answers.Sleeping stamp) = told_by_look (SawSleep s timer stamp (λ sleep. slept_answer sleep ≡ looks.Sleeping))
+call_row s reading (calls.Slept timer) (answers.SleptAt stamp) = told_by_look (SawSleep s timer stamp (λ sleep. slept_answer sleep ≡ looks.Slept))
+call_row s reading (calls.Slept timer) (answers.Awake stamp) = told_by_look (SawSleep s timer stamp (λ sleep. slept_answer sleep ≡ looks.Awake))
 call_row s reading calls.Sigwait (answers.Signal timer number overrun) = record {
-  did = Where (Rearms timer (λ arm. object_entries.Accept reading arm (acceptances.Accepted overrun))) (IsQueued (kind_of s timer));
+  did = Where (Rearms timer (λ arm. object_entries.Accept reading arm (acceptances.Accepted overrun))) (SendsSignals (kind_of s timer));
   tells = λ c. WasFresh c.w timer (base_of (kind_of s timer)) number c.actions;
 }
 call_row s reading calls.Sigwait (answers.StaleSignal timer number) = record {
-  did = Where Nothing (IsQueued (kind_of s timer));
+  did = Where Nothing (SendsSignals (kind_of s timer));
   tells = λ c. SawStale c.w c.first c.last timer (base_of (kind_of s timer)) number × WentStale c.w timer (base_of (kind_of s timer)) number c.last;
 }
 call_row s reading calls.Sigwait (answers.SpentSignal timer number) = record {
-  did = Where Nothing (IsQueued (kind_of s timer));
+  did = Where Nothing (SendsSignals (kind_of s timer));
   tells = λ c. (stamp : ℕ) × SawFull c.w timer stamp c.last × (number ≤ stamp);
 }
-call_row s reading calls.Sigwait answers.NoneQueued = looked (λ c. SawWaiting c.w c.label 0)
+call_row s reading calls.Sigwait answers.NoneQueued = told_by_look (λ c. SawWaiting c.w c.label 0)
 call_row s reading (calls.Offline base heir budget) (answers.Offline moved stamp) = record {
   did = Evacuates heir moved (Shifted base stamp (shifts.Offline heir) ∷ []) (λ number. number ≤ budget);
   tells = λ c. MayGo c.w base heir c.first × IsUnused (timer_along c.w c.last) base;
 }
 call_row s reading (calls.Offline base heir budget) (answers.OfflineBusy moved timer generation) = record {
   did = Evacuates heir moved [] (λ number. number ≤ budget);
-  tells = λ c. MayGo c.w base heir c.first × RunsFirst c.w base timer generation c.last;
+  tells = λ c. MayGo c.w base heir c.first × RanFirst c.w base timer generation c.last;
 }
 call_row s reading (calls.Offline base heir budget) (answers.OfflineMore moved) = record {
   did = Evacuates heir moved [] (λ number. number ≡ budget);
-  tells = λ c. MayGo c.w base heir c.first × RunsNone c.w base c.last × ((t : ℕ) × (is_armed_on base (timer_along c.w c.last t) ≡ true));
+  tells = λ c. MayGo c.w base heir c.first × RanNone c.w base c.last × ((t : ℕ) × (is_armed_on base (timer_along c.w c.last t) ≡ true));
 }
 call_row s reading (calls.Offline base heir budget) (answers.OfflineSpent moved timer stamp) = record {
   did = Evacuates heir moved [] (λ number. number < budget);
-  tells = λ c. MayGo c.w base heir c.first × RunsNone c.w base c.last × SawFullOn c.w base timer stamp c.last;
+  tells = λ c. MayGo c.w base heir c.first × RanNone c.w base c.last × SawFullOn c.w base timer stamp c.last;
 }
 call_row s reading (calls.Offline base heir budget) (answers.Already stamp) =
-    looked (λ c. StandsAt c.w base stamp c.last × IsSome (standing_along c.w c.last base).heir)
+    told_by_look (λ c. StandsAt c.w base stamp c.last × IsSome (standing_along c.w c.last base).heir)
 call_row s reading (calls.Offline base heir budget) (answers.HeirOffline stamp) =
-    looked (λ c. StandsAt c.w heir stamp c.last × IsSome (standing_along c.w c.last heir).heir × ((standing_along c.w c.last base).heir ≡ None))
+    told_by_look (λ c. StandsAt c.w heir stamp c.last × IsSome (standing_along c.w c.last heir).heir × ((standing_along c.w c.last base).heir ≡ None))
 call_row s reading (calls.Offline base heir budget) (answers.BaseSpent stamp) =
-    looked (λ c. StandsAt c.w base stamp c.last × ((standing_along c.w c.last base).heir ≡ None) × (last_standing ≤ stamp)
+    told_by_look (λ c. StandsAt c.w base stamp c.last × ((standing_along c.w c.last base).heir ≡ None) × (last_standing ≤ stamp)
     × ((standing_along c.w c.last heir).heir ≡ None))
 call_row s reading (calls.Online base) (answers.Online stamp) = only (Shifts base stamp shifts.Online)
 call_row s reading (calls.Online base) (answers.Already stamp) =
-    looked (λ c. StandsAt c.w base stamp c.last × ((standing_along c.w c.last base).heir ≡ None))
+    told_by_look (λ c. StandsAt c.w base stamp c.last × ((standing_along c.w c.last base).heir ≡ None))
 call_row s reading call answer = only Never
 
 -- whether a call reads the clock

@@ -20,7 +20,7 @@ use Rattle.record_text.specs.declared.record.CallbackReply.TheVariants as told
 use Rattle.record_text.specs.declared.record.Armed.{Armed}
 use Rattle.record_text.specs.declared.record.ObjectEntry.{ObjectEntry}
 use Rattle.timer_setting.specs.declared.arming.Wanted.{Wanted}
-use Rattle.clock_model.specs.declared.write.Write.{Write}
+use Rattle.ktime.specs.declared.write.Write.{Write}
 use Rattle.script_text.specs.declared.script.StartRequest.{StartRequest}
 use Rattle.seq_timer.specs.declared.standing.BaseEvent.{BaseEvent}
 use Rattle.record_text.specs.declared.record.ObjectEntry.TheVariants as object_entries

@@ -2,7 +2,7 @@
 -- the clock's writes and readings and the objects' entries have their places; and each object's are one history.
 use Rattle.std.specs.Prelude.{ℕ, ◌≡◌, ◌≤◌, ◌+◌, false, MatchBool, List, [], ◌∷◌, ◌++◌, length, map}
 use Rattle.std.specs.List.{AllByRecursion}
-use Rattle.clock_model.specs.Clocks.{at_stamp}
+use Rattle.ktime.specs.Clocks.{at_stamp}
 use Rattle.script_text.specs.declared.script.Call.{Call}
 use Rattle.script_text.specs.declared.script.Script.{Script}
 use Rattle.record_text.specs.declared.record.Label.{Label}
@@ -38,7 +38,7 @@ pub record HasSignalled (w : Witness) (c : Label) (t : Trace) (answer : Answer) 
 
 -- One call with its answer, by this trace of it: what it did is what the record shows, and makes the answer right; it saw no less than its lane had seen
 -- before, and no more than its lane has seen after it.
-pub record FitsTrace (w : Witness) (c : Label) (t : Trace) (call : Call) (answer : Answer) (before after : Seen) : Type 0 where
+pub record TraceExplains (w : Witness) (c : Label) (t : Trace) (call : Call) (answer : Answer) (before after : Seen) : Type 0 where
   pub traced : HasTraced w c t.actions
   pub does : Does (WasOffLine w t.first t.last) w.script t.at call answer t.fired t.moved t.actions
   -- the timers that it moved off a base keep their expiries
@@ -58,7 +58,7 @@ pub record FitsTrace (w : Witness) (c : Label) (t : Trace) (call : Call) (answer
 
 -- the same, by what the witness says that the call did
 abbrev pub FitsCall : Witness → Label → Call → Answer → Seen → Seen → Type 0
-FitsCall w c call answer before after = FitsTrace w c (w.traces c) call answer before after
+FitsCall w c call answer before after = TraceExplains w c (w.traces c) call answer before after
 
 -- A call read the clock at a moment behind all that its lane had seen, and no later than its first, at which it had made no entry: so many of the clock's
 -- writes as its reading has stood before that moment.

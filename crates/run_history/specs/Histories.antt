@@ -1,7 +1,7 @@
 -- The histories that a record tells: the clock's readings, each base's entries, and each timer's entries with the state after each number of them.
 use Rattle.std.specs.Prelude.{ℕ, ◌≡◌, List, [], ◌∷◌, map, take, get_or}
 use Rattle.ktime.specs.Readings.{ClockReading}
-use Rattle.clock_model.specs.Clocks.{at_stamp, after_write, clock_after, IsAccepted}
+use Rattle.ktime.specs.Clocks.{at_stamp, after_write, clock_after, IsAccepted}
 use Rattle.seq_timer.specs.Events.{map_reading}
 use Rattle.seq_timer.specs.Steps.{Timer}
 use Rattle.seq_timer.specs.Histories as histories

@@ -28,8 +28,8 @@ abbrev pub AreValidFor : Kind → ℕ → TimeSpec → TimeSpec → Type 0
 AreValidFor kind flags value interval = AreValid (bits_beyond (settime_flags kind) flags) value interval
 
 -- a sleep's are valid
-abbrev pub IsValidSleep : ℕ → TimeSpec → Type 0
-IsValidSleep flags time = (bits_beyond abstime flags ≡ 0) × (is_bad time ≡ false)
+abbrev pub IsProperSleep : ℕ → TimeSpec → Type 0
+IsProperSleep flags time = (bits_beyond abstime flags ≡ 0) × (is_bad time ≡ false)
 
 -- a time as one number of nanoseconds
 abbrev pub nanoseconds_of : TimeSpec → ℕ

@@ -38,7 +38,7 @@ abbrev pub is_label : Label → Label → Bool
 is_label a b = nat_eq a.lane b.lane && nat_eq a.call b.call
 
 -- a number of entries of a list is within a call's bounds: behind all that was over before the call, before all that began after it
-pub record IsWithin (s : Script) (c : Label) (n : ℕ) (labels : List Label) : Type 0 where
+pub record StandsWithin (s : Script) (c : Label) (n : ℕ) (labels : List Label) : Type 0 where
   pub small : n ≤ length labels
   pub before : AllByRecursion (λ x. is_before s c x ≡ false) (take n labels)
   pub behind : AllByRecursion (λ x. is_before s x c ≡ false) (drop n labels)
@@ -49,7 +49,7 @@ made_by c labels = length (filter (is_label c) labels)
 
 -- within the call's bounds, at the moment at which the call has made so many entries of the list itself
 pub record IsPoint (s : Script) (c : Label) (own n : ℕ) (labels : List Label) : Type 0 where
-  pub within : IsWithin s c n labels
+  pub within : StandsWithin s c n labels
   pub so_many : made_by c (take n labels) ≡ own
 
 -- along a list no call stands behind one that began only after it was over

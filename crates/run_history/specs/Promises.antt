@@ -2,7 +2,7 @@
 use Rattle.std.specs.List.{AllByRecursion}
 use Rattle.std.specs.List.Sorted.{IsPermutation}
 use Rattle.std.specs.Prelude.{ℕ, ◌≡◌, ◌≤◌, ◌<◌, List, ◌∷◌, ◌++◌, map}
-use Rattle.clock_model.specs.declared.write.Write.{Write}
+use Rattle.ktime.specs.declared.write.Write.{Write}
 use Rattle.seq_timer.specs.declared.system.SystemEntry.{SystemEntry}
 use Rattle.record_text.specs.declared.record.Answer.{Answer}
 use Rattle.record_text.specs.declared.record.Label.{Label}
@@ -46,8 +46,8 @@ pub record HasLog (e : Ending) (c : Label) (log : CallLog) : Type 0 where
   pub turns : own (λ m. m.label) (λ m. m.turn) c 0 e.signals ≡ log.trace.turns
 
 -- the run goes on from what a pass of the timers' table has seen
-abbrev pub GoesOn : List SystemEntry → Ending → Type 0
-GoesOn seen e = (later : List SystemEntry) × (e.order ≡ seen ++ later)
+abbrev pub RunGoesOn : List SystemEntry → Ending → Type 0
+RunGoesOn seen e = (later : List SystemEntry) × (e.order ≡ seen ++ later)
 
 -- the run goes on from the writes that a pass of the clock's table has seen
 abbrev pub GoesOnClock : List Write → Ending → Type 0

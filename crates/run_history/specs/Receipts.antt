@@ -22,10 +22,10 @@ abbrev pub receipt : PlacedEntry → ℕ × Shown
 receipt x = (x.number, x.shown)
 
 -- how many entries of a list are among these
-abbrev pub count : Owner → List SystemEntry → ℕ
-count (TimersList t) xs = length (entries_of t xs)
-count (BasesList b) xs = length (shifts_of b xs)
-count (CountersList k) xs = rises_of k xs
+abbrev pub count_owned : Owner → List SystemEntry → ℕ
+count_owned (TimersList t) xs = length (entries_of t xs)
+count_owned (BasesList b) xs = length (shifts_of b xs)
+count_owned (CountersList k) xs = rises_of k xs
 
 -- numbers that rise, none below this one
 abbrev pub Rises : ℕ → List ℕ → Type 0
@@ -37,7 +37,7 @@ pub record IsMade (order : List SystemEntry) (x : PlacedEntry) : Type 0 where
   pub step : SystemEntry
   pub there : slice_get order x.place ≡ Some step
   pub owner : owner_of_entry step ≡ owner_of x.shown
-  pub number : count (owner_of x.shown) (take x.place order) + 1 ≡ x.number
+  pub number : count_owned (owner_of x.shown) (take x.place order) + 1 ≡ x.number
 
 -- it is the entry that the receipt shows
 pub record ShowsEntry (r : RunRecord) (order : List SystemEntry) (x : PlacedEntry) : Type 0 where
@@ -88,7 +88,7 @@ pub record AreFiled (r : RunRecord) (order : List SystemEntry) (notes : Label �
   pub filed : (c : Label) → AllByRecursion (λ x. (i : ℕ) × (slice_get sorted i ≡ Some (record { label = c; note = x }))) (notes c)
   pub back : (i : ℕ) (f : Filed) → slice_get sorted i ≡ Some f → (j : ℕ) × (slice_get (notes f.label) j ≡ Some f.note)
   pub sorts : RiseBy (TimersList 0) 0 sorted
-  pub as_many : (o : Owner) → length (files_on o sorted) ≡ count o order
+  pub as_many : (o : Owner) → length (files_on o sorted) ≡ count_owned o order
   -- the record's lines are made of it
   pub lines : (o : Owner) → lines_at r o ≡ map line_filed (files_on o sorted)
 
@@ -112,7 +112,7 @@ move_at r o before =
 
 -- the line of an entry that stands behind these
 abbrev pub move_of : RunRecord → List SystemEntry → SystemEntry → Move
-move_of r before x = move_at r (owner_of_entry x) (count (owner_of_entry x) before)
+move_of r before x = move_at r (owner_of_entry x) (count_owned (owner_of_entry x) before)
 
 -- the lines along an order, behind a part of it
 abbrev pub weave : RunRecord → List SystemEntry → List SystemEntry → List Move

@@ -1,7 +1,7 @@
 -- What many lanes leave together at the end of a run, and what it takes for that to be a run.
 use Rattle.std.specs.List.{AllByRecursion}
 use Rattle.std.specs.Prelude.{ℕ, ◌≡◌, ◌≤◌, ◌<◌, List, [], length, map}
-use Rattle.clock_model.specs.Clocks.{at_stamp}
+use Rattle.ktime.specs.Clocks.{at_stamp}
 use Rattle.seq_timer.specs.Systems.{IsSystemHistory}
 use Rattle.seq_timer.specs.declared.system.SystemEntry.{SystemEntry}
 use Rattle.record_text.specs.declared.record.Label.{Label}
@@ -15,7 +15,7 @@ use Rattle.run_history.specs.Witnesses.{Witness, entries_in, IsOneHistory, label
 use Rattle.run_history.specs.Fits.{AreSkipsUnder, FitsLane, unseen}
 use Rattle.run_history.specs.Receipts.{AreAll, AreFiled, Filed, PlacedEntry, ShowsEntry, weave}
 use Rattle.run_history.specs.Rounds.{IsLaid, IsLedger, Spans}
-use Rattle.run_history.specs.Signals.{IsQueued, most_signals, SignalMove, signal_labels, turns_in}
+use Rattle.run_history.specs.Signals.{SendsSignals, most_signals, SignalMove, signal_labels, turns_in}
 use Rattle.signal_queue.specs.declared.signal.Turn.{Turn}
 use Rattle.signal_queue.specs.declared.signal.Turn.TheVariants.{Popped, Pushed}
 use Rattle.signal_queue.specs.Turns.{AreTurns}
@@ -66,7 +66,7 @@ witness_of s e =
 
 -- a push is of a signal of a queued timer
 abbrev pub IsOfQueued : Script → Turn → Type 0
-IsOfQueued s (Pushed signal) = IsQueued (kind_of s signal.timer)
+IsOfQueued s (Pushed signal) = SendsSignals (kind_of s signal.timer)
 IsOfQueued s (Popped signal) = Unit
 
 -- the queue's table: its pushes and pops are one history, each in the span of its call, and only queued timers' signals are pushed

@@ -37,9 +37,9 @@ abbrev pub waiting_at : List SignalMove → ℕ → List Signal
 waiting_at ms n = waiting_after [] (take n (turns_in ms))
 
 -- an object of this kind sends its signals to the queue
-abbrev pub IsQueued : Kind → Type 0
-IsQueued (kinds.Queued base) = Unit
-IsQueued kind = ⊥
+abbrev pub SendsSignals : Kind → Type 0
+SendsSignals (kinds.Queued base) = Unit
+SendsSignals kind = ⊥
 
 -- what an entry of an object of this kind has pushed: the signal of an expiry that counts has the number of the entry
 abbrev pub pushed_with : Kind → ℕ → ℕ → ObjectEntry → List Turn

@@ -55,26 +55,26 @@ IsJustBefore [] number = Unit
 IsJustBefore (out ∷ outs) number = (first_number outs number ≡ out.number + 1) × IsJustBefore outs number
 
 -- each base is of a lower number than the one before
-abbrev pub Falls : ℕ → List ℕ → Type 0
-Falls base [] = Unit
-Falls base (b ∷ bs) = (b < base) × Falls b bs
+abbrev pub BasesFall : ℕ → List ℕ → Type 0
+BasesFall base [] = Unit
+BasesFall base (b ∷ bs) = (b < base) × BasesFall b bs
 
 -- steps from a base to its heir, as they are said of one call
 module _ (Reached : ℕ → ℕ → Type 0) where
   -- from the one base the other is reached by these heirs in turn
-  abbrev pub IsWay : ℕ → List ℕ → ℕ → Type 0
-  IsWay base [] to = base ≡ to
-  IsWay base (heir ∷ heirs) to = Reached base heir × IsWay heir heirs to
+  abbrev pub HeirsLeadTo : ℕ → List ℕ → ℕ → Type 0
+  HeirsLeadTo base [] to = base ≡ to
+  HeirsLeadTo base (heir ∷ heirs) to = Reached base heir × HeirsLeadTo heir heirs to
 
   -- the bases to which a start sent its timer, and the one that it asked for last: each is the one that was asked for first, or is reached from it and
   -- from the one before
-  abbrev pub IsSentBy : ℕ → List ℕ → ℕ → Type 0
-  IsSentBy base [] last = (path : List ℕ) × IsWay base path last
-  IsSentBy base (b ∷ bs) last = ((path : List ℕ) × IsWay base path b) × IsWay b bs last × Falls b bs
+  abbrev pub IsSentByHeirs : ℕ → List ℕ → ℕ → Type 0
+  IsSentByHeirs base [] last = (path : List ℕ) × HeirsLeadTo base path last
+  IsSentByHeirs base (b ∷ bs) last = ((path : List ℕ) × HeirsLeadTo base path b) × HeirsLeadTo b bs last × BasesFall b bs
 
   -- A start for a base is made so: by entries that follow one another, of a timer that has fewer entries than the limit, on that base or one that is
   -- reached from it. So no start moves an armed timer whose history is full.
   pub record IsArming (limit base : ℕ) (a : Arming) : Type 0 where
     pub below : first_number a.outs a.number ≤ limit
     pub next : IsJustBefore a.outs a.number
-    pub way : IsSentBy base (map (λ out. out.base) a.outs) a.asked
+    pub way : IsSentByHeirs base (map (λ out. out.base) a.outs) a.asked

@@ -1,7 +1,7 @@
 -- What callbacks are told, why a write is refused, and how an object's start is told.
 use Rattle.std.specs.Prelude.{ℕ, ◌≡◌, ◌<◌, Bool, true, Option, Some, None}
 use Rattle.ktime.specs.Readings.{latest}
-use Rattle.clock_model.specs.Clocks.{last_stamp}
+use Rattle.ktime.specs.Clocks.{last_stamp}
 use Rattle.seq_timer.specs.declared.observation.Observation.{Observation}
 use Rattle.seq_timer.specs.declared.observation.Observation.TheVariants as observations
 use Rattle.seq_timer.specs.Steps.{Timer}
@@ -16,10 +16,10 @@ observed (replies.Armed generation) = observations.Armed generation
 observed replies.Spent = observations.Spent
 
 -- a forward is refused as armed only below the limit, which is looked at first
-abbrev pub IsBelowLimit : ℕ → ℕ → CallbackReply → Type 0
-IsBelowLimit limit number (replies.Armed generation) = number < limit
-IsBelowLimit limit number (replies.Running generation) = Unit
-IsBelowLimit limit number replies.Spent = Unit
+abbrev pub IsArmedBelowLimit : ℕ → ℕ → CallbackReply → Type 0
+IsArmedBelowLimit limit number (replies.Armed generation) = number < limit
+IsArmedBelowLimit limit number (replies.Running generation) = Unit
+IsArmedBelowLimit limit number replies.Spent = Unit
 
 -- the object after its entry has armed its timer as the timer's start has it: with its expiry, and for a settime or a sleep on its clock
 abbrev pub IsArmedLike : Bool → Option ArmedAs → ℕ → Timer → Type 0

@@ -11,13 +11,13 @@ use Rattle.record_text.specs.declared.record.Armed.TheVariants as armings
 use Rattle.record_text.specs.declared.record.ObjectEntry.{ObjectEntry}
 use Rattle.record_text.specs.declared.record.ObjectEntry.TheVariants as object_entries
 use Rattle.script_text.specs.Declarations.{kind_of, terms_of}
-use Rattle.run_history.specs.Order.{IsPoint, IsWithin}
+use Rattle.run_history.specs.Order.{IsPoint, StandsWithin}
 use Rattle.run_history.specs.Signals.{most_signals, signal_labels, waiting_at}
 use Rattle.run_history.specs.Histories.{reading_at}
 use Rattle.run_history.specs.Objects.{object_armed_after, queued_after}
 use Rattle.posix_timer.specs.Queued.{is_fresh}
 use Rattle.run_history.specs.Actions.{Action, Began, Entered, Looked, Made, Shifted, Skipped, Wrote}
-use Rattle.run_history.specs.Told.{IsBelowLimit, IsArmedLike, observed}
+use Rattle.run_history.specs.Told.{IsArmedBelowLimit, IsArmedLike, observed}
 use Rattle.ktime.specs.declared.clock_id.ClockId.{ClockId}
 use Rattle.seq_timer.specs.Contents.{front_of}
 use Rattle.seq_timer.specs.declared.context.Context.{Context}
@@ -44,19 +44,19 @@ abbrev pub WasOffLine : Witness → ℕ → ℕ → ℕ → ℕ → Type 0
 WasOffLine w first last base heir = (n : ℕ) × (first ≤ n) × (n ≤ last) × ((standing_along w n base).heir ≡ Some heir)
 
 -- at this moment no function ran on the base
-abbrev pub RunsNone : Witness → ℕ → ℕ → Type 0
-RunsNone w base n = (t : ℕ) → runs_on base (timer_along w n t) ≡ false
+abbrev pub RanNone : Witness → ℕ → ℕ → Type 0
+RanNone w base n = (t : ℕ) → runs_on base (timer_along w n t) ≡ false
 
 -- at this moment this function ran on the base: that of the hard context, or of the soft one while none of the hard one ran there
-abbrev pub RunsFirst : Witness → ℕ → ℕ → ℕ → ℕ → Type 0
-RunsFirst w base timer generation n =
+abbrev pub RanFirst : Witness → ℕ → ℕ → ℕ → ℕ → Type 0
+RanFirst w base timer generation n =
     (running_on base (timer_along w n timer) ≡ Some generation)
     × ((running_on base (in_context contexts.Hard (timer_along w n) timer) ≡ Some generation)
     ⊎ ((t : ℕ) → runs_on base (in_context contexts.Hard (timer_along w n) t) ≡ false))
 
 -- at this moment the timer was the next to be moved off the base: the first of the first queue that wasn't empty, the hard context's before the soft one's
-abbrev pub IsFront : Witness → ℕ → ℕ → ℕ → Type 0
-IsFront w base timer n = (expires : ℕ) × (front_of ((system_along w n).bases base).content ≡ Some (expires, timer))
+abbrev pub WasNextOff : Witness → ℕ → ℕ → ℕ → Type 0
+WasNextOff w base timer n = (expires : ℕ) × (front_of ((system_along w n).bases base).content ≡ Some (expires, timer))
 
 -- A timer that was moved off a base was the next one there, while no function ran on the base, at a moment between these two at which the timer had just the
 -- entries before its move. Entries of others may stand between that moment and the move.
@@ -65,8 +65,8 @@ pub record WasFront (w : Witness) (first last base : ℕ) (e : Evacuation) : Typ
   pub from : first ≤ at
   pub to : at ≤ last
   pub stamp : (timer_along w at e.timer).stamp ≡ e.before
-  pub idle : RunsNone w base at
-  pub front : IsFront w base e.timer at
+  pub idle : RanNone w base at
+  pub front : WasNextOff w base e.timer at
 
 -- a start was refused: the timer's history was full, and the timer was not on the move between bases
 abbrev pub SawRefusal : Witness → ℕ → ℕ → ℕ → Type 0
@@ -128,7 +128,7 @@ IsTrueStart w i number on_clock armings.Unarmed n = SawRefusal w i (timer_along 
 -- behind so many pushes and pops, a number within the call's bounds, just so many signals waited
 pub record SawWaiting (w : Witness) (c : Label) (many : ℕ) : Type 0 where
   pub number : ℕ
-  pub within : IsWithin w.script c number (signal_labels w.signals)
+  pub within : StandsWithin w.script c number (signal_labels w.signals)
   pub waiting : length (waiting_at w.signals number) ≡ many
 
 -- the same, of each entry of an object
@@ -145,7 +145,7 @@ IsTrueEntry w c i number (object_entries.Interrupt reading reply) n = NothingTol
 -- what a thing that a call did tells of a timer or an object is true, at a moment after what the call did before it
 abbrev pub IsTrue : Witness → Label → List Action → Action → ℕ → Type 0
 IsTrue w c before (Entered timer number entry) n = OfClaim entry.event (IsMoment w c before n)
-IsTrue w c before (Looked timer number look) n = IsMoment w c before n × Saw w timer number (observed look) n × IsBelowLimit w.script.limit number look
+IsTrue w c before (Looked timer number look) n = IsMoment w c before n × Saw w timer number (observed look) n × IsArmedBelowLimit w.script.limit number look
 IsTrue w c before (Began i stamp) n = NothingTold
 IsTrue w c before (Made i number entry) n = IsMoment w c before n × IsTrueEntry w c i number entry n
 IsTrue w c before (Skipped i number generation) n = IsMoment w c before n × SawFull w i number n
@@ -165,7 +165,7 @@ pub record IsDone (w : Witness) (context : Context) (reading base n : ℕ) : Typ
 
 -- a timer is the next to be moved off a base, and has so many entries that it isn't moved any more
 pub record SawFullOn (w : Witness) (base timer number n : ℕ) : Type 0 where
-  pub front : IsFront w base timer n
+  pub front : WasNextOff w base timer n
   pub armed : is_armed_on base (timer_along w n timer) ≡ true
   pub stamp : (timer_along w n timer).stamp ≡ number
   pub full : (terms_of w.script).limit + (terms_of w.script).reach ≤ number

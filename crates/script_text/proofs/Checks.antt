@@ -12,7 +12,7 @@ use Rattle.script_text.specs.declared.form.Value.TheVariants as values
 use Rattle.script_text.specs.declared.reading.drafts.Draft.{Draft}
 use Rattle.script_text.specs.declared.refusal.Cause.{Cause}
 use Rattle.script_text.specs.Forms.{Spot, Key, At, row, part}
-use Rattle.script_text.specs.Scripts.{most_bases, most_lanes, most_timers}
+use Rattle.script_text.specs.Scripts.{most_script_bases, most_lanes, most_timers}
 use Rattle.script_text.specs.Drafts.{IsWithinLimits, IsShort, AreShort}
 use Rattle.script_text.specs.Refusals.{unless, is_placed, base_named, check_count, check_number, check_values, check_kind, check_line}
 
@@ -45,7 +45,7 @@ no_cause d l a = rw (a.placed, a.count, a.values, a.kind) refl
 
 -- ---- numbers that no cause refuses are short
 
-few_bases : (version : Version) → most_bases version ≤ 4096
+few_bases : (version : Version) → most_script_bases version ≤ 4096
 few_bases versions.One = omega arith
 few_bases versions.Two = omega arith
 
@@ -61,7 +61,7 @@ module _ (d : Draft) (room : IsWithinLimits d) where
   short_number : (base : ℕ) → base ≤ 4096 → (field : Field) (n : ℕ) → check_number d base field n ≡ None → IsShort field n
   unfolding check_number
   short_number base small fields.Bases n e =
-      omega (arith, leb-true n (most_bases d.version) (and_parts _ _ (holds _ _ e)).1, few_bases d.version)
+      omega (arith, leb-true n (most_script_bases d.version) (and_parts _ _ (holds _ _ e)).1, few_bases d.version)
   short_number base small fields.Lanes n e =
       omega (arith, leb-true n (most_lanes d.version) (and_parts _ _ (holds _ _ e)).1, few_lanes d.version)
   short_number base small fields.Lane n e = omega (arith, ltb-true n d.lanes (holds _ _ e), room.lanes, few_lanes d.version)

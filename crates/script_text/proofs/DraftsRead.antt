@@ -18,7 +18,7 @@ use Rattle.script_text.specs.declared.script.LaneCall.{LaneCall}
 use Rattle.script_text.specs.declared.script.Round.{Round}
 use Rattle.script_text.specs.Forms.{has_form, row, part}
 use Rattle.script_text.specs.Grammar.{IsLine, of_numbers}
-use Rattle.script_text.specs.Scripts.{most_bases, most_lanes, most_timers, most_events, most_calls, declaration_line, declaration_lines, round_lines, header_lines, script_lines, all_calls, HasForms, IsInRange, IsKindInRange}
+use Rattle.script_text.specs.Scripts.{most_script_bases, most_lanes, most_timers, most_events, most_calls, declaration_line, declaration_lines, round_lines, header_lines, script_lines, all_calls, HasForms, IsInRange, IsKindInRange}
 use Rattle.script_text.specs.CallLines.{call_line, IsCallInRange}
 use Rattle.script_text.specs.Drafts.{last_round, script_of, with_header, with_timer, with_round, with_call, with_part, draft_with_line}
 use Rattle.script_text.specs.Refusals.{is_placed, check_count, check_number, check_values, check_line}
@@ -48,8 +48,8 @@ pub record Stands (d : Draft) : Type 0 where
 pub data DraftOf : Draft → List Line → Type 0 where
   at_start : DraftOf (early versions.One 0 0 0 0) []
   at_version : (v : Version) → DraftOf (early v 1 0 0 0) (take 1 (header_lines v 0 0 0))
-  at_bases : (v : Version) (b : ℕ) → 1 ≤ b → b ≤ most_bases v → DraftOf (early v 2 b 0 0) (take 2 (header_lines v b 0 0))
-  at_lanes : (v : Version) (b l : ℕ) → 1 ≤ b → b ≤ most_bases v → 1 ≤ l → l ≤ most_lanes v → DraftOf (early v 3 b l 0) (take 3 (header_lines v b l 0))
+  at_bases : (v : Version) (b : ℕ) → 1 ≤ b → b ≤ most_script_bases v → DraftOf (early v 2 b 0 0) (take 2 (header_lines v b 0 0))
+  at_lanes : (v : Version) (b l : ℕ) → 1 ≤ b → b ≤ most_script_bases v → 1 ≤ l → l ≤ most_lanes v → DraftOf (early v 3 b l 0) (take 3 (header_lines v b l 0))
   behind_header : (v : Version) (b l m : ℕ) (timers : List Declaration) (ended : List Round) (begun : Option (List LaneCall)) (calls : ℕ)
       → Stands (full v b l m timers ended begun calls)
       → DraftOf (full v b l m timers ended begun calls) (script_lines (script_of (full v b l m timers ended begun calls)))
@@ -91,10 +91,10 @@ from_version : (v : Version) (f : Form) (vs : List Value) → fits (row f) vs �
 unfolding is_placed check_values check_number draft_with_line with_part with_header
 from_version v forms.Bases (values.Number b ∷ []) fit placed e =
     let both = and_parts _ _ (holds _ _ (neither _ _ e).0) in
-    at_bases v b (leb-true 1 b both.0) (leb-true b (most_bases v) both.1)
+    at_bases v b (leb-true 1 b both.0) (leb-true b (most_script_bases v) both.1)
 from_version v _ _ fit placed e = absurd cc
 
-from_bases : (v : Version) (b : ℕ) → 1 ≤ b → b ≤ most_bases v → (f : Form) (vs : List Value) → fits (row f) vs ≡ true
+from_bases : (v : Version) (b : ℕ) → 1 ≤ b → b ≤ most_script_bases v → (f : Form) (vs : List Value) → fits (row f) vs ≡ true
     → is_placed (early v 2 b 0 0) (part f) ≡ true
     → check_values (early v 2 b 0 0) 0 (row f) vs ≡ None
     → Goes (early v 2 b 0 0) (take 2 (header_lines v b 0 0)) f vs
@@ -104,7 +104,7 @@ from_bases v b some few forms.Lanes (values.Number l ∷ []) fit placed e =
     at_lanes v b l some few (leb-true 1 l both.0) (leb-true l (most_lanes v) both.1)
 from_bases v b some few _ _ fit placed e = absurd cc
 
-from_lanes : (v : Version) (b l : ℕ) → 1 ≤ b → b ≤ most_bases v → 1 ≤ l → l ≤ most_lanes v → (f : Form) (vs : List Value) → fits (row f) vs ≡ true
+from_lanes : (v : Version) (b l : ℕ) → 1 ≤ b → b ≤ most_script_bases v → 1 ≤ l → l ≤ most_lanes v → (f : Form) (vs : List Value) → fits (row f) vs ≡ true
     → is_placed (early v 3 b l 0) (part f) ≡ true → check_values (early v 3 b l 0) 0 (row f) vs ≡ None
     → Goes (early v 3 b l 0) (take 3 (header_lines v b l 0)) f vs
 unfolding is_placed check_values check_number draft_with_line with_part with_header

@@ -10,7 +10,7 @@ use Rattle.script_text.specs.declared.form.Line.{Line}
 use Rattle.script_text.specs.declared.script.Call.TheVariants as calls
 use Rattle.script_text.specs.declared.script.Declaration.{Declaration}
 use Rattle.script_text.specs.declared.script.LaneCall.{LaneCall}
-use Rattle.script_text.specs.Generator.{next_number, number_after, call_by, drawn_call, turn, turns, timers_of_lane, lane_timers, clock_round, expiry_round, four_turns, generated, lines_bytes, script_bytes}
+use Rattle.script_text.specs.Generator.{next_number, number_after, call_by, drawn_call, turn, drawn_turns, timers_of_lane, lane_timers, clock_round, expiry_round, four_turns, generated, lines_bytes, script_bytes}
 use Rattle.script_text.specs.Grammar.{spelled, of_numbers}
 use Rattle.script_text.specs.Scripts.{declaration_line, declaration_lines, header_lines, round_lines, script_lines}
 use Rattle.script_text.specs.CallLines.{call_line}
@@ -116,13 +116,13 @@ turn_more x n =
     ∙ map-append (λ (c : LaneCall). call_line c.lane c.call) (turn x n) (drawn_call x n ∷ [])
 
 pub turns_more : (x lanes n y : ℕ) → y ≡ number_after (3 * lanes * n) x
-    → round_lines (record { calls = turns x lanes (n + 1) }) ≡ round_lines (record { calls = turns x lanes n }) ++ lines_of_calls (turn y lanes)
+    → round_lines (record { calls = drawn_turns x lanes (n + 1) }) ≡ round_lines (record { calls = drawn_turns x lanes n }) ++ lines_of_calls (turn y lanes)
 turns_more x lanes n y is =
     ap (λ (cs : List LaneCall). of_numbers forms.Round [] ∷ lines_of_calls cs)
     (flat_map-range_more (λ i. turn (number_after (3 * lanes * i) x) lanes) 0 n
-    ∙ ap (λ (z : ℕ). turns x lanes n ++ turn z lanes) (ap (λ (k : ℕ). number_after (3 * lanes * k) x) (same (0 + n) n (omega arith)) ∙ sym is))
+    ∙ ap (λ (z : ℕ). drawn_turns x lanes n ++ turn z lanes) (ap (λ (k : ℕ). number_after (3 * lanes * k) x) (same (0 + n) n (omega arith)) ∙ sym is))
     ∙ ap (λ (ls : List Line). of_numbers forms.Round [] ∷ ls)
-    (map-append (λ (c : LaneCall). call_line c.lane c.call) (turns x lanes n) (turn y lanes))
+    (map-append (λ (c : LaneCall). call_line c.lane c.call) (drawn_turns x lanes n) (turn y lanes))
 
 -- so many draws after so many others
 pub draws_more : (m n x y z : ℕ) → y ≡ number_after (m * n) x → z ≡ number_after m y → z ≡ number_after (m * (n + 1)) x
@@ -133,10 +133,10 @@ draws_more m n x y z here more =
 pub four_turns_more : (seed lanes count n x : ℕ) → x ≡ number_after (3 * lanes * (4 * n)) seed
     → flat_map round_lines (flat_map (four_turns seed lanes count) (range_with_len 0 (n + 1)))
     ≡ flat_map round_lines (flat_map (four_turns seed lanes count) (range_with_len 0 n))
-    ++ (round_lines clock_round ++ round_lines (record { calls = turns x lanes (min 4 (count - 4 * n)) }))
+    ++ (round_lines clock_round ++ round_lines (record { calls = drawn_turns x lanes (min 4 (count - 4 * n)) }))
 four_turns_more seed lanes count n x is =
     let done = flat_map (four_turns seed lanes count) (range_with_len 0 n) in
-    let last : ℕ → List Line = λ y. round_lines (record { calls = turns y lanes (min 4 (count - 4 * n)) }) in
+    let last : ℕ → List Line = λ y. round_lines (record { calls = drawn_turns y lanes (min 4 (count - 4 * n)) }) in
     ap (flat_map round_lines) (flat_map-range_more (four_turns seed lanes count) 0 n)
     ∙ flat_map-append round_lines done (four_turns seed lanes count (0 + n))
     ∙ ap (λ (k : ℕ). flat_map round_lines done ++ flat_map round_lines (four_turns seed lanes count k)) (same (0 + n) n (omega arith))

@@ -6,7 +6,7 @@ use Rattle.std.proofs.lemmas.Fmt.{length-decimal-le}
 use Rattle.std.proofs.lemmas.List.{length-map}
 use Rattle.std.proofs.lemmas.List.FromFn.{length-range_with_len}
 use Rattle.ktime.specs.declared.mode.Mode.TheVariants as modes
-use Rattle.clock_model.specs.declared.write.Write.TheVariants as writes
+use Rattle.ktime.specs.declared.write.Write.TheVariants as writes
 use Rattle.seq_timer.specs.declared.context.Context.{Context}
 use Rattle.seq_timer.specs.declared.context.Context.TheVariants as contexts
 use Rattle.record_text.specs.declared.version.Version.TheVariants as versions
@@ -22,7 +22,7 @@ use Rattle.script_text.specs.declared.script.Declaration.{Declaration}
 use Rattle.script_text.specs.declared.script.LaneCall.{LaneCall}
 use Rattle.script_text.specs.declared.script.Round.{Round}
 use Rattle.script_text.specs.Forms.{has_form, row, suits}
-use Rattle.script_text.specs.Generator.{call_by, clock_round, draw, drawn_call, expiry_round, four_turns, generated, lane_timers, number_after, timers_of_lane, turn, turns}
+use Rattle.script_text.specs.Generator.{call_by, clock_round, draw, drawn_call, expiry_round, four_turns, generated, lane_timers, number_after, timers_of_lane, turn, drawn_turns}
 use Rattle.script_text.specs.Declarations.{without_slack}
 use Rattle.script_text.specs.Grammar.{IsLine, fill_form, spelled}
 use Rattle.script_text.specs.CallLines.{HasTimerFor, IsCallInRange, call_line}
@@ -171,7 +171,7 @@ module _ (lanes : ℕ) (some : 1 ≤ lanes) (few : lanes ≤ 8) where
       All-map (λ c. IsPlainCall lanes c) (drawn_call x) (range_with_len 0 lanes)
       (All-range _ 0 lanes (λ k small. call_by_is_plain lanes k few (omega (arith, small)) (draw x (3 * k)) (draw x (3 * k + 1)) (draw x (3 * k + 2))))
 
-  plain_turns : (x count : ℕ) → AllByRecursion (λ c. IsPlainCall lanes c) (turns x lanes count)
+  plain_turns : (x count : ℕ) → AllByRecursion (λ c. IsPlainCall lanes c) (drawn_turns x lanes count)
   plain_turns x count =
       All-flat_map (λ c. IsPlainCall lanes c) (λ i. turn (number_after (3 * lanes * i) x) lanes) (range_with_len 0 count)
       (All-range _ 0 count (λ k small. plain_turn (number_after (3 * lanes * k) x)))
@@ -194,7 +194,7 @@ module _ (lanes : ℕ) (some : 1 ≤ lanes) (few : lanes ≤ 8) where
   length-turn : (x : ℕ) → length (turn x lanes) ≤ 8
   length-turn x = omega (arith, length-map (range_with_len 0 lanes) (drawn_call x), length-range_with_len 0 lanes)
 
-  pub length-turns : (x count : ℕ) → count ≤ 4 → length (turns x lanes count) ≤ 32
+  pub length-turns : (x count : ℕ) → count ≤ 4 → length (drawn_turns x lanes count) ≤ 32
   length-turns x count four =
       omega (
         arith,

@@ -19,7 +19,7 @@ use Rattle.script_text.specs.declared.script.Declaration.{Declaration}
 use Rattle.script_text.specs.declared.script.LaneCall.{LaneCall}
 use Rattle.script_text.specs.declared.script.Round.{Round}
 use Rattle.script_text.specs.Forms.{has_form, row}
-use Rattle.script_text.specs.Generator.{clock_round, expiry_round, four_turns, generated, lane_timers, number_after, script_bytes, timers_of_lane, turns}
+use Rattle.script_text.specs.Generator.{clock_round, expiry_round, four_turns, generated, lane_timers, number_after, script_bytes, timers_of_lane, drawn_turns}
 use Rattle.script_text.specs.Grammar.{IsLine, fill_form, spelled, of_numbers}
 use Rattle.script_text.specs.Scripts.{IsInRange, IsKindInRange, Reads, all_calls, declaration_line, declaration_lines, most_calls, round_lines, script_lines}
 use Rattle.script_text.specs.CallLines.{IsCallInRange, call_line}
@@ -99,7 +99,7 @@ module _ (lanes : ℕ) (some : 1 ≤ lanes) (few : lanes ≤ 8) where
       let ends = clock_round ∷ expiry_round lanes ∷ [] in
       let one : (k : ℕ) → length (flat_map (λ r. r.calls) (four_turns seed lanes count k)) ≤ 33 = λ k.
       let x = number_after (3 * lanes * (4 * k)) seed in
-      omega (arith, length-append (turns x lanes (min 4 (count - 4 * k))) [], length-turns lanes some few x (min 4 (count - 4 * k)) (omega arith)) in
+      omega (arith, length-append (drawn_turns x lanes (min 4 (count - 4 * k))) [], length-turns lanes some few x (min 4 (count - 4 * k)) (omega arith)) in
       omega (
         arith,
         ap (λ (cs : List LaneCall). length cs) (flat_map-append (λ (r : Round). r.calls) (flat_map (four_turns seed lanes count) parts) ends),
@@ -120,7 +120,7 @@ module _ (lanes : ℕ) (some : 1 ≤ lanes) (few : lanes ≤ 8) where
       let rounds = (generated seed lanes count).rounds in
       let one : (k : ℕ) → length (flat_map round_lines (four_turns seed lanes count k)) ≤ 35 = λ k.
       let x = number_after (3 * lanes * (4 * k)) seed in
-      let r : Round = record { calls = turns x lanes (min 4 (count - 4 * k)) } in
+      let r : Round = record { calls = drawn_turns x lanes (min 4 (count - 4 * k)) } in
       omega (arith, length-append (round_lines r) [], length-round r, length-turns lanes some few x (min 4 (count - 4 * k)) (omega arith)) in
       omega (
         arith,

@@ -15,7 +15,7 @@ use Rattle.script_text.specs.declared.reading.drafts.Draft.{Draft}
 use Rattle.script_text.specs.declared.script.Declaration.{Declaration}
 use Rattle.script_text.specs.declared.script.LaneCall.{LaneCall}
 use Rattle.script_text.specs.Forms.{row, part}
-use Rattle.script_text.specs.Scripts.{most_bases, most_lanes, most_timers, most_calls}
+use Rattle.script_text.specs.Scripts.{most_script_bases, most_lanes, most_timers, most_calls}
 use Rattle.script_text.specs.Drafts.{IsWithinLimits, declaration_of, version_numbered, with_header, with_timer, with_round, with_call, with_part, draft_with_line}
 use Rattle.script_text.specs.CallLines.{call_of}
 use Rattle.script_text.specs.Refusals.{is_placed, check_count, check_number, check_values, check_line}
@@ -29,7 +29,7 @@ header_number forms.Limit n is = let same : 3 ≡ n = cc in omega (arith, same)
 header_number _ n is = absurd cc
 
 -- no version has lower limits than the first
-bases_grow : (version : Version) → most_bases versions.One ≤ most_bases version
+bases_grow : (version : Version) → most_script_bases versions.One ≤ most_script_bases version
 bases_grow versions.One = omega arith
 bases_grow versions.Two = omega arith
 
@@ -49,7 +49,7 @@ version_room d n begun room =
     record {
       first = λ none. absurd (omega (arith, none));
       headers = omega (arith, begun);
-      bases = omega (arith, room.bases, ap most_bases one, bases_grow v);
+      bases = omega (arith, room.bases, ap most_script_bases one, bases_grow v);
       lanes = omega (arith, room.lanes, ap most_lanes one, lanes_grow v);
       timers = omega (arith, room.timers, ap most_timers one, timers_grow v);
       calls = room.calls;
@@ -63,7 +63,7 @@ header_room d forms.Bases (values.Number n ∷ []) few is e room =
     record {
       first = λ none. absurd (omega (arith, none));
       headers = omega (arith, few);
-      bases = leb-true n (most_bases d.version) (and_parts _ _ (holds _ _ (neither _ _ e).0)).1;
+      bases = leb-true n (most_script_bases d.version) (and_parts _ _ (holds _ _ (neither _ _ e).0)).1;
       lanes = room.lanes;
       timers =
           room.timers;

@@ -15,7 +15,7 @@ use Rattle.script_text.specs.declared.script.LaneCall.{LaneCall}
 use Rattle.script_text.specs.declared.script.Round.{Round}
 use Rattle.script_text.specs.declared.script.Script.{Script}
 use Rattle.script_text.specs.Forms.{has_form}
-use Rattle.script_text.specs.Scripts.{most_bases, most_lanes, most_timers, most_events, most_calls, declaration_line, declaration_lines, round_lines, header_lines, script_lines, all_calls, version_number, HasForms, IsInRange, IsKindInRange}
+use Rattle.script_text.specs.Scripts.{most_script_bases, most_lanes, most_timers, most_events, most_calls, declaration_line, declaration_lines, round_lines, header_lines, script_lines, all_calls, version_number, HasForms, IsInRange, IsKindInRange}
 use Rattle.script_text.specs.CallLines.{call_line, IsCallInRange}
 use Rattle.script_text.specs.Grammar.{of_numbers}
 use Rattle.script_text.specs.Drafts.{empty, last_round, script_of, with_header, with_timer, with_round, with_call, with_part, draft_with_line}
@@ -50,14 +50,14 @@ unfolding draft_with_line with_part with_header
 version_tells versions.One = refl
 version_tells versions.Two = refl
 
-header_steps : (v : Version) (b l m : ℕ) → (1 ≤ b) × (b ≤ most_bases v) → (1 ≤ l) × (l ≤ most_lanes v) → (1 ≤ m) × (m ≤ most_events v)
+header_steps : (v : Version) (b l m : ℕ) → (1 ≤ b) × (b ≤ most_script_bases v) → (1 ≤ l) × (l ≤ most_lanes v) → (1 ≤ m) × (m ≤ most_events v)
     → Steps empty (header_lines v b l m) (full v b l m [] [] None 0)
 unfolding check_line is_placed check_count check_values check_number check_kind draft_with_line with_part with_header
 header_steps v b l m bases lanes limit =
     let numbers : List Line = of_numbers forms.Bases (b ∷ []) ∷ of_numbers forms.Lanes (l ∷ []) ∷ of_numbers forms.Limit (m ∷ []) ∷ [] in
     let rest : Steps (early v 1 0 0 0) numbers (full v b l m [] [] None 0) = (
       refl,
-      rw (le-leb 1 b bases.0, le-leb b (most_bases v) bases.1) refl,
+      rw (le-leb 1 b bases.0, le-leb b (most_script_bases v) bases.1) refl,
       (
         refl,
         rw (le-leb 1 l lanes.0, le-leb l (most_lanes v) lanes.1) refl,

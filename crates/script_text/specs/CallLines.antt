@@ -3,7 +3,7 @@ use Rattle.std.specs.Prelude.{ℕ, ◌≡◌, ◌<◌, ◌≤◌, true, List, []
 use Rattle.std.specs.Option.{option_or}
 use Rattle.ktime.specs.declared.mode.Mode.{Mode}
 use Rattle.ktime.specs.declared.mode.Mode.TheVariants as modes
-use Rattle.clock_model.specs.declared.write.Write.TheVariants as writes
+use Rattle.ktime.specs.declared.write.Write.TheVariants as writes
 use Rattle.seq_timer.specs.declared.context.Context.TheVariants as contexts
 use Rattle.script_text.specs.declared.form.Form.{Form}
 use Rattle.script_text.specs.declared.form.Form.TheVariants as forms

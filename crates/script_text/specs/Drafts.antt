@@ -21,7 +21,7 @@ use Rattle.script_text.specs.declared.script.Round.{Round}
 use Rattle.script_text.specs.declared.script.Script.{Script}
 use Rattle.script_text.specs.Forms.{Spot, Key, At, part}
 use Rattle.script_text.specs.CallLines.{call_of}
-use Rattle.script_text.specs.Scripts.{most_bases, most_lanes, most_timers, most_calls}
+use Rattle.script_text.specs.Scripts.{most_script_bases, most_lanes, most_timers, most_calls}
 
 -- before the first line
 abbrev pub empty : Draft
@@ -101,7 +101,7 @@ draft_with_line d l = with_part d (part l.form) l.form l.values
 pub record IsWithinLimits (d : Draft) : Type 0 where
   pub first : d.headers ≡ 0 → d.version ≡ versions.One
   pub headers : d.headers ≤ 4
-  pub bases : d.bases ≤ most_bases d.version
+  pub bases : d.bases ≤ most_script_bases d.version
   pub lanes : d.lanes ≤ most_lanes d.version
   pub timers : length d.timers ≤ most_timers d.version
   pub calls : d.calls ≤ most_calls

@@ -3,7 +3,7 @@ use Rattle.std.specs.Prelude.{ℕ, zero, suc, ◌+◌, ◌-◌, ◌*◌, ◌/◌
 use Rattle.std.specs.List.{flat_map, range_with_len}
 use Rattle.ktime.specs.declared.clock_id.ClockId.TheVariants as clocks
 use Rattle.ktime.specs.declared.mode.Mode.TheVariants as modes
-use Rattle.clock_model.specs.declared.write.Write.TheVariants as writes
+use Rattle.ktime.specs.declared.write.Write.TheVariants as writes
 use Rattle.seq_timer.specs.declared.context.Context.TheVariants as contexts
 use Rattle.record_text.specs.declared.version.Version.TheVariants as versions
 use Rattle.script_text.specs.declared.form.Line.{Line}
@@ -52,8 +52,8 @@ abbrev pub turn : ℕ → ℕ → List LaneCall
 turn x lanes = map (drawn_call x) (range_with_len 0 lanes)
 
 -- so many turns from x on, each with three draws for each lane
-abbrev pub turns : ℕ → ℕ → ℕ → List LaneCall
-turns x lanes count = flat_map (λ i. turn (number_after (3 * lanes * i) x) lanes) (range_with_len 0 count)
+abbrev pub drawn_turns : ℕ → ℕ → ℕ → List LaneCall
+drawn_turns x lanes count = flat_map (λ i. turn (number_after (3 * lanes * i) x) lanes) (range_with_len 0 count)
 
 -- ---- the script
 
@@ -78,7 +78,7 @@ expiry_round lanes = record { calls = map (λ lane. record { lane = lane; call =
 -- the clock moves, and the four turns from a multiple of four on are made in one round, or as many as are left of all
 abbrev pub four_turns : ℕ → ℕ → ℕ → ℕ → List Round
 four_turns seed lanes count i =
-    clock_round ∷ record { calls = turns (number_after (3 * lanes * (4 * i)) seed) lanes (min 4 (count - 4 * i)) } ∷ []
+    clock_round ∷ record { calls = drawn_turns (number_after (3 * lanes * (4 * i)) seed) lanes (min 4 (count - 4 * i)) } ∷ []
 
 -- the script of so many turns; in the end the clock moves, and each lane expires its base
 abbrev pub generated : ℕ → ℕ → ℕ → Script

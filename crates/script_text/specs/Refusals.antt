@@ -24,7 +24,7 @@ use Rattle.script_text.specs.Forms.{Spot, Key, At, row, part, suits}
 use Rattle.script_text.specs.Reading.{◌>>=◌, line_in}
 use Rattle.script_text.specs.declared.reading.drafts.Draft.{Draft}
 use Rattle.script_text.specs.Drafts.{empty, script_of, draft_with_line}
-use Rattle.script_text.specs.Scripts.{most_script_bytes, most_bases, most_lanes, most_timers, most_events, most_calls, lines_of, is_skipped}
+use Rattle.script_text.specs.Scripts.{most_script_bytes, most_script_bases, most_lanes, most_timers, most_events, most_calls, lines_of, is_skipped}
 use Rattle.script_text.specs.CallLines.{most_budget}
 
 -- ---- causes that need the lines before
@@ -50,7 +50,7 @@ check_count d part = None
 -- the cause that refuses a number in its field, behind the base that its line has named
 unfoldable pub check_number : Draft → ℕ → Field → ℕ → Option Cause
 check_number d base fields.Version n = unless (nat_eq n 1 || nat_eq n 2) causes.Version
-check_number d base fields.Bases n = unless (nat_le 1 n && nat_le n (most_bases d.version)) causes.BaseLimit
+check_number d base fields.Bases n = unless (nat_le 1 n && nat_le n (most_script_bases d.version)) causes.BaseLimit
 check_number d base fields.Base n = unless (nat_lt n d.bases) causes.BaseLimit
 check_number d base fields.Lanes n = unless (nat_le 1 n && nat_le n (most_lanes d.version)) causes.LaneLimit
 check_number d base fields.Lane n = unless (nat_lt n d.lanes) causes.LaneLimit

@@ -26,9 +26,9 @@ abbrev pub most_script_bytes : ℕ
 most_script_bytes = 1048576
 
 -- how many bases a script of a version may have
-abbrev pub most_bases : Version → ℕ
-most_bases versions.One = 8
-most_bases versions.Two = 64
+abbrev pub most_script_bases : Version → ℕ
+most_script_bases versions.One = 8
+most_script_bases versions.Two = 64
 
 -- how many lanes a script of a version may have
 abbrev pub most_lanes : Version → ℕ
@@ -121,7 +121,7 @@ HasForms version lines = AllByRecursion (λ l. has_form version l.form ≡ true)
 
 -- a script keeps to the limits of its version, and has only lines of forms that its version has
 pub record IsInRange (s : Script) : Type 0 where
-  pub bases : (1 ≤ s.bases) × (s.bases ≤ most_bases s.version)
+  pub bases : (1 ≤ s.bases) × (s.bases ≤ most_script_bases s.version)
   pub lanes : (1 ≤ s.lanes) × (s.lanes ≤ most_lanes s.version)
   pub limit : (1 ≤ s.limit) × (s.limit ≤ most_events s.version)
   pub timers : length s.timers ≤ most_timers s.version

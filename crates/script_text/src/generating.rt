@@ -1,6 +1,6 @@
 //! Large scripts that are made from a number.
 ghost use Rattle.std.specs.Prelude.{◌≡◌, ◌+◌, ◌*◌, ◌/◌, ◌<◌, ◌≤◌, ◌++◌, ◌∷◌, [], IfOk, OnOk, string_bytes, map};
-ghost use Rattle.script_text.specs.Generator.{call_by, clock_round, draw, drawn_call, expiry_round, four_turns, generated, lane_timers, lines_bytes, next_number, number_after, script_bytes, timers_of_lane, turn, turns};
+ghost use Rattle.script_text.specs.Generator.{call_by, clock_round, draw, drawn_call, expiry_round, four_turns, generated, lane_timers, lines_bytes, next_number, number_after, script_bytes, timers_of_lane, turn, drawn_turns};
 ghost use Rattle.script_text.specs.Scripts.{declaration_lines, header_lines, round_lines, IsInRange, Reads};
 ghost use Rattle.script_text.specs.CallLines.{call_line};
 ghost use Rattle.seq_timer.specs.declared.context.Context.TheVariants as contexts;
@@ -135,7 +135,7 @@ fn write_round(out: &mut String, x: u64, lanes: u32, count: u64) -> Result<u64, 
     requires small { x < 2147483648 }
     requires lanes { lanes ≤ 8 }
     requires count { count ≤ 4 }
-    ensures text { OnOk result (string_bytes out.new ≡ string_bytes out.old ++ lines_bytes (round_lines (record { calls = turns x lanes count }))) }
+    ensures text { OnOk result (string_bytes out.new ≡ string_bytes out.old ++ lines_bytes (round_lines (record { calls = drawn_turns x lanes count }))) }
     ensures next { IfOk result (λ y. (y ≡ number_after (3 * lanes * count) x) × (y < 2147483648)) }
 {
     out.push_str("round\n")?;

@@ -1,6 +1,5 @@
 //! A script: its timers, and the rounds of calls.
-use clock_model::Write;
-use ktime::{ClockId, Mode, TimeSpec};
+use ktime::{ClockId, Mode, TimeSpec, Write};
 use record_text::{ItemList, Version};
 use seq_timer::Context;
 

@@ -12,3 +12,4 @@ pub mod Steps
 pub mod Systems
 pub mod Tables
 pub mod Turns
+pub mod Words

@@ -18,6 +18,8 @@ pub use system::{
     one_function_runs_on_a_base, stamps_count_entries, the_front_is_armed,
 };
 pub use timer_state::{TimerState, make_timers};
+pub use word::{pack, read, unpack, word_of};
+pub use word_laws::one_word_one_number;
 
 mod answer;
 mod base;
@@ -30,3 +32,5 @@ mod observation;
 mod standing;
 mod system;
 mod timer_state;
+mod word;
+mod word_laws;

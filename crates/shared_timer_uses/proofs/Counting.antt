@@ -20,7 +20,7 @@ use Rattle.hr_timers.specs.declared.answer.StartAnswer.{StartAnswer}
 use Rattle.hr_timers.specs.Known.{HasEachPlace, KnownOfTimers, MadeAt, timer_then}
 use Rattle.hr_timers.specs.Calls.{Peeks, start_entries}
 use Rattle.hr_timers.specs.Logged.{StartsLogged}
-use Rattle.shared_timer_uses.specs.Counting.{counted}
+use Rattle.shared_timer_uses.specs.Counting.{with_receipt}
 use Rattle.shared_timer_uses.specs.declared.sink.Counted.{Counted}
 use Rattle.shared_timer_uses.specs.Callers.{MakesEntries, known_timer}
 use Rattle.hr_timers.proofs.Moments.{timer_after, timer_own}
@@ -63,9 +63,9 @@ makes_made v w t x es made claims =
 -- ---- starts
 
 -- a sink that counts has counted as many as it was given
-pub all_counted : (s : Counted) (rs : List Receipt) → (all_pushed counted s rs).made ≡ s.made + length rs
+pub all_counted : (s : Counted) (rs : List Receipt) → (all_pushed with_receipt s rs).made ≡ s.made + length rs
 all_counted s [] = omega arith
-all_counted s (r ∷ rs) = omega (arith, all_counted (counted s r) rs)
+all_counted s (r ∷ rs) = omega (arith, all_counted (with_receipt s r) rs)
 
 receipts_length : (t n : ℕ) (es : List seq.Entry) → length (receipts_of t n es) ≡ length es
 receipts_length t n [] = refl
@@ -73,7 +73,7 @@ receipts_length t n (e ∷ es) = omega (arith, receipts_length t (n + 1) es)
 
 -- a start has made as many entries as it gave receipts of
 pub start_makes : (o : Opening) (v w : KnownOfTimers) (t : ℕ) (asked : Asked) (a : StartAnswer) (s s' : Counted) → s.made ≡ 0
-    → StartsLogged counted o v w t asked a s s' → MakesEntries t s'.made v w
+    → StartsLogged with_receipt o v w t asked a s s' → MakesEntries t s'.made v w
 start_makes o v w t asked a s s' none l =
     let r = l.starts in
     let u = timer_then o r.at t in

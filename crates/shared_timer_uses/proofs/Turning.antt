@@ -13,12 +13,12 @@ use Rattle.seq_timer.specs.Systems.{AreSystemSteps, first_system}
 use Rattle.seq_timer.specs.Tables.{IsNextDue, in_context}
 use Rattle.base_row.specs.declared.view.Opening.{Opening}
 use Rattle.hr_timers.specs.Known.{KnownOfTimers, timer_then}
-use Rattle.expire_pass.specs.declared.expiry.ExpireAnswer.{ExpireAnswer}
-use Rattle.expire_pass.specs.declared.expiry.ExpireAnswer.TheVariants as expiries
+use Rattle.hr_timers.specs.declared.expiry.ExpireAnswer.{ExpireAnswer}
+use Rattle.hr_timers.specs.declared.expiry.ExpireAnswer.TheVariants as expiries
 use Rattle.base_row.specs.declared.log.Noted.TheVariants as noteds
 use Rattle.base_row.specs.declared.log.Receipt.{Receipt}
-use Rattle.expire_pass.specs.Expiring.{Expires, Turn, Turns}
-use Rattle.expire_pass.specs.Handlers.{Meaning, asks}
+use Rattle.hr_timers.specs.Expiring.{Expires, Turn, Turns}
+use Rattle.hr_timers.specs.Handlers.{Meaning, asks}
 use Rattle.hr_timers.proofs.Standing.{forward_same}
 use Rattle.shared_timer_uses.specs.declared.once.OneShot.{OneShot}
 use Rattle.shared_timer_uses.specs.declared.periodic.Periodic.{Periodic}

@@ -23,7 +23,7 @@ use Rattle.ordered_clock.specs.Moments.{ReadsAt}
 use Rattle.seq_timer.specs.Calls.{asked_for}
 use Rattle.base_row.specs.declared.log.Noted.TheVariants as noteds
 use Rattle.base_row.specs.declared.log.Receipt.{Receipt}
-use Rattle.expire_pass.specs.Handlers.{KeepsPass}
+use Rattle.hr_timers.specs.Handlers.{KeepsPass}
 use Rattle.base_row.specs.Logs.{LogOf}
 use Rattle.shared_timer_uses.specs.declared.cancelling.Stopped.{Stopped}
 use Rattle.shared_timer_uses.specs.declared.cancelling.Stopped.TheVariants as stops

@@ -4,5 +4,5 @@ use Rattle.base_row.specs.declared.log.Receipt.{Receipt}
 use Rattle.shared_timer_uses.specs.declared.sink.Counted.{Counted}
 
 -- with one receipt more
-abbrev pub counted : Counted → Receipt → Counted
-counted s r = record { made = s.made + 1 }
+abbrev pub with_receipt : Counted → Receipt → Counted
+with_receipt s r = record { made = s.made + 1 }

@@ -6,9 +6,9 @@ use Rattle.seq_timer.specs.declared.event.Reply.TheVariants as replies
 use Rattle.seq_timer.specs.declared.system.SystemEntry.{SystemEntry}
 use Rattle.hr_timers.specs.declared.numbers.ClaimNumbers.{ClaimNumbers}
 use Rattle.hr_timers.specs.Known.{KnownOfTimers, MadeAt}
-use Rattle.expire_pass.specs.declared.handler.Restart.{Restart}
-use Rattle.expire_pass.specs.declared.handler.Restart.TheVariants as restarts
-use Rattle.expire_pass.specs.Handlers.{Meaning}
+use Rattle.hr_timers.specs.declared.handler.Restart.{Restart}
+use Rattle.hr_timers.specs.declared.handler.Restart.TheVariants as restarts
+use Rattle.hr_timers.specs.Handlers.{Meaning}
 use Rattle.shared_timer_uses.specs.declared.once.OneShot.{OneShot}
 use Rattle.shared_timer_uses.specs.declared.periodic.Periodic.{Periodic}
 use Rattle.shared_timer_uses.specs.declared.periodic.Tick.{Tick}

@@ -2,11 +2,10 @@
 ghost use Rattle.std.specs.Prelude.{◌≡◌, ◌<◌, ◌+◌, true, false, length, MatchBool};
 ghost use Rattle.seq_timer.specs.Histories.{IsIdle};
 ghost use Rattle.hr_timers.specs.Known.{IsPassOf};
-ghost use Rattle.expire_pass.specs.Handlers.{KeepsPass};
+ghost use Rattle.hr_timers.specs.Handlers.{KeepsPass};
 ghost use Rattle.shared_timer_uses.specs.Callers.{StoppedFits, known_timer};
 
-use expire_pass::cancel;
-use hr_timers::{NowAnswer, Pass, Timers};
+use hr_timers::{NowAnswer, Pass, Timers, cancel};
 use seq_timer::CancelAnswer;
 use std::sync::Wait;
 

@@ -3,11 +3,10 @@ ghost use Rattle.std.specs.Prelude.{◌≡◌, ◌+◌, ◌<◌, ◌≤◌, ◌+
 ghost use Rattle.ktime.specs.Times.{sat};
 ghost use Rattle.seq_timer.specs.Steps.{now_of};
 ghost use Rattle.hr_timers.specs.Known.{IsPassOf};
-ghost use Rattle.expire_pass.specs.Handlers.{KeepsPass};
+ghost use Rattle.hr_timers.specs.Handlers.{KeepsPass};
 ghost use Rattle.shared_timer_uses.specs.Callers.{HasNothingToRun, KeepsRunner, MayRunOne, RanOnce, known_timer};
 
-use expire_pass::{Handler, Log, Restart, expire};
-use hr_timers::{Claim, Pass, StartAnswer, Timers};
+use hr_timers::{Claim, Handler, Log, Pass, Restart, StartAnswer, Timers, expire};
 use ktime::{Mode, Reading};
 use std::sync::Wait;
 

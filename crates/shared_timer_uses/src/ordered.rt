@@ -1,7 +1,7 @@
 //! A start by a clock whose readings have places among the timers' entries.
 ghost use Rattle.std.specs.Prelude.{◌≡◌, ◌<◌, length};
 ghost use Rattle.clock_cell.specs.Views.{IsPassOfClock};
-ghost use Rattle.expire_pass.specs.Handlers.{KeepsPass};
+ghost use Rattle.hr_timers.specs.Handlers.{KeepsPass};
 ghost use Rattle.hr_timers.specs.Known.{IsPassOf};
 ghost use Rattle.ordered_clock.specs.Moments.{clock_counter};
 ghost use Rattle.pass_names.specs.Passes.{Looks};

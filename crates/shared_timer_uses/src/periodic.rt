@@ -2,8 +2,7 @@
 ghost use Rattle.std.specs.Prelude.{IfSome};
 ghost use Rattle.shared_timer_uses.specs.Callers.{KeepsRunner, MayRunOne, Ticked};
 
-use expire_pass::{Handler, Log, Restart, expire};
-use hr_timers::{Claim, Pass, Timers};
+use hr_timers::{Claim, Handler, Log, Pass, Restart, Timers, expire};
 use ktime::Reading;
 use seq_timer::{ForwardAnswer, Moved};
 use std::sync::Wait;

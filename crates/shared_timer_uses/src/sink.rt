@@ -10,9 +10,9 @@ pub struct Counted {
 
 impl ReceiptSink for Counted {
     ghost use Rattle.std.specs.Prelude.{◌-◌};
-    ghost use Rattle.shared_timer_uses.specs.Counting.{counted};
+    ghost use Rattle.shared_timer_uses.specs.Counting.{with_receipt};
 
-    ghost pushed = { counted };
+    ghost pushed = { with_receipt };
 
     ghost room = { λ s. 18446744073709551615 - s.made };
 

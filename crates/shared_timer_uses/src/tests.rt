@@ -11,8 +11,7 @@ mod of_hr_timers;
 mod of_ordered_clock;
 mod threads;
 
-use expire_pass::Log;
-use hr_timers::{Pass, Timers};
+use hr_timers::{Log, Pass, Timers};
 use ktime::ClockId;
 use seq_timer::{Context, Declared, Placement};
 use std::alloc::{AllocError, Global};

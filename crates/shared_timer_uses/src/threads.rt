@@ -7,14 +7,13 @@ ghost use Rattle.seq_timer.specs.Histories.{IsIdle};
 ghost use Rattle.seq_timer.specs.Tables.{timer_at};
 ghost use Rattle.hr_timers.specs.Known.{IsPassOf};
 ghost use Rattle.hr_timers.specs.Ways.{most_to_start};
-ghost use Rattle.expire_pass.specs.Handlers.{KeepsPass};
+ghost use Rattle.hr_timers.specs.Handlers.{KeepsPass};
 ghost use Rattle.shared_timer_uses.specs.Callers.{KeepsRunner, MakesEntries, MayRunOne, RanOnce, known_timer};
 
 use crate::cancelling::stop_and_wait;
 use crate::once::expire_once;
 use crate::sink::Counted;
-use expire_pass::Log;
-use hr_timers::{Pass, Timers};
+use hr_timers::{Log, Pass, Timers};
 use ktime::{ClockId, Mode, Reading};
 use seq_timer::Asked;
 use std::alloc::{AllocError, Global};

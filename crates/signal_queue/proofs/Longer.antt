@@ -5,13 +5,13 @@ use Rattle.std.proofs.lemmas.Bool.Decides.{nat_tests}
 use Rattle.signal_queue.specs.declared.signal.Turn.{Turn}
 use Rattle.pass_names.specs.Passes.{Begins}
 use Rattle.pass_names.proofs.Passes.{begins_length, begins_nil, begins_refl, begins_whole}
-use Rattle.signal_queue.specs.Views.{longer}
+use Rattle.signal_queue.specs.Views.{longer_turns}
 
 -- what holds of both lists holds of the longer one
-longer_is : (P : List Turn → Type 0) (xs ys : List Turn) → P xs → P ys → P (longer xs ys)
+longer_is : (P : List Turn → Type 0) (xs ys : List Turn) → P xs → P ys → P (longer_turns xs ys)
 longer_is P xs ys a b = elim (nat_lt (length xs) (length ys)) as (λ t. P (if t then ys else xs)) [ true ↦ b | false ↦ a ]
 
-pub longer_begins : (xs ys log : List Turn) → Begins xs log → Begins ys log → Begins (longer xs ys) log
+pub longer_begins : (xs ys log : List Turn) → Begins xs log → Begins ys log → Begins (longer_turns xs ys) log
 longer_begins xs ys log a b = longer_is (λ ws. Begins ws log) xs ys a b
 
 -- of two lists that begin one list, the shorter begins the other
@@ -28,7 +28,7 @@ begins_other : {xs ys all : List Turn} → Begins xs all → Begins ys all → l
 begins_other {xs} {ys} a b h = shorter xs ys a.rest b.rest (sym a.whole ∙ b.whole) h
 
 -- the longer one goes on from both
-pub goes_on : (xs ys all : List Turn) → Begins xs all → Begins ys all → Begins xs (longer xs ys) × Begins ys (longer xs ys)
+pub goes_on : (xs ys all : List Turn) → Begins xs all → Begins ys all → Begins xs (longer_turns xs ys) × Begins ys (longer_turns xs ys)
 goes_on xs ys all a b = by (nat_lt (length xs) (length ys)) refl
   where
     by : (t : Bool) → nat_lt (length xs) (length ys) ≡ t → Begins xs (if t then ys else xs) × Begins ys (if t then ys else xs)
@@ -36,10 +36,10 @@ goes_on xs ys all a b = by (nat_lt (length xs) (length ys)) refl
     by false e = (begins_refl xs, begins_other b a (grind (arith, nat_tests, e)))
 
 -- what has the whole of a list is the longer one
-pub all_first : (xs ys log : List Turn) → Begins xs log → Begins ys log → xs ≡ log → longer xs ys ≡ log
+pub all_first : (xs ys log : List Turn) → Begins xs log → Begins ys log → xs ≡ log → longer_turns xs ys ≡ log
 all_first xs ys log a b e =
     begins_whole (longer_begins xs ys log a b) (omega (arith, begins_length (goes_on xs ys log a b).0, ap length e))
 
-pub all_second : (xs ys log : List Turn) → Begins xs log → Begins ys log → ys ≡ log → longer xs ys ≡ log
+pub all_second : (xs ys log : List Turn) → Begins xs log → Begins ys log → ys ≡ log → longer_turns xs ys ≡ log
 all_second xs ys log a b e =
     begins_whole (longer_begins xs ys log a b) (omega (arith, begins_length (goes_on xs ys log a b).1, ap length e))

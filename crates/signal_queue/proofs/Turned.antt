@@ -9,11 +9,11 @@ use Rattle.signal_queue.specs.declared.signal.Signal.{Signal}
 use Rattle.signal_queue.specs.declared.signal.Turn.{Turn}
 use Rattle.signal_queue.specs.declared.signals.Push.{Push}
 use Rattle.signal_queue.specs.declared.signals.Push.TheVariants.{Full, Queued}
-use Rattle.signal_queue.specs.Calls.{FindsEmpty, FindsFull, MakesTurn, PopsLent, PopsSignal, PushesLent, PushesSignal, Shown}
+use Rattle.signal_queue.specs.Calls.{FindsEmpty, FindsFull, MakesTurn, PopsLent, PopsSignal, PushesLent, PushesSignal, RuleHeld}
 use Rattle.signal_queue.specs.declared.view.QueueView.{QueueView}
 use Rattle.signal_queue.specs.Rules.{turns, QueueAgrees}
 use Rattle.signal_queue.specs.Turns.{AreTurns}
-use Rattle.signal_queue.specs.Views.{IsEndView, IsRestingView, joined_queue_view, lent_queue_view, longer, rid_queue_view}
+use Rattle.signal_queue.specs.Views.{IsEndView, IsRestingQueueView, joined_queue_view, lent_queue_view, longer_turns, rid_queue_view}
 use Rattle.signal_queue.proofs.Turns.{full_is_seen, legal_begin, none_is_seen}
 use Rattle.signal_queue.proofs.Frames.{goes_one}
 use Rattle.signal_queue.proofs.Lasting.{each_of_last}
@@ -35,7 +35,7 @@ pub pops_id : (v w : QueueView) (answer : Option Signal) → PopsSignal v w answ
 pops_id v w (Some s) told = told.id
 pops_id v w None told = told.looks.id
 
-module _ {v e : QueueView} {most : ℕ} {pushing popping : Bool} (rests : IsRestingView v) (end : IsEndView most pushing popping e) where
+module _ {v e : QueueView} {most : ℕ} {pushing popping : Bool} (rests : IsRestingQueueView v) (end : IsEndView most pushing popping e) where
   abbrev lent : QueueView
   lent = lent_queue_view v e
 
@@ -53,7 +53,7 @@ module _ {v e : QueueView} {most : ℕ} {pushing popping : Bool} (rests : IsRest
         id = made.adds.id;
       }
 
-  pub made_rests : {t : Turn} {w : QueueView} → MakesTurn t lent w → IsRestingView (rid_queue_view w)
+  pub made_rests : {t : Turn} {w : QueueView} → MakesTurn t lent w → IsRestingQueueView (rid_queue_view w)
   made_rests {t} {w} made = record {
     live = made.live;
     known = record { one = made.known.one; legal = made.known.legal; all_entries = made.known.all_entries };
@@ -63,7 +63,7 @@ module _ {v e : QueueView} {most : ℕ} {pushing popping : Bool} (rests : IsRest
   }
 
   -- none was made: what both had seen begins what the pass has now seen
-  pub both_seen : {items : List Signal} → Shown lent items → Begins (turns v) (longer (turns v) (turns e)) × Begins (turns e) (longer (turns v) (turns e))
+  pub both_seen : {items : List Signal} → RuleHeld lent items → Begins (turns v) (longer_turns (turns v) (turns e)) × Begins (turns e) (longer_turns (turns v) (turns e))
   both_seen shown =
       let inv = shown.2 in
       let agrees = inv.each_view shown.1 lent shown.3 in
@@ -71,18 +71,18 @@ module _ {v e : QueueView} {most : ℕ} {pushing popping : Bool} (rests : IsRest
       goes_on (turns v) (turns e) inv.log (All-head P (turns v) (turns e ∷ v.heard ++ e.heard) agrees.heard)
       (All-head P (turns e) (v.heard ++ e.heard) (All-tail P (turns v) (turns e ∷ v.heard ++ e.heard) agrees.heard))
 
-  pub looks : {items : List Signal} → Shown lent items → Looks v.pass (rid_queue_view lent).pass
+  pub looks : {items : List Signal} → RuleHeld lent items → Looks v.pass (rid_queue_view lent).pass
   looks shown = record {
-    seen = goes_seen v.pass.seen (longer (turns v) (turns e) ∷ []) (turns v) (longer (turns v) (turns e)) rests.known.one refl (both_seen shown).0;
+    seen = goes_seen v.pass.seen (longer_turns (turns v) (turns e) ∷ []) (turns v) (longer_turns (turns v) (turns e)) rests.known.one refl (both_seen shown).0;
     mine = refl;
     id = refl;
   }
 
-  pub looked_rests : {items : List Signal} → Shown lent items → IsRestingView (rid_queue_view lent)
+  pub looked_rests : {items : List Signal} → RuleHeld lent items → IsRestingQueueView (rid_queue_view lent)
   looked_rests shown =
       let inv = shown.2 in
       let agrees = inv.each_view shown.1 lent shown.3 in
-      let all = longer (turns v) (turns e) in
+      let all = longer_turns (turns v) (turns e) in
       let both = both_seen shown in
       let P : List Turn → Type 0 = λ ts. Begins ts all in
       let theirs : All P e.heard = subst (All P) (sym end.told) (All-nil P) in
@@ -100,7 +100,7 @@ module _ {v e : QueueView} {most : ℕ} {pushing popping : Bool} (rests : IsRest
         no_pop = refl;
       }
 
-  pub finds_full : (n : ℕ) → lent.pushes ≡ true → v.room ≡ n → Held n (Shown lent) → FindsFull n v (rid_queue_view lent)
+  pub finds_full : (n : ℕ) → lent.pushes ≡ true → v.room ≡ n → Held n (RuleHeld lent) → FindsFull n v (rid_queue_view lent)
   finds_full n may room held =
       let shown = held.2 in
       let inv = shown.2 in
@@ -111,7 +111,7 @@ module _ {v e : QueueView} {most : ℕ} {pushing popping : Bool} (rests : IsRest
         full = full_is_seen inv.room n (agrees.seen.each 0) inv.legal told.0 (omega (arith, told.1, room)) (ap length (sym inv.shows) ∙ held.1);
       }
 
-  pub finds_empty : lent.pops ≡ true → Held 0 (Shown lent) → FindsEmpty v (rid_queue_view lent)
+  pub finds_empty : lent.pops ≡ true → Held 0 (RuleHeld lent) → FindsEmpty v (rid_queue_view lent)
   finds_empty may held =
       let shown = held.2 in
       let inv = shown.2 in
@@ -127,44 +127,44 @@ module _ {v e : QueueView} {most : ℕ} {pushing popping : Bool} (rests : IsRest
 
   -- what a push told a pass that was lent the end for it
   push_told : (n : ℕ) (s : Signal) (answer : Push) (w : QueueView) → e.pushes ≡ true → v.room ≡ n → PushesLent n lent w s answer
-      → PushesSignal n v (rid_queue_view w) s answer × IsRestingView (rid_queue_view w)
+      → PushesSignal n v (rid_queue_view w) s answer × IsRestingQueueView (rid_queue_view w)
   push_told n s Queued w on room told = ((made_adds told, told.within (told.same_push ∙ or_right v.pushes e.pushes on)), made_rests told)
   push_told n s (Full most) w on room told =
       let full = finds_full n (or_right v.pushes e.pushes on) room told.2 in (
         (told.0, subst (λ u. FindsFull most v (rid_queue_view u)) (sym told.1) (subst (λ m. FindsFull m v (rid_queue_view lent)) (sym told.0) full)),
-        subst (λ u. IsRestingView (rid_queue_view u)) (sym told.1) (looked_rests told.2.2),
+        subst (λ u. IsRestingQueueView (rid_queue_view u)) (sym told.1) (looked_rests told.2.2),
       )
 
   -- what a pop told one
   pop_told : (answer : Option Signal) (w : QueueView) → e.pops ≡ true → PopsLent lent w answer
-      → PopsSignal v (rid_queue_view w) answer × IsRestingView (rid_queue_view w)
+      → PopsSignal v (rid_queue_view w) answer × IsRestingQueueView (rid_queue_view w)
   pop_told None w on told = (
     subst (λ u. FindsEmpty v (rid_queue_view u)) (sym told.0) (finds_empty (or_right v.pops e.pops on) told.1),
-    subst (λ u. IsRestingView (rid_queue_view u)) (sym told.0) (looked_rests told.1.2),
+    subst (λ u. IsRestingQueueView (rid_queue_view u)) (sym told.0) (looked_rests told.1.2),
   )
   pop_told (Some s) w on told = (made_adds told, made_rests told)
 
   -- the same where the views are named otherwise
   pub pushed_by : (n : ℕ) (s : Signal) (answer : Push) (l w new : QueueView) → l ≡ lent → new ≡ rid_queue_view w → e.pushes ≡ true → v.room ≡ n
-      → PushesLent n l w s answer → PushesSignal n v new s answer × IsRestingView new
+      → PushesLent n l w s answer → PushesSignal n v new s answer × IsRestingQueueView new
   pushed_by n s answer l w new is_lent is_rid on room told =
-      subst (λ u. PushesSignal n v u s answer × IsRestingView u) (sym is_rid)
+      subst (λ u. PushesSignal n v u s answer × IsRestingQueueView u) (sym is_rid)
       (push_told n s answer w on room (subst (λ x. PushesLent n x w s answer) is_lent told))
 
   pub popped_by : (answer : Option Signal) (l w new : QueueView) → l ≡ lent → new ≡ rid_queue_view w → e.pops ≡ true → PopsLent l w answer
-      → PopsSignal v new answer × IsRestingView new
+      → PopsSignal v new answer × IsRestingQueueView new
   popped_by answer l w new is_lent is_rid on told =
-      subst (λ u. PopsSignal v u answer × IsRestingView u) (sym is_rid) (pop_told answer w on (subst (λ x. PopsLent x w answer) is_lent told))
+      subst (λ u. PopsSignal v u answer × IsRestingQueueView u) (sym is_rid) (pop_told answer w on (subst (λ x. PopsLent x w answer) is_lent told))
 
 -- what is known of two passes that were joined
-module _ {v w : QueueView} (rests : IsRestingView v) (others : IsRestingView w) {items : List Signal} (shown : Shown (joined_queue_view v w) items) where
+module _ {v w : QueueView} (rests : IsRestingQueueView v) (others : IsRestingQueueView w) {items : List Signal} (shown : RuleHeld (joined_queue_view v w) items) where
   abbrev joined : QueueView
   joined = joined_queue_view v w
 
   agrees : QueueAgrees shown.2.log joined
   agrees = shown.2.each_view shown.1 joined shown.3
 
-  both_joined : Begins (turns v) (longer (turns v) (turns w)) × Begins (turns w) (longer (turns v) (turns w))
+  both_joined : Begins (turns v) (longer_turns (turns v) (turns w)) × Begins (turns w) (longer_turns (turns v) (turns w))
   both_joined =
       let P : List Turn → Type 0 = λ ts. Begins ts shown.2.log in
       goes_on (turns v) (turns w) shown.2.log (All-head P (turns v) (turns w ∷ v.heard ++ w.heard) agrees.heard)
@@ -178,9 +178,9 @@ module _ {v w : QueueView} (rests : IsRestingView v) (others : IsRestingView w) 
     id = refl;
   }
 
-  pub joined_rests : IsRestingView joined
+  pub joined_rests : IsRestingQueueView joined
   joined_rests =
-      let all = longer (turns v) (turns w) in
+      let all = longer_turns (turns v) (turns w) in
       let P : List Turn → Type 0 = λ ts. Begins ts all in record {
         live = rests.live;
         known = record {

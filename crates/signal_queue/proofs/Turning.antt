@@ -14,7 +14,7 @@ use Rattle.signal_queue.specs.declared.signal.Turn.{Turn}
 use Rattle.signal_queue.specs.declared.signal.Turn.TheVariants.{Pushed, Popped}
 use Rattle.signal_queue.specs.declared.view.QueueView.{QueueView}
 use Rattle.signal_queue.specs.Turns.{AreTurns, popped, pushed, waiting_after}
-use Rattle.signal_queue.specs.Calls.{MakesTurn, Shown}
+use Rattle.signal_queue.specs.Calls.{MakesTurn, RuleHeld}
 use Rattle.signal_queue.specs.Rules.{QueueInvariant}
 use Rattle.signal_queue.proofs.Turns.{legal_pop, legal_push, popped-append, pushed-append, waits_pop, waits_push}
 use Rattle.pass_names.proofs.Counts.{set_there}
@@ -97,5 +97,5 @@ module _ (id : ℕ) (v : QueueView) (live : v.pass.id.live ≡ true) where
       (λ j u apart at_u on. pushed-append inv.log (Popped s ∷ []) ∙ append-nil (pushed inv.log))
       (λ j u apart at_u on. absurd (alone (λ x. x.pops) views inv.one_popper id j v u apart at at_u may on))
 
-  pub learns : Learns QueueInvariant id v (Shown v)
+  pub learns : Learns QueueInvariant id v (RuleHeld v)
   learns items views inv at = (views, id, inv, at)

@@ -43,8 +43,8 @@ PopsSignal old new None = FindsEmpty old new
 -- ---- what the ring tells a pass that has an end
 
 -- at a moment of the call the rule held of these signals, and of this view among others
-abbrev pub Shown : QueueView → List Signal → Type 0
-Shown v items = (views : List QueueView) × (id : ℕ) × QueueInvariant items views × (get_elem? views id ≡ some v)
+abbrev pub RuleHeld : QueueView → List Signal → Type 0
+RuleHeld v items = (views : List QueueView) × (id : ℕ) × QueueInvariant items views × (get_elem? views id ≡ some v)
 
 -- the turn was made after all that the pass was told of, and it has then seen the whole history
 pub record MakesTurn (t : Turn) (old new : QueueView) : Type 0 where
@@ -61,9 +61,9 @@ pub record MakesTurn (t : Turn) (old new : QueueView) : Type 0 where
 -- Queued: the signal was put last. Full: the view stays, and as many signals as there is room for were shown.
 abbrev pub PushesLent : ℕ → QueueView → QueueView → Signal → Push → Type 0
 PushesLent room old new s Queued = MakesTurn (Pushed s) old new
-PushesLent room old new s (Full most) = (most ≡ room) × (new ≡ old) × Held room (Shown old)
+PushesLent room old new s (Full most) = (most ≡ room) × (new ≡ old) × Held room (RuleHeld old)
 
 -- the oldest one was taken off; or the view stays, and no signals were shown
 abbrev pub PopsLent : QueueView → QueueView → Option Signal → Type 0
 PopsLent old new (Some s) = MakesTurn (Popped s) old new
-PopsLent old new None = (new ≡ old) × Held 0 (Shown old)
+PopsLent old new None = (new ≡ old) × Held 0 (RuleHeld old)

@@ -24,7 +24,7 @@ module _ (is_end : SeatOfQueue → SeatOfQueue → Type 0) where
     pub views : (j : ℕ) (v : LockView) → get_elem? s.views j ≡ some v → (v.of ≡ of) × (v.holds ≡ false)
 
   -- one has it
-  pub record IsTaken (of : SeatOfQueue) (s : State (Option SeatOfQueue) LockView) : Type 0 where
+  pub record HasTaker (of : SeatOfQueue) (s : State (Option SeatOfQueue) LockView) : Type 0 where
     pub words : s.words ≡ 1 ∷ []
     pub homes : s.homes ≡ none ∷ []
     pub by : ℕ
@@ -32,7 +32,7 @@ module _ (is_end : SeatOfQueue → SeatOfQueue → Type 0) where
 
   -- the rule of a lock
   abbrev pub IsLock : SeatOfQueue → State (Option SeatOfQueue) LockView → Type 0
-  IsLock of s = IsFree of s ⊎ IsTaken of s
+  IsLock of s = IsFree of s ⊎ HasTaker of s
 
   -- a try: where the word was 0, the end was taken out of its slot
   abbrev pub TriesLock : Step (Option SeatOfQueue) → Me (Option SeatOfQueue) LockView → ℕ → Me (Option SeatOfQueue) LockView → Type 0

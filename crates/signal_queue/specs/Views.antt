@@ -30,7 +30,7 @@ pub record KnowsQueue (v : QueueView) : Type 0 where
   pub all_entries : IsLast v.pass.id → HasEach v.pass.seen v.pass.mine
 
 -- what a pass is like between calls: it has no end, and what it was told of begins what it has seen
-pub record IsRestingView (v : QueueView) : Type 0 where
+pub record IsRestingQueueView (v : QueueView) : Type 0 where
   pub live : v.pass.id.live ≡ true
   pub known : KnowsQueue v
   pub heard : All (λ ts. Begins ts (turns v)) v.heard
@@ -38,8 +38,8 @@ pub record IsRestingView (v : QueueView) : Type 0 where
   pub no_pop : v.pops ≡ false
 
 -- the longer one of two lists
-abbrev pub longer : List Turn → List Turn → List Turn
-longer xs ys = if nat_lt (length xs) (length ys) then ys else xs
+abbrev pub longer_turns : List Turn → List Turn → List Turn
+longer_turns xs ys = if nat_lt (length xs) (length ys) then ys else xs
 
 -- ---- passes
 
@@ -56,14 +56,14 @@ abbrev pub new_queue_view : QueueView → QueueView
 new_queue_view v = record { pass = split_off v.pass; heard = v.heard; room = v.room; pushes = false; pops = false }
 
 -- what two passes have seen and were told of
-abbrev pub all_heard : QueueView → QueueView → List (List Turn)
-all_heard v w = turns v ∷ turns w ∷ v.heard ++ w.heard
+abbrev pub heard_by_both : QueueView → QueueView → List (List Turn)
+heard_by_both v w = turns v ∷ turns w ∷ v.heard ++ w.heard
 
 -- a pass that has taken in another
 abbrev pub joined_queue_view : QueueView → QueueView → QueueView
 joined_queue_view v w = record {
-  pass = record { id = after_retire v.pass.id w.pass.id; seen = longer (turns v) (turns w) ∷ []; mine = v.pass.mine ++ w.pass.mine };
-  heard = all_heard v w;
+  pass = record { id = after_retire v.pass.id w.pass.id; seen = longer_turns (turns v) (turns w) ∷ []; mine = v.pass.mine ++ w.pass.mine };
+  heard = heard_by_both v w;
   room = v.room;
   pushes = false;
   pops = false;
@@ -78,8 +78,8 @@ gone_queue_view = record { pass = record { id = gone_pass_id; seen = []; mine = 
 -- a pass to which an end was lent
 abbrev pub lent_queue_view : QueueView → QueueView → QueueView
 lent_queue_view v w = record v {
-  pass = record v.pass { seen = longer (turns v) (turns w) ∷ [] };
-  heard = all_heard v w;
+  pass = record v.pass { seen = longer_turns (turns v) (turns w) ∷ [] };
+  heard = heard_by_both v w;
   pushes = v.pushes || w.pushes;
   pops = v.pops || w.pops;
 }

@@ -1,7 +1,7 @@
 //! What a caller of a queue holds.
 ghost use Rattle.std.specs.Prelude.{◌≡◌, []};
 ghost use Rattle.crossbeam_queue.specs.Passes.{view};
-ghost use Rattle.signal_queue.specs.Views.{IsRestingView};
+ghost use Rattle.signal_queue.specs.Views.{IsRestingQueueView};
 
 use crate::signal::Signal;
 use crate::view::QueueView;
@@ -18,20 +18,20 @@ pub struct SignalPass {
 
 impl Model for SignalPass {
     ghost use Rattle.std.specs.Prelude.{◌≡◌, []};
-    ghost use Rattle.signal_queue.specs.Views.{IsRestingView, PassOfQueue};
+    ghost use Rattle.signal_queue.specs.Views.{IsRestingQueueView, PassOfQueue};
 
     ghost Value = { PassOfQueue };
 
     ghost view = { λ p. record { queue = p.seat.table_id; knows = p.seat.me.0.client } };
 
-    ghost invariant = { λ p. IsRestingView (p.seat.me.0.client) × (p.seat.me.1 ≡ []) };
+    ghost invariant = { λ p. IsRestingQueueView (p.seat.me.0.client) × (p.seat.me.1 ≡ []) };
 }
 
 impl SignalPass {
     pub(crate) fn into_seat(self) -> QueueSeat
         ensures queue { result.table_id ≡ self.queue }
         ensures knows { view result ≡ self.knows }
-        ensures rests { IsRestingView (view result) × (result.me.1 ≡ []) }
+        ensures rests { IsRestingQueueView (view result) × (result.me.1 ≡ []) }
     {
         let SignalPass { seat } = self;
         seat

@@ -26,9 +26,9 @@ impl Outcome<Signal, QueueView> for Puts {
 }
 
 impl Lesson<Signal, QueueView> for Puts {
-    ghost use Rattle.signal_queue.specs.Calls.{Shown};
+    ghost use Rattle.signal_queue.specs.Calls.{RuleHeld};
 
-    ghost fact = { Shown };
+    ghost fact = { RuleHeld };
 }
 
 /// A pop; and what is shown where nothing waits.
@@ -42,9 +42,9 @@ impl Outcome<Signal, QueueView> for Takes {
 }
 
 impl Lesson<Signal, QueueView> for Takes {
-    ghost use Rattle.signal_queue.specs.Calls.{Shown};
+    ghost use Rattle.signal_queue.specs.Calls.{RuleHeld};
 
-    ghost fact = { Shown };
+    ghost fact = { RuleHeld };
 }
 
 /// A pass is split off, or taken in.

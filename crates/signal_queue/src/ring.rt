@@ -4,7 +4,7 @@ ghost use Rattle.crossbeam_queue.specs.Passes.{IsPassOf, IsSamePass, ruled_capac
 ghost use Rattle.pass_names.specs.Names.{AnswersFor};
 ghost use Rattle.pass_names.specs.Passes.{Retires};
 ghost use Rattle.signal_queue.specs.Calls.{PopsLent, PopsSignal, PushesLent, PushesSignal};
-ghost use Rattle.signal_queue.specs.Views.{IsEndView, IsRestingView, end_queue_view, first_queue_view, lent_queue_view, opened_end, opened_view, rid_queue_view};
+ghost use Rattle.signal_queue.specs.Views.{IsEndView, IsRestingQueueView, end_queue_view, first_queue_view, lent_queue_view, opened_end, opened_view, rid_queue_view};
 
 use crate::pass::QueueSeat;
 use crate::plays::{Child, Loan, Opens, Puts, QueueRule, Room, Takes};
@@ -30,7 +30,7 @@ pub fn open<B: Room>(ring: &Ring, seat: &mut QueueSeat) -> QueueSeat
 /// Lends an end to a seat.
 fn lend(ring: &Ring, seat: &mut QueueSeat, end: QueueSeat)
     requires queue { IsPassOf ring.now seat.old × IsPassOf ring.now end }
-    requires rests { IsRestingView (view seat.old) }
+    requires rests { IsRestingQueueView (view seat.old) }
     requires end { (pushing : Bool) × ((popping : Bool) × IsEndView (view seat.old).room pushing popping (view end)) }
     ensures queue { IsSamePass seat.old seat.new }
     ensures lent { view seat.new ≡ lent_queue_view (view seat.old) (view end) }
@@ -85,11 +85,11 @@ pub fn push_by<R: Wait>(
     signal: Signal,
 ) -> (Push, QueueSeat)
     requires queue { IsPassOf ring.now seat.old × IsPassOf ring.now end }
-    requires rests { IsRestingView (view seat.old) }
+    requires rests { IsRestingQueueView (view seat.old) }
     requires room { (view seat.old).room ≡ ruled_capacity ring.now }
     requires end { IsEndView (view seat.old).room true false (view end) }
     ensures queue { IsSamePass seat.old seat.new × IsPassOf ring.now result.1 }
-    ensures rests { IsRestingView (view seat.new) }
+    ensures rests { IsRestingQueueView (view seat.new) }
     ensures room { (view seat.new).room ≡ (view seat.old).room }
     ensures end { IsEndView (view seat.old).room true false (view result.1) }
     ensures pushes { PushesSignal (ruled_capacity ring.now) (view seat.old) (view seat.new) signal result.0 }
@@ -109,10 +109,10 @@ pub fn pop_by<R: Wait>(
     end: QueueSeat,
 ) -> (Option<Signal>, QueueSeat)
     requires queue { IsPassOf ring.now seat.old × IsPassOf ring.now end }
-    requires rests { IsRestingView (view seat.old) }
+    requires rests { IsRestingQueueView (view seat.old) }
     requires end { IsEndView (view seat.old).room false true (view end) }
     ensures queue { IsSamePass seat.old seat.new × IsPassOf ring.now result.1 }
-    ensures rests { IsRestingView (view seat.new) }
+    ensures rests { IsRestingQueueView (view seat.new) }
     ensures room { (view seat.new).room ≡ (view seat.old).room }
     ensures end { IsEndView (view seat.old).room false true (view result.1) }
     ensures pops { PopsSignal (view seat.old) (view seat.new) result.0 }
@@ -127,10 +127,10 @@ pub fn pop_by<R: Wait>(
 /// A seat takes in another, and learns what both had seen.
 pub fn merge(ring: &Ring, seat: &mut QueueSeat, other: QueueSeat)
     requires queue { IsPassOf ring.now seat.old × IsPassOf ring.now other }
-    requires rests { IsRestingView (view seat.old) × IsRestingView (view other) }
+    requires rests { IsRestingQueueView (view seat.old) × IsRestingQueueView (view other) }
     requires answers { AnswersFor (view seat.old).pass.id (view other).pass.id }
     ensures queue { IsSamePass seat.old seat.new }
-    ensures rests { IsRestingView (view seat.new) }
+    ensures rests { IsRestingQueueView (view seat.new) }
     ensures retires { Retires (view seat.old).pass (view other).pass (view seat.new).pass }
     ensures room { (view seat.new).room ≡ (view seat.old).room }
 {

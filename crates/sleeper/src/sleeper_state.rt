@@ -3,7 +3,7 @@ ghost use Rattle.std.specs.Prelude.{◌≡◌, ◌≤◌, ◌<◌, ◌↔◌, No
 ghost use Rattle.ktime.specs.Times.{last_time};
 ghost use Rattle.timer_setting.specs.Arguments.{time_of};
 ghost use Rattle.timer_setting.specs.Phases.{IsOutcomeOf};
-ghost use Rattle.timer_setting.specs.Settimes.{most_entries};
+ghost use Rattle.timer_setting.specs.Settimes.{most_object_entries};
 ghost use Rattle.timer_setting.specs.StepTables.{IsAnswered};
 ghost use Rattle.sleeper.specs.States.{Sleeper, SleeperInvariant, is_free, sleep_left, sleeper_opening, timer_of};
 ghost use Rattle.sleeper.specs.Steps.{SleeperAllows, end_of, fallen_asleep, has_come, interrupt_refusal, interrupted, sleep_answer, sleep_refusal, sleep_wanted, sleeper_answer, sleeper_step, sleeper_table, sleeper_trigger_refusal, slept_answer};
@@ -45,7 +45,7 @@ impl SleeperState {
     /// A sleeper that is free. At `max_events` entries its history is full.
     pub fn make(clock: ClockId, base: u32, max_events: u64) -> SleeperState
         requires some { 0 < max_events }
-        requires few { max_events ≤ most_entries }
+        requires few { max_events ≤ most_object_entries }
         ensures { result ≡ sleeper_opening clock base max_events }
     {
         SleeperState {

@@ -2,8 +2,7 @@
 ghost use Rattle.std.specs.Prelude.{◌≤◌, OnOk};
 
 use counted_row::RowPass;
-use expire_pass::Log;
-use hr_timers::{Pass, Timers};
+use hr_timers::{Log, Pass, Timers};
 use ktime::{ClockId, Reading};
 use object_uses::{expire_objects, read_count, set_timer};
 use seq_timer::{Declared, Terms};

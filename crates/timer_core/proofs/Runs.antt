@@ -10,7 +10,7 @@ use Rattle.seq_timer.specs.Histories.{Entry, AreSteps, after_all}
 use Rattle.seq_timer.specs.Tables.{no_declared, no_timer, timer_at}
 use Rattle.seq_timer.specs.Calls.{step_all, entries_along}
 use Rattle.timer_core.specs.Kept.{Kept, AreAllowed, Makes, opened}
-use Rattle.timer_core.specs.Runs.{AreCalls, Call, history_along}
+use Rattle.timer_core.specs.Runs.{MakeCalls, Call, history_along}
 
 -- entries are steps in turn from one state to the other
 abbrev pub LeadsTo : Timer → List Entry → Timer → Type 0
@@ -23,7 +23,7 @@ LeadsTo-entries_along t end [] more allowed leads = leads
 LeadsTo-entries_along t end (e ∷ es) more allowed leads =
     let rest = LeadsTo-entries_along (after t e) end es more allowed.1 leads in ((allowed.0, refl, rest.0), rest.1)
 
-pub leads_along : (old new : Kept) (calls : List Call) (id : ℕ) → AreCalls old calls new
+pub leads_along : (old new : Kept) (calls : List Call) (id : ℕ) → MakeCalls old calls new
     → LeadsTo (timer_at old.timers id) (history_along id (timer_at old.timers id) calls) (timer_at new.timers id)
 leads_along old new [] id run = (tt, ap (λ (k : Kept). timer_at k.timers id) (sym run))
 leads_along old new (c ∷ cs) id run =
@@ -44,7 +44,7 @@ pub timer_at-opened : (bases : ℕ) (terms : Terms) (id : ℕ) (list : List Decl
     → timer_at (opened bases list terms).timers id ≡ opening (get_or list id no_declared) terms
 timer_at-opened bases terms id list there = get_or-map (λ clock. opening clock terms) list id no_declared no_timer there
 
-pub legal_along : (bases : ℕ) (terms : Terms) (id : ℕ) (list : List Declared) (calls : List Call) (end : Kept) → AreCalls (opened bases list terms) calls end
+pub legal_along : (bases : ℕ) (terms : Terms) (id : ℕ) (list : List Declared) (calls : List Call) (end : Kept) → MakeCalls (opened bases list terms) calls end
     → id < length list → LeadsTo (opening (get_or list id no_declared) terms)
     (history_along id (opening (get_or list id no_declared) terms) calls) (timer_at end.timers id)
 legal_along bases terms id list calls end run there = subst (λ t. LeadsTo t (history_along id t calls) (timer_at end.timers id))

@@ -12,9 +12,9 @@ pub record Call : Type 0 where
   pub events : List Event
 
 -- these calls in turn lead from one to the other
-abbrev pub AreCalls : Kept → List Call → Kept → Type 0
-AreCalls old [] new = new ≡ old
-AreCalls old (c ∷ cs) new = (mid : Kept) × Makes old c.timer c.events mid × AreCalls mid cs new
+abbrev pub MakeCalls : Kept → List Call → Kept → Type 0
+MakeCalls old [] new = new ≡ old
+MakeCalls old (c ∷ cs) new = (mid : Kept) × Makes old c.timer c.events mid × MakeCalls mid cs new
 
 -- the entries of one timer along calls
 abbrev pub history_along : ℕ → Timer → List Call → List Entry

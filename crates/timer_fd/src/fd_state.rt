@@ -3,7 +3,7 @@ ghost use Rattle.std.specs.Prelude.{◌≡◌, ◌≤◌, ◌<◌, ◌↔◌, �
 ghost use Rattle.ktime.specs.Times.{last_time, second};
 ghost use Rattle.timer_setting.specs.Arguments.{bits_beyond, time_of};
 ghost use Rattle.timer_setting.specs.Phases.{IsOutcomeOf};
-ghost use Rattle.timer_setting.specs.Settimes.{most_entries};
+ghost use Rattle.timer_setting.specs.Settimes.{most_object_entries};
 ghost use Rattle.timer_setting.specs.StepTables.{IsAnswered};
 ghost use Rattle.timer_fd.specs.States.{Descriptor, AreFdArguments, FdInvariant, fd_flags, fd_opening, is_canceled, is_readable};
 ghost use Rattle.timer_fd.specs.Steps.{FdAllows, count_length, fd_answer, fd_got, fd_read, fd_read_answer, fd_set, fd_settime_answer, fd_settime_wanted, fd_settime_refusal, fd_step, fd_table, fd_trigger_refusal, gettime_refusal, gettime_wanted, read_refusal, read_wanted, total_of};
@@ -48,7 +48,7 @@ impl FdState {
     /// A descriptor whose timer is disarmed. At `max_events` entries its history is full.
     pub fn make(clock: ClockId, base: u32, max_events: u64) -> FdState
         requires some { 0 < max_events }
-        requires few { max_events ≤ most_entries }
+        requires few { max_events ≤ most_object_entries }
         ensures { result ≡ fd_opening clock base max_events }
     {
         FdState {

@@ -20,7 +20,7 @@ use Rattle.timer_objects.specs.declared.wanting.Ended.{Ended}
 use Rattle.timer_objects.specs.declared.wanting.Ended.TheVariants as ends
 use Rattle.timer_objects.specs.Steps.{IsObjectOf, ObjectAllows}
 use Rattle.timer_objects.specs.Meaning.{object_meaning}
-use Rattle.timer_objects.specs.Known.{Enters, HoldsObject, IsObjectsPass, ObjectsOf, ObjectsPass, Suits, decl_at, receipt_of, row_of}
+use Rattle.timer_objects.specs.Known.{EntersObjectCall, HoldsObject, IsObjectsPass, ObjectsOf, ObjectsPass, Suits, decl_at, receipt_of, row_of}
 use Rattle.timer_objects.specs.Arming.{ArmsFor, Disarms}
 use Rattle.timer_objects.specs.Calls.{Caller, HasWaited, RearmingMade, rearming_call, wanted_by}
 use Rattle.timer_objects.specs.Turns.{HasTurn}
@@ -57,12 +57,12 @@ module _ (x : ObjectsOf) (id : ℕ) (h : Locked Object) (index : h.index ≡ id)
     done = record { timers = z; objects = q; log = log'; object_log = olog' }
 
     -- its turn, by the number of entries before its own
-    turn_at : {call : ObjectCall} (e : Enters m q h call reply) → HasTurn id (length (commits x p m q id h call reply locks row isq e).adds.before) u v w z
+    turn_at : {call : ObjectCall} (e : EntersObjectCall m q h call reply) → HasTurn id (length (commits x p m q id h call reply locks row isq e).adds.before) u v w z
     turn_at {call} e = subst (λ n. HasTurn id n u v w z) (sym (stamp_before x p m q id h call reply locks row isq e)) turn
 
     -- law: a call that arms the timer again was made
     pub rearms : (r : Rearming) (reading : ClockReading) → HasRearming r d.kind
-        → ArmsFor o v w id (wanted_by r h.state reading) d.base reading arm log log' → Enters m q h (rearming_call r reading arm) reply
+        → ArmsFor o v w id (wanted_by r h.state reading) d.base reading arm log log' → EntersObjectCall m q h (rearming_call r reading arm) reply
         → olog' ≡ olog ++ receipt_of h (rearming_call r reading arm) ∷ []
         → (made : MakesEntry x o begun done id r reading reply) × (made.0.enters.commits.state ≡ h.state)
     rearms r reading kind armed e noted = (
@@ -85,7 +85,7 @@ module _ (x : ObjectsOf) (id : ℕ) (h : Locked Object) (index : h.index ≡ id)
     pub anews_made : (call : Anew) → Suits x o → id < length x.decls → IsValidAnew d.kind call → refuses call h.state ≡ false
         → (disarmed : KnownOfTimers) (cancel_log : List Receipt) → Disarms o v disarmed id log cancel_log
         → ArmsFor o disarmed w id (anew_wanted d.clock call) d.base (anew_reading call) arm cancel_log log'
-        → Enters m q h (anew_call call arm) reply → olog' ≡ olog ++ receipt_of h (anew_call call arm) ∷ []
+        → EntersObjectCall m q h (anew_call call arm) reply → olog' ≡ olog ++ receipt_of h (anew_call call arm) ∷ []
         → EndsAnew x o begun done id call (endings.Made reply)
     anews_made call suits within valid taken disarmed cancel_log disarms arms e noted = (
       record {

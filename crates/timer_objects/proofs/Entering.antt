@@ -11,7 +11,7 @@ use Rattle.timer_setting.specs.declared.object_call.ObjectCall.{ObjectCall}
 use Rattle.timer_setting.specs.declared.object_call.ObjectReply.{ObjectReply}
 use Rattle.timer_objects.specs.Steps.{IsObjectOf, object_answer}
 use Rattle.timer_objects.specs.Meaning.{object_meaning}
-use Rattle.timer_objects.specs.Known.{Enters, IsObjectsPass, ObjectsOf, ObjectsPass, decl_at, receipt_of, row_of, seen_of}
+use Rattle.timer_objects.specs.Known.{EntersObjectCall, IsObjectsPass, ObjectsOf, ObjectsPass, decl_at, receipt_of, row_of, seen_of}
 use Rattle.timer_objects.specs.Calls.{Caller, EntersCall}
 use Rattle.timer_objects.proofs.Counting.{state_is}
 
@@ -20,7 +20,7 @@ one_behind : {E : Type 0} (a b : Pass E) (i : ℕ) (e : E) (adds : Adds a b i (e
 one_behind a b i e adds = omega (arith, ap length adds.last, length-append adds.before (e ∷ []))
 
 module _ (x : ObjectsOf) (p m q : ObjectsPass) (id : ℕ) (h : Locked Object) (call : ObjectCall) (answer : ObjectReply)
-    (locks : Locks object_meaning p m id h) (row : IsPassOfRow (row_of x) m) (is : IsObjectsPass x q) (enters : Enters m q h call answer) where
+    (locks : Locks object_meaning p m id h) (row : IsPassOfRow (row_of x) m) (is : IsObjectsPass x q) (enters : EntersObjectCall m q h call answer) where
   abbrev pub commits : Commits object_meaning p q id call
   commits = commits_of {r = row_of x} locks row is.row
       (subst (λ r. Adds m.knows.pass q.knows.pass h.index (record { call = call; reply = r } ∷ [])) enters.reply enters.adds) enters.knows is.knows

@@ -5,8 +5,8 @@ use Rattle.ktime.specs.Readings.{ClockReading}
 use Rattle.base_row.specs.declared.view.Opening.{Opening}
 use Rattle.hr_timers.specs.declared.numbers.ClaimNumbers.{ClaimNumbers}
 use Rattle.hr_timers.specs.Known.{KnownOfTimers}
-use Rattle.expire_pass.specs.declared.expiry.ExpireAnswer.{ExpireAnswer}
-use Rattle.expire_pass.specs.declared.handler.Restart.{Restart}
+use Rattle.hr_timers.specs.declared.expiry.ExpireAnswer.{ExpireAnswer}
+use Rattle.hr_timers.specs.declared.handler.Restart.{Restart}
 use Rattle.base_row.specs.declared.log.Receipt.{Receipt}
 use Rattle.counted_row.specs.Views.{IsPassOfRow, Knows}
 use Rattle.timer_setting.specs.declared.object_call.ObjectCall.{ObjectCall}
@@ -14,8 +14,8 @@ use Rattle.timer_objects.specs.Meaning.{object_meaning}
 use Rattle.timer_objects.specs.Firings.{Fires, FiresBy, Firing, IsSameLoan, LeavesPass, firing}
 use Rattle.timer_objects.specs.Known.{IsObjectsPass, KeepsObjectsPass, ObjectsOf, ObjectsPass, row_of}
 use Rattle.seq_timer.specs.declared.context.Context.{Context}
-use Rattle.expire_pass.specs.Expiring.{Expires}
-use Rattle.expire_pass.proofs.Leaving.{run_leaves}
+use Rattle.hr_timers.specs.Expiring.{Expires}
+use Rattle.hr_timers.proofs.ExpiryEnds.{run_leaves}
 use Rattle.pass_names.specs.Passes.{Adds, Begins, Looks}
 use Rattle.pass_names.proofs.Passes.{begins_refl, begins_trans, goes_refl, goes_trans}
 

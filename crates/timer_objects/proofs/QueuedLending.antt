@@ -6,10 +6,10 @@ use Rattle.base_row.specs.declared.log.Receipt.{Receipt}
 use Rattle.hr_timers.specs.declared.numbers.ClaimNumbers.{ClaimNumbers}
 use Rattle.hr_timers.specs.Known.{KnownOfTimers}
 use Rattle.seq_timer.specs.declared.context.Context.{Context}
-use Rattle.expire_pass.specs.declared.expiry.ExpireAnswer.{ExpireAnswer}
-use Rattle.expire_pass.specs.declared.handler.Restart.{Restart}
-use Rattle.expire_pass.specs.Expiring.{Expires}
-use Rattle.expire_pass.proofs.Leaving.{run_leaves}
+use Rattle.hr_timers.specs.declared.expiry.ExpireAnswer.{ExpireAnswer}
+use Rattle.hr_timers.specs.declared.handler.Restart.{Restart}
+use Rattle.hr_timers.specs.Expiring.{Expires}
+use Rattle.hr_timers.proofs.ExpiryEnds.{run_leaves}
 use Rattle.counted_row.specs.Views.{Knows}
 use Rattle.signal_queue.specs.Views.{PassOfQueue}
 use Rattle.timer_setting.specs.declared.object_call.ObjectCall.TheVariants as calls
@@ -18,7 +18,7 @@ use Rattle.timer_objects.specs.declared.object.Kind.TheVariants as kinds
 use Rattle.timer_objects.specs.Known.{IsObjectsPass, KeepsObjectsPass, ObjectsOf, ObjectsPass}
 use Rattle.timer_objects.specs.Meaning.{object_meaning}
 use Rattle.timer_objects.specs.QueuedFirings.{FiresKind, IsSameQueuedLoan, LeavesQueued, QueuedFiring, queued_firing}
-use Rattle.timer_objects.specs.Signals.{FiresQueued, IsSentBy, IsSignalPass, KeepsSignalPass}
+use Rattle.timer_objects.specs.Signals.{FiresQueued, IsPushedBy, IsSignalPass, KeepsSignalPass}
 use Rattle.timer_objects.specs.Triggers.{Triggers}
 use Rattle.signal_queue.specs.declared.view.QueueView.{QueueView}
 use Rattle.signal_queue.specs.declared.signal.Turn.{Turn}
@@ -67,7 +67,7 @@ queued_trans h i j a b = record {
 }
 
 -- a signal that was sent, or none, leaves the queue's pass so
-signals_sent : (sends : Bool) (s t : QueueView) (id number : ℕ) → IsSentBy sends s t id number → KeepsSignalPass s t
+signals_sent : (sends : Bool) (s t : QueueView) (id number : ℕ) → IsPushedBy sends s t id number → KeepsSignalPass s t
 signals_sent true s t id number sent = signals_taken s t _ sent.0
 signals_sent false s t id number same = signals_alone s t same
 

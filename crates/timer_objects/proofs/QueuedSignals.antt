@@ -29,7 +29,7 @@ use Rattle.timer_objects.specs.Known.{ObjectsOf, ObjectsPass}
 use Rattle.timer_objects.specs.Rearming.{EndsAt}
 use Rattle.timer_objects.specs.declared.signals.NextSignal.{NextSignal}
 use Rattle.timer_objects.specs.declared.signals.NextSignal.TheVariants as nexts
-use Rattle.timer_objects.specs.Signals.{AcceptsSignal, FiresQueued, IsQueued, IsSentBy, Overflows, PushesFor, Sends, TakesNext, TakesOldest, TakesSignal, object_fresh, object_sends}
+use Rattle.timer_objects.specs.Signals.{AcceptsSignal, FiresQueued, IsQueued, IsPushedBy, Overflows, PushesFor, Sends, TakesNext, TakesOldest, TakesSignal, object_fresh, object_sends}
 use Rattle.timer_objects.specs.Steps.{kind_over, object_answer}
 use Rattle.timer_objects.specs.Triggers.{EntersTrigger}
 
@@ -42,12 +42,12 @@ module _ (x : ObjectsOf) (p q : ObjectsPass) (log log' : List ObjectReceipt) (v 
   Enters call =
       (made : EntersTrigger x p q log log' v w id call) × (made.commits.state ≡ object) × (length made.commits.adds.before ≡ stamp)
 
-  sends_by : Enters (calls.Trigger generation reading) → IsSentBy (object_sends object generation reading) s t id (stamp + 1)
+  sends_by : Enters (calls.Trigger generation reading) → IsPushedBy (object_sends object generation reading) s t id (stamp + 1)
       → Sends x p q log log' v w s t id generation reading
   sends_by made sent = record {
     enters = made.0;
-    sent = subst (λ o. IsSentBy (object_sends o generation reading) s t id (length made.0.commits.adds.before + 1)) (sym made.1)
-        (subst (λ n. IsSentBy (object_sends object generation reading) s t id (n + 1)) (sym made.2) sent);
+    sent = subst (λ o. IsPushedBy (object_sends o generation reading) s t id (length made.0.commits.adds.before + 1)) (sym made.1)
+        (subst (λ n. IsPushedBy (object_sends object generation reading) s t id (n + 1)) (sym made.2) sent);
   }
 
   -- law: an expiry whose call was entered after its signal was put into the queue, if it counts

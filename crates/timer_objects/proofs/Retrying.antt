@@ -23,7 +23,7 @@ use Rattle.timer_objects.specs.Known.{IsObjectsPass, ObjectsOf, ObjectsPass, row
 use Rattle.timer_objects.specs.declared.object.Object.{Object}
 use Rattle.timer_setting.specs.declared.object_call.ObjectCall.{ObjectCall}
 use Rattle.timer_objects.specs.Arming.{ArmsFor, DisarmsInTurn}
-use Rattle.timer_objects.specs.Calls.{Caller, EntersCall, FindsFull, HasWaited, LooksAtObject}
+use Rattle.timer_objects.specs.Calls.{Caller, EntersCall, FindsHistoryFull, HasWaited, LooksAtObject}
 use Rattle.timer_objects.specs.Turns.{BeginsTurn, HasTurn, turns_told}
 use Rattle.timer_objects.specs.Waiting.{HasToWait, IsHindered}
 
@@ -58,7 +58,7 @@ module _ {a b c : Caller} where
   }
 
   -- a history that was found full behind looks
-  pub full_after : {x : ObjectsOf} {id n : ℕ} → HasWaited a b → FindsFull x b c id n → FindsFull x a c id n
+  pub full_after : {x : ObjectsOf} {id n : ℕ} → HasWaited a b → FindsHistoryFull x b c id n → FindsHistoryFull x a c id n
   full_after waits found = record {
     looks = looks_trans a.timers b.timers c.timers waits.timers found.looks;
     reads = reads_after waits.objects found.reads;

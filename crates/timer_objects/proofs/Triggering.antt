@@ -12,7 +12,7 @@ use Rattle.timer_objects.specs.declared.log.ObjectReceipt.{ObjectReceipt}
 use Rattle.timer_setting.specs.declared.object_call.ObjectReply.{ObjectReply}
 use Rattle.timer_objects.specs.Steps.{object_answer}
 use Rattle.timer_objects.specs.Meaning.{object_meaning}
-use Rattle.timer_objects.specs.Known.{Enters, IsObjectsPass, ObjectsOf, ObjectsPass, receipt_of, row_of, seen_of}
+use Rattle.timer_objects.specs.Known.{EntersObjectCall, IsObjectsPass, ObjectsOf, ObjectsPass, receipt_of, row_of, seen_of}
 use Rattle.timer_objects.specs.Triggers.{EntersTrigger}
 use Rattle.timer_objects.specs.Turns.{HasTurn}
 use Rattle.timer_objects.proofs.Counting.{state_is}
@@ -29,7 +29,7 @@ module _ (x : ObjectsOf) (p m q : ObjectsPass) (id : ℕ) (h : Locked Object) (c
     pub state : made.commits.state ≡ h.state
     pub before : length made.commits.adds.before ≡ h.stamp
 
-  pub entered_held : (answer : ObjectReply) → Enters m q h call answer → h.stamp < x.limit → log' ≡ log ++ receipt_of h call ∷ []
+  pub entered_held : (answer : ObjectReply) → EntersObjectCall m q h call answer → h.stamp < x.limit → log' ≡ log ++ receipt_of h call ∷ []
       → (v begun w : KnownOfTimers) → HasTurn id h.stamp v begun begun w → EntersHeld v w
   entered_held answer enters room noted v begun w turn =
       let told = subst (λ r. Adds m.knows.pass q.knows.pass h.index (record { call = call; reply = r } ∷ [])) enters.reply enters.adds in
@@ -54,6 +54,6 @@ module _ (x : ObjectsOf) (p m q : ObjectsPass) (id : ℕ) (h : Locked Object) (c
         };
       }
 
-  pub entered : (answer : ObjectReply) → Enters m q h call answer → h.stamp < x.limit → log' ≡ log ++ receipt_of h call ∷ []
+  pub entered : (answer : ObjectReply) → EntersObjectCall m q h call answer → h.stamp < x.limit → log' ≡ log ++ receipt_of h call ∷ []
       → (v begun w : KnownOfTimers) → HasTurn id h.stamp v begun begun w → EntersTrigger x p q log log' v w id call
   entered answer enters room noted v begun w turn = (entered_held answer enters room noted v begun w turn).made

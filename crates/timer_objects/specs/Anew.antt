@@ -33,7 +33,7 @@ use Rattle.timer_objects.specs.declared.object.Object.{Object}
 use Rattle.timer_objects.specs.declared.object.Object.TheVariants as objects
 use Rattle.timer_objects.specs.Known.{ObjectsOf, decl_at}
 use Rattle.timer_objects.specs.Arming.{ArmsFor, Disarms}
-use Rattle.timer_objects.specs.Calls.{ArmsAnew, Caller, FindsFull, HasSetting, LooksAtObject, flags_of, settime_by, sleep_by}
+use Rattle.timer_objects.specs.Calls.{ArmsAnew, Caller, FindsHistoryFull, HasSetting, LooksAtObject, flags_of, settime_by, sleep_by}
 use Rattle.timer_objects.specs.Turns.{BeginsTurn}
 
 -- the arguments of a settime are valid for an object of this kind
@@ -109,7 +109,7 @@ RepliesAnew (anews.Interrupt reading) reply = (a : InterruptAnswer) × (reply �
 
 -- a call found the object's history full; or that it had room, but the object refuses the call; or it made an entry with this reply
 abbrev pub EndsAnew : ObjectsOf → Opening → Caller → Caller → ℕ → Anew → EndedAnew → Type 0
-EndsAnew x o old new id call (endings.Full n) = FindsFull x old new id n
+EndsAnew x o old new id call (endings.Full n) = FindsHistoryFull x old new id n
 EndsAnew x o old new id call (endings.Refused n) = (object : Object) × LooksAtObject old new id object n × (n < x.limit) × (refuses call object ≡ true)
 EndsAnew x o old new id call (endings.Made reply) =
     ArmsAnew x o old new id (anew_call call) (anew_wanted (decl_at x id).clock call) (anew_reading call) reply × RepliesAnew call reply

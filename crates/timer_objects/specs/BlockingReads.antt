@@ -20,7 +20,7 @@ use Rattle.timer_setting.specs.declared.object_call.ObjectReply.{ObjectReply}
 use Rattle.timer_objects.specs.declared.wanting.Ended.{Ended}
 use Rattle.timer_objects.specs.declared.wanting.Ended.TheVariants as ends
 use Rattle.timer_objects.specs.declared.wanting.Rearming.TheVariants as rearmings
-use Rattle.timer_objects.specs.Calls.{Caller, FindsFull, RearmingMade}
+use Rattle.timer_objects.specs.Calls.{Caller, FindsHistoryFull, RearmingMade}
 use Rattle.timer_objects.specs.Known.{ObjectsOf, seen_of}
 use Rattle.timer_objects.specs.Rearming.{MakesEntry, RepliesTo}
 
@@ -54,7 +54,7 @@ pub record ReadsSome (x : ObjectsOf) (o : Opening) (old new : Caller) (id : ℕ)
 -- is full; else it has read something. Where the clock was set back before the expiry that was counted, nothing is left to be told, and it answers zero.
 abbrev pub ReadsBlocking : ObjectsOf → Opening → Caller → Caller → ℕ → ℕ → ClockReading → BlockingRead → Type 0
 ReadsBlocking x o old new id len reading blocking.ShortBuffer = (len < count_length) × (new ≡ old)
-ReadsBlocking x o old new id len reading (blocking.Spent n) = (count_length ≤ len) × FindsFull x old new id n
+ReadsBlocking x o old new id len reading (blocking.Spent n) = (count_length ≤ len) × FindsHistoryFull x old new id n
 ReadsBlocking x o old new id len reading (blocking.Count total) =
     (count_length ≤ len) × (0 < total) × (r : ReadsSome x o old new id reading (reads.Count total)) × (total ≡ total_in r.descriptor reading)
 ReadsBlocking x o old new id len reading blocking.Zero =
@@ -70,7 +70,7 @@ HasSome reading object = (t : Descriptor) × (object ≡ objects.Fd t) × (is_re
 
 -- a turn ended the read: its history was full, or an entry was made, of a descriptor that had something to read
 abbrev pub EndsRead : ObjectsOf → Opening → Caller → Caller → ℕ → ClockReading → Ended → Type 0
-EndsRead x o old new id reading (ends.Full n) = FindsFull x old new id n
+EndsRead x o old new id reading (ends.Full n) = FindsHistoryFull x old new id n
 EndsRead x o old new id reading (ends.Made n reply) =
     (made : MakesEntry x o old new id rearmings.Reading reading reply) × HasSome reading made.0.enters.commits.state × (n ≡ length (seen_of new.objects id))
 

@@ -69,7 +69,7 @@ pub record HasWaited (old new : Caller) : Type 0 where
   pub object_log : new.object_log ≡ old.object_log
 
 -- The history of the object is full. Nothing was done but to look at it, and so many entries stood there at a moment at which no call had its turn.
-pub record FindsFull (x : ObjectsOf) (old new : Caller) (id n : ℕ) : Type 0 where
+pub record FindsHistoryFull (x : ObjectsOf) (old new : Caller) (id n : ℕ) : Type 0 where
   pub looks : LooksOn old.timers new.timers
   pub reads : ReadsValue object_meaning old.objects new.objects id
   pub full : x.limit ≤ n
@@ -148,7 +148,7 @@ SetsTimer x o old new id flags value interval reading a =
 
 -- a settime with valid arguments: it is refused exactly where the object's history is full
 abbrev pub SettimeMade : ObjectsOf → Opening → Caller → Caller → ℕ → ℕ → ℕ → ℕ → ClockReading → SettimeAnswer → Type 0
-SettimeMade x o old new id flags value interval reading (settings.Spent n) = FindsFull x old new id n
+SettimeMade x o old new id flags value interval reading (settings.Spent n) = FindsHistoryFull x old new id n
 SettimeMade x o old new id flags value interval reading (settings.Old left was) = SetsTimer x o old new id flags value interval reading (settings.Old left was)
 SettimeMade x o old new id flags value interval reading (settings.Unarmed n) = SetsTimer x o old new id flags value interval reading (settings.Unarmed n)
 SettimeMade x o old new id flags value interval reading settings.Canceled = SetsTimer x o old new id flags value interval reading settings.Canceled
@@ -206,7 +206,7 @@ pub record RearmingMade (x : ObjectsOf) (o : Opening) (old new : Caller) (id : �
 
 -- an accept: it is refused exactly where the object's history is full
 abbrev pub Accepts : ObjectsOf → Opening → Caller → Caller → ℕ → ClockReading → AcceptAnswer → Type 0
-Accepts x o old new id reading (acceptances.Spent n) = FindsFull x old new id n
+Accepts x o old new id reading (acceptances.Spent n) = FindsHistoryFull x old new id n
 Accepts x o old new id reading (acceptances.Accepted overrun) =
     RearmingMade x o old new id rearmings.Accepting reading (replies.Accept (acceptances.Accepted overrun))
 Accepts x o old new id reading acceptances.NoSignal =
@@ -215,7 +215,7 @@ Accepts x o old new id reading acceptances.NoSignal =
 -- a read: a buffer that is too short is refused first, and nothing is other than before
 abbrev pub ReadsFd : ObjectsOf → Opening → Caller → Caller → ℕ → ℕ → ClockReading → ReadAnswer → Type 0
 ReadsFd x o old new id len reading reads.ShortBuffer = (len < count_length) × (new ≡ old)
-ReadsFd x o old new id len reading (reads.Spent n) = (count_length ≤ len) × FindsFull x old new id n
+ReadsFd x o old new id len reading (reads.Spent n) = (count_length ≤ len) × FindsHistoryFull x old new id n
 ReadsFd x o old new id len reading (reads.Count total) =
     (count_length ≤ len) × RearmingMade x o old new id rearmings.Reading reading (replies.Read (reads.Count total))
 ReadsFd x o old new id len reading reads.Canceled =
@@ -242,7 +242,7 @@ Gettimes x o old new id reading kinds.Posix (gettimes.Left left interval stamp) 
 Gettimes x o old new id reading kinds.Posix (gettimes.Spent stamp) = ⊥
 Gettimes x o old new id reading kinds.Fd (gettimes.Left left interval stamp) =
     RearmingMade x o old new id rearmings.Getting reading (replies.Gettime (lefts.Left left interval)) × (stamp ≡ length (seen_of new.objects id))
-Gettimes x o old new id reading kinds.Fd (gettimes.Spent n) = FindsFull x old new id n
+Gettimes x o old new id reading kinds.Fd (gettimes.Spent n) = FindsHistoryFull x old new id n
 Gettimes x o old new id reading kinds.Queued (gettimes.Left left interval stamp) =
     (t : _) × LooksAtObject old new id (objects.Queued t) stamp × (record { left = left; interval = interval } ≡ setting_of t.timer reading)
 Gettimes x o old new id reading kinds.Queued (gettimes.Spent stamp) = ⊥
@@ -278,7 +278,7 @@ FindsSleeper x old new id n free = (s : Sleeper) × LooksAtObject old new id (ob
 abbrev pub SleepMade : ObjectsOf → Opening → Caller → Caller → ℕ → ℕ → ℕ → ClockReading → SleepAnswer → Type 0
 SleepMade x o old new id flags time reading sleeps.BadFlags = ⊥
 SleepMade x o old new id flags time reading sleeps.BadTime = ⊥
-SleepMade x o old new id flags time reading (sleeps.Spent n) = FindsFull x old new id n
+SleepMade x o old new id flags time reading (sleeps.Spent n) = FindsHistoryFull x old new id n
 SleepMade x o old new id flags time reading (sleeps.Occupied n) = FindsSleeper x old new id n false
 SleepMade x o old new id flags time reading a =
     ArmsAnew x o old new id (sleep_by flags time reading) (sleep_start (decl_at x id).clock flags time reading) reading (replies.Sleep a)
@@ -290,7 +290,7 @@ Sleeps x o old new id flags time reading a =
 
 -- an interrupt, which starts nothing: it is refused exactly where the sleeper's history is full, or else the sleeper is free
 abbrev pub Interrupts : ObjectsOf → Opening → Caller → Caller → ℕ → ClockReading → InterruptAnswer → Type 0
-Interrupts x o old new id reading (interrupts.Spent n) = FindsFull x old new id n
+Interrupts x o old new id reading (interrupts.Spent n) = FindsHistoryFull x old new id n
 Interrupts x o old new id reading (interrupts.Awake n) = FindsSleeper x old new id n true
 Interrupts x o old new id reading a = ArmsAnew x o old new id (λ arm. calls.Interrupt reading) None reading (replies.Interrupt a)
 

@@ -55,7 +55,7 @@ abbrev pub HoldsObject : ObjectsOf → Locked Object → Type 0
 HoldsObject x h = IsObjectOf (decl_at x h.index) x.limit h.stamp h.state
 
 -- a pass that holds an object may make this call on it
-pub record MayEnter (x : ObjectsOf) (p : ObjectsPass) (h : Locked Object) (id : ℕ) (call : ObjectCall) : Type 0 where
+pub record MayEnterCall (x : ObjectsOf) (p : ObjectsPass) (h : Locked Object) (id : ℕ) (call : ObjectCall) : Type 0 where
   pub row : IsPassOfRow (row_of x) p
   pub unclaimed : p.knows.claims ≡ []
   pub held : p.knows.held ≡ Some h
@@ -64,7 +64,7 @@ pub record MayEnter (x : ObjectsOf) (p : ObjectsPass) (h : Locked Object) (id : 
   pub may : ObjectAllows h.state call
 
 -- a pass has made this call on the object that it held, and holds none
-pub record Enters (p q : ObjectsPass) (h : Locked Object) (call : ObjectCall) (answer : ObjectReply) : Type 0 where
+pub record EntersObjectCall (p q : ObjectsPass) (h : Locked Object) (call : ObjectCall) (answer : ObjectReply) : Type 0 where
   pub row : q.row ≡ p.row
   pub knows : q.knows ≡ committed object_meaning h call p.knows
   pub adds : Adds p.knows.pass q.knows.pass h.index (record { call = call; reply = answer } ∷ [])

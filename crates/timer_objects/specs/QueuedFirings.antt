@@ -5,9 +5,9 @@ use Rattle.pass_names.specs.SharedHistory.{LooksOn}
 use Rattle.base_row.specs.declared.view.Opening.{Opening}
 use Rattle.hr_timers.specs.declared.numbers.ClaimNumbers.{ClaimNumbers}
 use Rattle.hr_timers.specs.Known.{KnownOfTimers}
-use Rattle.expire_pass.specs.Handlers.{Meaning}
-use Rattle.expire_pass.specs.declared.handler.Restart.{Restart}
-use Rattle.expire_pass.specs.declared.handler.Restart.TheVariants as restarts
+use Rattle.hr_timers.specs.Handlers.{Meaning}
+use Rattle.hr_timers.specs.declared.handler.Restart.{Restart}
+use Rattle.hr_timers.specs.declared.handler.Restart.TheVariants as restarts
 use Rattle.base_row.specs.declared.log.Receipt.{Receipt}
 use Rattle.base_row.specs.Logs.{LogOf}
 use Rattle.timer_objects.specs.declared.callback.Callback.TheVariants as callbacks

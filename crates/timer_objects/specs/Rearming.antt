@@ -26,7 +26,7 @@ use Rattle.counted_row.specs.Views.{IsPassOfRow, Locks}
 use Rattle.timer_objects.specs.Meaning.{object_meaning}
 use Rattle.timer_objects.specs.declared.log.ObjectReceipt.{ObjectReceipt}
 use Rattle.timer_objects.specs.Known.{HoldsObject, IsObjectsPass, ObjectsOf, ObjectsPass, Suits, row_of, seen_of}
-use Rattle.timer_objects.specs.Calls.{Caller, FindsFull, IsPosixKind, RearmingMade}
+use Rattle.timer_objects.specs.Calls.{Caller, FindsHistoryFull, IsPosixKind, RearmingMade}
 use Rattle.timer_objects.specs.Steps.{object_timer}
 use Rattle.timer_objects.specs.Turns.{turns_told}
 use Rattle.base_row.specs.declared.log.Receipt.{Receipt}
@@ -83,12 +83,12 @@ MakesEntry x o old new id r reading reply = RearmingMade x o old new id r readin
 
 -- a call found the object's history full, or made entry number `n`
 abbrev pub Ends : ObjectsOf → Opening → Caller → Caller → ℕ → Rearming → ClockReading → Ended → Type 0
-Ends x o old new id r reading (ends.Full n) = FindsFull x old new id n
+Ends x o old new id r reading (ends.Full n) = FindsHistoryFull x old new id n
 Ends x o old new id r reading (ends.Made n reply) = MakesEntry x o old new id r reading reply × (n ≡ length (seen_of new.objects id))
 
 -- the same of a call that found this object
 abbrev pub EndsAt : ObjectsOf → Opening → Caller → Caller → ℕ → Rearming → ClockReading → Ended → Object → Type 0
-EndsAt x o old new id r reading (ends.Full n) object = FindsFull x old new id n
+EndsAt x o old new id r reading (ends.Full n) object = FindsHistoryFull x old new id n
 EndsAt x o old new id r reading (ends.Made n reply) object =
     (made : MakesEntry x o old new id r reading reply) × (made.0.enters.commits.state ≡ object) × (n ≡ length (seen_of new.objects id))
 

@@ -15,7 +15,7 @@ use Rattle.timer_setting.specs.declared.object_call.ObjectCall.{ObjectCall}
 use Rattle.timer_setting.specs.declared.object_call.ObjectCall.TheVariants as calls
 use Rattle.timer_setting.specs.declared.object_call.ObjectReply.TheVariants as replies
 use Rattle.posix_timer.specs.declared.queued_state.QueuedState.{QueuedState}
-use Rattle.posix_timer.specs.Queued.{is_fresh, sends}
+use Rattle.posix_timer.specs.Queued.{is_fresh, sends_signal}
 use Rattle.timer_objects.specs.declared.log.ObjectReceipt.{ObjectReceipt}
 use Rattle.timer_objects.specs.declared.object.Kind.TheVariants as kinds
 use Rattle.timer_objects.specs.declared.object.Object.{Object}
@@ -23,7 +23,7 @@ use Rattle.timer_objects.specs.declared.object.Object.TheVariants as objects
 use Rattle.timer_objects.specs.declared.signals.NextSignal.{NextSignal}
 use Rattle.timer_objects.specs.declared.signals.NextSignal.TheVariants as nexts
 use Rattle.timer_objects.specs.declared.wanting.Rearming.TheVariants as rearmings
-use Rattle.timer_objects.specs.Calls.{Caller, FindsFull, LooksAtObject, RearmingMade}
+use Rattle.timer_objects.specs.Calls.{Caller, FindsHistoryFull, LooksAtObject, RearmingMade}
 use Rattle.timer_objects.specs.Known.{ObjectsOf, ObjectsPass, decl_at}
 use Rattle.timer_objects.specs.Triggers.{EntersTrigger, SkipsTrigger}
 
@@ -38,15 +38,15 @@ pub record IsQueued (x : ObjectsOf) (id : ℕ) : Type 0 where
 
 -- an expiry of this generation counts for an object that sends signals
 abbrev pub object_sends : Object → ℕ → ClockReading → Bool
-object_sends (objects.Queued t) generation reading = sends t generation reading
+object_sends (objects.Queued t) generation reading = sends_signal t generation reading
 object_sends object generation reading = false
 
 -- ---- an expiry
 
 -- a signal that was sent stands last in the queue, which had room for it; where none was, the queue was left alone
-abbrev pub IsSentBy : Bool → QueueView → QueueView → ℕ → ℕ → Type 0
-IsSentBy true s t id number = queues.TakesTurn s t (turns.Pushed (record { timer = id; number = number })) × IsWithin t × KnowsQueue t
-IsSentBy false s t id number = t ≡ s
+abbrev pub IsPushedBy : Bool → QueueView → QueueView → ℕ → ℕ → Type 0
+IsPushedBy true s t id number = queues.TakesTurn s t (turns.Pushed (record { timer = id; number = number })) × IsWithin t × KnowsQueue t
+IsPushedBy false s t id number = t ≡ s
 
 -- the queue has no room: as many signals wait as it was made for
 abbrev pub HasNoRoom : QueueView → QueueView → Type 0
@@ -63,7 +63,7 @@ module _ (x : ObjectsOf) (p q : ObjectsPass) (log log' : List ObjectReceipt) (v 
   -- The trigger was entered, and its signal was sent if the expiry counts: the signal has the number of the entry.
   pub record Sends : Type 0 where
     pub enters : EntersTrigger x p q log log' v w id (calls.Trigger generation reading)
-    pub sent : IsSentBy (object_sends enters.commits.state generation reading) s t id (length enters.commits.adds.before + 1)
+    pub sent : IsPushedBy (object_sends enters.commits.state generation reading) s t id (length enters.commits.adds.before + 1)
 
   -- The expiry counts, but the queue had no room for its signal: an overflow was entered.
   pub record Overflows : Type 0 where
@@ -86,7 +86,7 @@ FiresQueued x p q log log' v w s t id generation reading =
 -- what becomes of an expiry's signal while its object is locked, and the call that is entered then
 abbrev pub PushesFor : QueueView → QueueView → Object → ℕ → ℕ → ℕ → ClockReading → ObjectCall → Type 0
 PushesFor s t object id number generation reading call =
-    ((call ≡ calls.Trigger generation reading) × IsSentBy (object_sends object generation reading) s t id number)
+    ((call ≡ calls.Trigger generation reading) × IsPushedBy (object_sends object generation reading) s t id number)
     ⊎ ((call ≡ calls.Overflow generation reading) × (object_sends object generation reading ≡ true) × HasNoRoom s t)
 
 -- ---- the next signal
@@ -120,7 +120,7 @@ object_fresh object number = false
 -- what a signal of this queued timer comes to once it is taken off the queue: the timer's history is full; or else it is stale, or it is accepted
 abbrev pub TakesSignal : ObjectsOf → Opening → Caller → Caller → ℕ → ℕ → ClockReading → NextSignal → Type 0
 TakesSignal x o old new timer number reading nexts.NoneQueued = ⊥
-TakesSignal x o old new timer number reading (nexts.Spent i k stamp) = (i ≡ timer) × (k ≡ number) × FindsFull x old new timer stamp
+TakesSignal x o old new timer number reading (nexts.Spent i k stamp) = (i ≡ timer) × (k ≡ number) × FindsHistoryFull x old new timer stamp
 TakesSignal x o old new timer number reading (nexts.Stale i k) = (i ≡ timer) × (k ≡ number) × FindsStale x old new timer number
 TakesSignal x o old new timer number reading (nexts.Accepted i k overrun) =
     (i ≡ timer) × (k ≡ number) × AcceptsSignal x o old new timer number overrun reading

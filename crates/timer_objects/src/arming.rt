@@ -10,8 +10,7 @@ ghost use Rattle.timer_objects.specs.Turns.{turns_counter};
 ghost use Rattle.timer_objects.specs.Waiting.{IsHindered};
 
 use crate::turns::counter_of;
-use expire_pass::Log;
-use hr_timers::{Pass, StartAnswer, Timers};
+use hr_timers::{Log, Pass, StartAnswer, Timers};
 use ktime::Reading;
 use seq_timer::{Asked, CancelAnswer};
 use std::sync::Wait;

@@ -1,11 +1,10 @@
 //! The callbacks of timers by themselves.
 ghost use Rattle.std.specs.Prelude.{◌≤◌, ◌<◌, ◌+◌};
 ghost use Rattle.hr_timers.specs.Known.{IsPassOf, OwnsClaim};
-ghost use Rattle.expire_pass.specs.Handlers.{KeepsPass};
+ghost use Rattle.hr_timers.specs.Handlers.{KeepsPass};
 ghost use Rattle.timer_objects.specs.Callbacks.{RunsCallback, RunsCancel, RunsForward, RunsStart, bases_for};
 
-use expire_pass::{Log, Restart};
-use hr_timers::{Claim, Pass, StartAnswer, Timers};
+use hr_timers::{Claim, Log, Pass, Restart, StartAnswer, Timers};
 use ktime::{Mode, Reading};
 use seq_timer::{Asked, CancelAnswer, Event, ForwardAnswer, Observation};
 use std::sync::Wait;

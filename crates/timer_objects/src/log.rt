@@ -1,7 +1,7 @@
 //! A log of a caller's own entries of objects.
 ghost use Rattle.std.specs.Prelude.{◌≡◌, ◌<◌, ◌+◌, [], ◌∷◌, ◌++◌};
 
-use expire_pass::ReceiptLog;
+use hr_timers::ReceiptLog;
 use timer_setting::{ObjectCall, ObjectReply};
 
 /// An entry of an object, with its number among the object's; or, where the reply is that the object's history is full, a trigger that was

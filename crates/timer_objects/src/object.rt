@@ -1,6 +1,6 @@
 //! What an object is, by its kind, and the entry of a call.
 ghost use Rattle.std.specs.Prelude.{◌≡◌, ◌≤◌, ◌<◌};
-ghost use Rattle.timer_setting.specs.Settimes.{most_entries};
+ghost use Rattle.timer_setting.specs.Settimes.{most_object_entries};
 ghost use Rattle.timer_objects.specs.Steps.{opened_object};
 
 use ktime::ClockId;
@@ -46,7 +46,7 @@ impl Object {
     /// An object that was just made. At `limit` entries its history is full.
     pub fn make(decl: Decl, limit: u64) -> Object
         requires some { 0 < limit }
-        requires few { limit ≤ most_entries }
+        requires few { limit ≤ most_object_entries }
         ensures { result ≡ opened_object limit decl }
     {
         match decl.kind {

@@ -6,11 +6,11 @@ ghost use Rattle.signal_queue.specs.Rules.{turns};
 ghost use Rattle.signal_queue.specs.Turns.{popped, pushed};
 ghost use Rattle.signal_queue.specs.Views.{KnowsQueue, first_queue_view};
 ghost use Rattle.timer_objects.specs.Signals.{IsSignalPass};
-ghost use Rattle.timer_setting.specs.Settimes.{most_entries};
+ghost use Rattle.timer_setting.specs.Settimes.{most_object_entries};
 ghost use Rattle.counted_row.specs.Views.{IsPassOfRow, Locks, first_view, new_view, released, split_view};
 ghost use Rattle.timer_objects.specs.BlockingReads.{descriptors_below};
 ghost use Rattle.timer_objects.specs.Meaning.{object_meaning, opened_objects};
-ghost use Rattle.timer_objects.specs.Known.{Enters, HoldsObject, IsObjectsPass, MayEnter, decl_at, receipt_of, row_of, seen_of};
+ghost use Rattle.timer_objects.specs.Known.{EntersObjectCall, HoldsObject, IsObjectsPass, MayEnterCall, decl_at, receipt_of, row_of, seen_of};
 
 use crate::log::{ObjectLog, note};
 use crate::object::{Decl, Kind, Object};
@@ -34,7 +34,7 @@ pub struct Objects {
 
 impl Model for Objects {
     ghost use Rattle.std.specs.Prelude.{◌≡◌, ◌≤◌, ◌<◌, length};
-    ghost use Rattle.timer_setting.specs.Settimes.{most_entries};
+    ghost use Rattle.timer_setting.specs.Settimes.{most_object_entries};
     ghost use Rattle.timer_objects.specs.Meaning.{opened_objects};
     ghost use Rattle.timer_objects.specs.Known.{ObjectsOf};
 
@@ -42,7 +42,7 @@ impl Model for Objects {
 
     ghost view = { λ o. record { id = o.row.id; decls = o.decls.items; limit = o.limit; queue = o.signals } };
 
-    ghost invariant = { λ o. (o.row.made ≡ opened_objects o.decls.items o.limit) × (0 < o.limit) × (o.limit ≤ most_entries) };
+    ghost invariant = { λ o. (o.row.made ≡ opened_objects o.decls.items o.limit) × (0 < o.limit) × (o.limit ≤ most_object_entries) };
 }
 
 impl Objects {
@@ -54,7 +54,7 @@ impl Objects {
         max_events: u64,
     ) -> Result<(Objects, RowPass<Object>), AllocError>
         requires some { 0 < max_events }
-        requires few { max_events ≤ most_entries }
+        requires few { max_events ≤ most_object_entries }
         ensures made { IfOk result (λ r. (r.0.decls ≡ decls.now) × (r.0.limit ≡ max_events) × (r.0.queue ≡ None)) }
         ensures pass { IfOk result (λ r. IsObjectsPass r.0 r.1) }
         ensures first { IfOk result (λ r. r.1.knows ≡ first_view (opened_objects decls.now max_events)) }
@@ -69,7 +69,7 @@ impl Objects {
         max_events: u64,
     ) -> Result<(Objects, RowPass<Object>, Vec<Reader>), AllocError>
         requires some { 0 < max_events }
-        requires few { max_events ≤ most_entries }
+        requires few { max_events ≤ most_object_entries }
         requires numbers { length decls.now ≤ 2 ^ 32 }
         ensures made { IfOk result (λ r. (r.0.decls ≡ decls.now) × (r.0.limit ≡ max_events) × (r.0.queue ≡ None)) }
         ensures pass { IfOk result (λ r. IsObjectsPass r.0 r.1) }
@@ -90,7 +90,7 @@ impl Objects {
         room: usize,
     ) -> Result<(Objects, RowPass<Object>, SignalPass), AllocError>
         requires some { 0 < max_events }
-        requires few { max_events ≤ most_entries }
+        requires few { max_events ≤ most_object_entries }
         requires room { 0 < room }
         ensures made { IfOk result (λ r. (r.0.decls ≡ decls.now) × (r.0.limit ≡ max_events)) }
         ensures queue { IfOk result (λ r. IsSignalPass r.0 r.2 × (r.2.knows.room ≡ room)) }
@@ -119,7 +119,7 @@ impl Objects {
         bells: Bells,
     ) -> Result<(Objects, RowPass<Object>), AllocError>
         requires some { 0 < max_events }
-        requires few { max_events ≤ most_entries }
+        requires few { max_events ≤ most_object_entries }
         ensures made { IfOk result (λ r. (r.0.decls ≡ decls.now) × (r.0.limit ≡ max_events) × (r.0.queue ≡ None)) }
         ensures pass { IfOk result (λ r. IsObjectsPass r.0 r.1) }
         ensures first { IfOk result (λ r. r.1.knows ≡ first_view (opened_objects decls.now max_events)) }
@@ -210,10 +210,10 @@ impl Objects {
         id: u32,
         call: &ObjectCall,
     ) -> ObjectReply
-        requires may { MayEnter self.now pass.old held id call.now }
+        requires may { MayEnterCall self.now pass.old held id call.now }
         requires room { 0 < log.old.spare }
         ensures pass { IsObjectsPass self.now pass.new }
-        ensures enters { Enters pass.old pass.new held call.now result }
+        ensures enters { EntersObjectCall pass.old pass.new held call.now result }
         ensures receipt { log.new.receipts ≡ log.old.receipts ++ receipt_of held call.now ∷ [] }
         ensures spare { log.new.spare + 1 ≡ log.old.spare }
     {
@@ -312,7 +312,7 @@ impl Objects {
 /// These objects as they are at first.
 fn opened(alloc: Global, decls: &[Decl], limit: u64) -> Result<Vec<Object>, AllocError>
     requires some { 0 < limit }
-    requires few { limit ≤ most_entries }
+    requires few { limit ≤ most_object_entries }
     ensures { IfOk result (λ objects. objects.items ≡ opened_objects decls.now limit) }
 {
     decls

@@ -3,8 +3,7 @@ ghost use Rattle.std.specs.Prelude.{◌≡◌, ◌*◌, ◌<◌, ◌≤◌, IfOk
 ghost use Rattle.timer_objects_bench.specs.Stands.{IsBenchStand, KeepsStand};
 
 use counted_row::RowPass;
-use expire_pass::{ExpireAnswer, Log};
-use hr_timers::{Pass, Timers};
+use hr_timers::{ExpireAnswer, Log, Pass, Timers};
 use ktime::{ClockId, Reading};
 use object_uses::{accept_signal, expire_objects, read_count, set_timer};
 use posix_timer::AcceptAnswer;

@@ -14,8 +14,8 @@ use Rattle.timer_setting.specs.Arguments.{start_by, time_of}
 use Rattle.timer_setting.specs.Phases.{expired, is_expiry_of}
 
 -- the greatest limit on an object's entries
-abbrev pub most_entries : ℕ
-most_entries = 2 ^ 48 - 16
+abbrev pub most_object_entries : ℕ
+most_object_entries = 2 ^ 48 - 16
 
 -- a timer that was just made
 abbrev pub made_timer : ClockId → ℕ → ℕ → ObjectTimer
@@ -33,7 +33,7 @@ trigger_answer phase generation reading = if is_expiry_of phase generation readi
 
 -- what holds of each object's timer at all times: the limit is one that may be set, the entries are within it, and the interval is a time
 pub record IsInLimits (stamp limit interval : ℕ) : Type 0 where
-  pub few : limit ≤ most_entries
+  pub few : limit ≤ most_object_entries
   pub within : stamp ≤ limit
   pub timely : interval ≤ last_time
 

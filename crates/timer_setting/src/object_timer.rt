@@ -2,7 +2,7 @@
 ghost use Rattle.std.specs.Prelude.{◌≡◌, ◌≤◌, ◌<◌, ◌+◌, ◌↔◌, IfNone, IfSome, None, nat_lt, if◌then◌else◌};
 ghost use Rattle.ktime.specs.Times.{last_time};
 ghost use Rattle.timer_setting.specs.Phases.{HasTimelyExpiry, expired, is_expiry_of, left_in, next_start, periods_in, phase_by, rearmed};
-ghost use Rattle.timer_setting.specs.Settimes.{made_timer, most_entries, start_wanted, timer_expired, trigger_answer};
+ghost use Rattle.timer_setting.specs.Settimes.{made_timer, most_object_entries, start_wanted, timer_expired, trigger_answer};
 
 use crate::arguments::{start_for, times_of};
 use crate::arming::{Arm, Wanted};
@@ -107,7 +107,7 @@ impl ObjectTimer {
     /// Sets the phase by a settime with valid arguments, and counts its entry.
     pub fn set(&mut self, flags: u64, value: u64, reading: Reading, arm: Arm)
         requires value { value ≤ last_time }
-        requires room { (self.old.stamp < self.old.limit) × (self.old.limit ≤ most_entries) }
+        requires room { (self.old.stamp < self.old.limit) × (self.old.limit ≤ most_object_entries) }
         ensures { self.new ≡ record self.old { phase = phase_by self.old.clock flags value reading arm; stamp = self.old.stamp + 1 } }
     {
         self.phase = phase_set(self.clock, flags, value, reading, arm);
@@ -116,7 +116,7 @@ impl ObjectTimer {
 
     /// The high-resolution timer's function runs for this generation, which counts as an entry. Where the history is full nothing changes.
     pub fn trigger(&mut self, generation: u64, reading: Reading) -> TriggerAnswer
-        requires few { self.old.limit ≤ most_entries }
+        requires few { self.old.limit ≤ most_object_entries }
         ensures spent { self.old.limit ≤ self.old.stamp → (result ≡ TriggerAnswer.Spent self.old.stamp) × (self.new ≡ self.old) }
         ensures timer { self.old.stamp < self.old.limit → self.new ≡ timer_expired self.old generation reading }
         ensures answer { self.old.stamp < self.old.limit → result ≡ trigger_answer self.old.phase generation reading }

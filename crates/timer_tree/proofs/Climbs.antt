@@ -5,7 +5,7 @@ use Rattle.std.proofs.lemmas.Bool.{ne_eqb}
 use Rattle.timer_tree.specs.Nodes.{none, node_at}
 use Rattle.timer_tree.specs.Links.{relinked}
 use Rattle.timer_tree.specs.Rotate.{ranked}
-use Rattle.timer_tree.specs.Moves.{Repairing, ended, stepped}
+use Rattle.timer_tree.specs.Moves.{Repairing, ended, repair_step}
 use Rattle.timer_tree.specs.Trees.{Tree, Leaf, Fork, top, tall, pairs, IsAt, one, times, Keeps}
 use Rattle.timer_tree.specs.Contexts.{Frame, filled, plug, parent_of, root_of, IsAround, around, pairs_before, pairs_after, FitsRank, Cut, IsTree, Way}
 use Rattle.timer_tree.specs.Contexts.{IsUnbalanced, IsRepairing, IsRepaired, IsOver}
@@ -118,10 +118,10 @@ climbed_at rising xs root f c t old ps new cut step =
     })
 
 climbed_next : (rising : Bool) (xs : List Node) (root : ℕ) (c : List Frame) (t : Tree) (old : ℕ) (ps : List (ℕ × ℕ)) → (parent_of c ≡ none → ⊥) →
-    Cut xs root c t old ps → Way rising old t → Climbed rising xs (rest_at (parent_of c) t) ps (length c) (stepped rising xs root (rest_at (parent_of c) t))
+    Cut xs root c t old ps → Way rising old t → Climbed rising xs (rest_at (parent_of c) t) ps (length c) (repair_step rising xs root (rest_at (parent_of c) t))
 climbed_next rising xs root [] t old ps some cut way = absurd (some refl)
 climbed_next rising xs root (f ∷ c) t old ps some cut way =
-    climbed_at rising xs root f c t old ps (stepped rising xs root (rest_at f.n t)) cut
+    climbed_at rising xs root f c t old ps (repair_step rising xs root (rest_at f.n t)) cut
     (λ Goal changed handles. stepped_handled xs root f.side t f.other f.n f.e f.h old (parent_of c) Goal changed rising way handles)
 
 -- the first step above a timer that was inserted
@@ -149,10 +149,10 @@ rest_is {r = r} some b =
     ∙ ap (λ h. at (parent_of b.context) (top b.subtree) h) changed.1)
 
 climbed : (rising : Bool) (xs : List Node) (root : ℕ) (r : Unbalanced) (ps : List (ℕ × ℕ)) (new : Repairing) → (r.at ≡ none → ⊥) →
-    (b : IsUnbalanced rising xs root r ps) → new ≡ stepped rising xs root r → Climbed rising xs r ps (length b.context) new
+    (b : IsUnbalanced rising xs root r ps) → new ≡ repair_step rising xs root r → Climbed rising xs r ps (length b.context) new
 climbed rising xs root r ps new some b is =
     subst (λ x. Climbed rising xs r ps (length b.context) x) (sym is)
-    (subst (λ q. Climbed rising xs q ps (length b.context) (stepped rising xs root q)) (rest_is some b)
+    (subst (λ q. Climbed rising xs q ps (length b.context) (repair_step rising xs root q)) (rest_is some b)
     (climbed_next rising xs root b.context b.subtree b.old_rank ps (λ same. some (b.at_is ∙ same)) b.cut (b.changed some).2))
 
 -- ---- what a step is asked for
@@ -206,7 +206,7 @@ repairing_on new so_far done few = record {
 
 pub repairing_step : (rising : Bool) (xs ys zs : List Node) (root new_root : ℕ) (r r' : Unbalanced) (ps : List (ℕ × ℕ))
     (levels old_steps steps new_steps : ℕ) → IsRepairing rising xs ys root r ps levels old_steps steps → (r.at ≡ none → ⊥) →
-    (zs, new_root, r') ≡ stepped rising ys root r → new_steps ≤ steps + 15 → IsRepairing rising xs zs new_root r' ps levels old_steps new_steps
+    (zs, new_root, r') ≡ repair_step rising ys root r → new_steps ≤ steps + 15 → IsRepairing rising xs zs new_root r' ps levels old_steps new_steps
 repairing_step rising xs ys zs root new_root r r' ps levels old_steps steps new_steps so_far some is few =
     repairing_on new_steps so_far (climbed rising ys root r ps (zs, new_root, r') some so_far.unbalanced is) few
 
@@ -215,7 +215,7 @@ abbrev pub way_left : List Node → ℕ → ℕ
 way_left xs at = if nat_eq at none then 0 else 100 - (node_at xs at).rank
 
 pub repairing_smaller : (rising : Bool) (ys zs : List Node) (root new_root : ℕ) (r r' : Unbalanced) (ps : List (ℕ × ℕ)) →
-    IsUnbalanced rising ys root r ps → (r.at ≡ none → ⊥) → (zs, new_root, r') ≡ stepped rising ys root r → way_left zs r'.at < way_left ys r.at
+    IsUnbalanced rising ys root r ps → (r.at ≡ none → ⊥) → (zs, new_root, r') ≡ repair_step rising ys root r → way_left zs r'.at < way_left ys r.at
 repairing_smaller rising ys zs root new_root r r' ps b some is =
     let done = climbed rising ys root r ps (zs, new_root, r') some b is in
     let can = can_step rising ys root r ps some b in

@@ -6,7 +6,7 @@ use Rattle.std.proofs.lemmas.Bool.{cases_lt, cases_eq}
 use Rattle.timer_tree.specs.Nodes.{none, node_at, far, with_links, next, other_side, child_side, is_high_leaf}
 use Rattle.timer_tree.specs.Links.{relinked}
 use Rattle.timer_tree.specs.Rotate.{rotated, rotated_up, ranked}
-use Rattle.timer_tree.specs.Moves.{Repairing, gone_on, ended, raised, risen, has_higher, sunk, lowered, stepped}
+use Rattle.timer_tree.specs.Moves.{Repairing, gone_on, ended, raised, risen, has_higher, sunk, lowered, repair_step}
 use Rattle.timer_tree.specs.declared.repair.Unbalanced.{Unbalanced}
 use Rattle.timer_tree.specs.Trees.{Tree, Leaf, Fork, top, tall, pairs, IsAt, HasRank, IsBalanced, times}
 use Rattle.timer_tree.specs.Contexts.{fork, IsTilted, Way}
@@ -213,7 +213,7 @@ module _ (xs : List Node) (root : ℕ) (s : Side) (t o : Tree) (n e h old p : �
       (sunk_handled xs root s t o n e h old p Goal is way down handles)) (λ close. settled_handled (omega arith) close handles)
 
   pub stepped_handled : (rising : Bool) → Way rising old t → Handles rising xs p (fork s t n e h o) h root (rest_at n t) Goal →
-      Goal (stepped rising xs root (rest_at n t))
+      Goal (repair_step rising xs root (rest_at n t))
   stepped_handled true way handles =
       subst (λ x. Goal (risen xs root (rest_at n t) x)) (sym (IsAt-fork xs p s t o n e h is.whole.at).0.is) (risen_handled way handles)
   stepped_handled false way handles =

@@ -57,9 +57,9 @@ lowered xs root r node =
     else (if is_high_leaf node then (ranked xs r.at 1, root, gone_on r node.parent 1) else (xs, root, ended))
 
 -- one step of a repair
-abbrev pub stepped : (rising : Bool) → List Node → (root : ℕ) → Unbalanced → Repairing
-stepped true xs root r = risen xs root r (node_at xs r.at)
-stepped false xs root r = lowered xs root r (node_at xs r.at)
+abbrev pub repair_step : (rising : Bool) → List Node → (root : ℕ) → Unbalanced → Repairing
+repair_step true xs root r = risen xs root r (node_at xs r.at)
+repair_step false xs root r = lowered xs root r (node_at xs r.at)
 
 -- a timer inserted into its place
 unfoldable pub inserted : List Node → (root parent expires id : ℕ) → List Node × ℕ × Side

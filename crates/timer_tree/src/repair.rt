@@ -3,7 +3,7 @@ ghost use Rattle.std.specs.Prelude.{◌≡◌, true, ℕ, ◌+◌, ◌≤◌, �
 ghost use Rattle.timer_tree.specs.Nodes.{node_at, none, far, HasLinks, IsLink};
 ghost use Rattle.timer_tree.specs.Contexts.{IsUnbalanced, IsRepairing, IsRepaired, IsOver};
 ghost use Rattle.timer_tree.specs.declared.node.Node.{Node};
-ghost use Rattle.timer_tree.specs.Moves.{ended, raised, risen, sunk, lowered, stepped};
+ghost use Rattle.timer_tree.specs.Moves.{ended, raised, risen, sunk, lowered, repair_step};
 ghost use Rattle.timer_tree.specs.Rotate.{ranked};
 
 use crate::add::Place;
@@ -99,7 +99,7 @@ fn step<L: Ledger>(
     requires small { length block.old ≤ none }
     requires child { (node_at block.old rest.at).rank ≤ rest.rank → rest.child < length block.old }
     requires low { rest.rank ≤ 65 }
-    ensures block { (block.new, root.new, result) ≡ stepped rising block.old root.old rest }
+    ensures block { (block.new, root.new, result) ≡ repair_step rising block.old root.old rest }
     ensures steps { steps.new ≤ steps.old + 15 }
 {
     if rising {

@@ -11,22 +11,22 @@ use Rattle.timer_setting.specs.declared.answers.SleepAnswer.TheVariants as begin
 use Rattle.timer_setting.specs.declared.object_call.ObjectCall.TheVariants as calls
 use Rattle.timer_setting.specs.declared.object_call.ObjectReply.TheVariants as replies
 use Rattle.sleeper.specs.Histories.{SleeperEntry}
-use Rattle.timer_uses.specs.Moments.{at}
+use Rattle.timer_uses.specs.Moments.{clock_at}
 
 -- a sleep of so long (flags 0) or up to this time (flags 1), begun at a moment
 abbrev pub sleep : ℕ → ℕ → ℕ → Arm → SleepAnswer → SleeperEntry
 sleep flags time now arm answer = record {
-  call = calls.Sleep (record { flags = flags; time = time; reading = at now; arm = arm });
+  call = calls.Sleep (record { flags = flags; time = time; reading = clock_at now; arm = arm });
   reply = replies.Sleep answer;
 }
 
 -- the timer's function ran for this generation at a moment
 abbrev pub trigger : ℕ → ℕ → TriggerAnswer → SleeperEntry
-trigger generation now answer = record { call = calls.Trigger generation (at now); reply = replies.Trigger answer }
+trigger generation now answer = record { call = calls.Trigger generation (clock_at now); reply = replies.Trigger answer }
 
 -- a signal at a moment
 abbrev pub interrupt : ℕ → InterruptAnswer → SleeperEntry
-interrupt now answer = record { call = calls.Interrupt (at now); reply = replies.Interrupt answer }
+interrupt now answer = record { call = calls.Interrupt (clock_at now); reply = replies.Interrupt answer }
 
 -- a relative sleep that a signal ends is told what was left, which is nothing once its time has come; an absolute one isn't; a time that has come
 -- isn't slept for; only the expiry that is armed wakes, in its time; a start that is refused leaves the sleeper free

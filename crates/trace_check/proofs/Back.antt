@@ -14,7 +14,7 @@ use Rattle.trace_check.specs.declared.known.FunctionKnown.TheVariants as functio
 use Rattle.trace_check.specs.declared.known.HalfKnown.{HalfKnown}
 use Rattle.trace_check.specs.declared.known.HalfKnown.TheVariants as halves
 use Rattle.trace_check.specs.declared.known.KnownTimer.{KnownTimer}
-use Rattle.trace_check.specs.Knowledge.{Knowledge, misfit, half_number, is_armed, learned, no_knowledge, runs, soft_of}
+use Rattle.trace_check.specs.Knowledge.{Knowledge, misfit, half_number, is_armed, learned, no_knowledge, has_running, soft_of}
 use Rattle.trace_check.proofs.Plain.{IsBeginning, Plain, PlainTimers}
 use Rattle.trace_check.proofs.Agreement.{Agrees, Allows, ArmedAs, RunsAs, Sound, SoundFunction}
 use Rattle.trace_check.proofs.Forth.{same_half}
@@ -37,7 +37,7 @@ context_by (functions.Runs c x) context = x
 
 abbrev some_plain : KnownTimer → List OrderedExpiry → Plain
 some_plain known claims = record (at_rest known (is_armed known.armed) (unwrap_or known.clock clocks.Monotonic)
-    (context_by known.function (unwrap_or known.context contexts.Hard)) (base_of known.function (place_of known.home claims))) { running = runs known.function }
+    (context_by known.function (unwrap_or known.context contexts.Hard)) (base_of known.function (place_of known.home claims))) { running = has_running known.function }
 
 some_armed : (known : KnownTimer) (claims : List OrderedExpiry) (a : ArmedKnown) → known.armed ≡ a → ArmedAs a (some_plain known claims)
 some_armed known claims arms.Untold is = tt
@@ -46,9 +46,9 @@ some_armed known claims (arms.Until soft expires) is = (ap is_armed is, ap soft_
 
 some_function : (known : KnownTimer) (claims : List OrderedExpiry) (f : FunctionKnown) → known.function ≡ f → RunsAs f (some_plain known claims)
 some_function known claims functions.Untold is = tt
-some_function known claims functions.Rests is = ap runs is
+some_function known claims functions.Rests is = ap has_running is
 some_function known claims (functions.Runs c x) is =
-    (ap runs is, ap (λ f. base_of f (place_of known.home claims)) is, ap (λ f. context_by f (unwrap_or known.context contexts.Hard)) is)
+    (ap has_running is, ap (λ f. base_of f (place_of known.home claims)) is, ap (λ f. context_by f (unwrap_or known.context contexts.Hard)) is)
 
 some_home : (half : ℕ → HalfKnown) (t : ℕ) (known : KnownTimer) (claims : List OrderedExpiry) (f : FunctionKnown) → SoundFunction half t known f
     → IfSome known.home (λ b. is_armed known.armed ≡ true → base_of f (place_of known.home claims) ≡ b)
@@ -72,18 +72,18 @@ some_context half t known functions.Untold s = context_of known.context
 some_context half t known functions.Rests s = context_of known.context
 some_context half t known (functions.Runs c x) s = context_as known.context x s.1
 
-some_allowed : (half : ℕ → HalfKnown) (t : ℕ) (known : KnownTimer) (base : ℕ) (context : Context) (f : FunctionKnown) → SoundFunction half t known f → runs f ≡ true
+some_allowed : (half : ℕ → HalfKnown) (t : ℕ) (known : KnownTimer) (base : ℕ) (context : Context) (f : FunctionKnown) → SoundFunction half t known f → has_running f ≡ true
     → Allows (half (half_number (base_of f base) (context_by f context))) t
 some_allowed half t known base context functions.Untold s run = absurd cc
 some_allowed half t known base context functions.Rests s run = absurd cc
 some_allowed half t known base context (functions.Runs c x) s run = subst (λ y. Allows y t) (sym s.0) refl
 
-runs_as : (f : FunctionKnown) → runs f ≡ true → (c : ℕ) × (x : Context) × (f ≡ functions.Runs c x)
+runs_as : (f : FunctionKnown) → has_running f ≡ true → (c : ℕ) × (x : Context) × (f ≡ functions.Runs c x)
 runs_as functions.Untold run = absurd cc
 runs_as functions.Rests run = absurd cc
 runs_as (functions.Runs c x) run = (c, x, refl)
 
-taken_by : (half : ℕ → HalfKnown) (t : ℕ) (known : KnownTimer) (f : FunctionKnown) → SoundFunction half t known f → (base : ℕ) (context : Context) → runs f ≡ true
+taken_by : (half : ℕ → HalfKnown) (t : ℕ) (known : KnownTimer) (f : FunctionKnown) → SoundFunction half t known f → (base : ℕ) (context : Context) → has_running f ≡ true
     → half (half_number (base_of f base) (context_by f context)) ≡ halves.Taken t
 taken_by half t known functions.Untold s base context run = absurd cc
 taken_by half t known functions.Rests s base context run = absurd cc

@@ -17,7 +17,7 @@ use Rattle.trace_check.specs.declared.known.FunctionKnown.{FunctionKnown}
 use Rattle.trace_check.specs.declared.known.FunctionKnown.TheVariants as functions
 use Rattle.trace_check.specs.declared.known.HalfKnown.{HalfKnown}
 use Rattle.trace_check.specs.declared.known.KnownTimer.{KnownTimer}
-use Rattle.trace_check.specs.Knowledge.{Knowledge, is_unarmed, runs, soft_of}
+use Rattle.trace_check.specs.Knowledge.{Knowledge, is_unarmed, has_running, soft_of}
 use Rattle.trace_check.proofs.Plain.{Plain, PlainTimers, ShowsEvent, Spared}
 use Rattle.trace_check.proofs.Agreement.{Agrees, AgreesAt, ArmedAs, HasTurnBefore, RunsAs, SoundAt}
 use Rattle.trace_check.proofs.Parts.{AreAlone, Moves, alone_still}
@@ -87,13 +87,13 @@ armed_before known clock context base arms.Untold is fails = tt
 armed_before known clock context base arms.No is fails = absurd cc
 armed_before known clock context base (arms.Until soft expires) is fails = (refl, ap soft_of is, ap hard_of is)
 
-rests_as : (f : FunctionKnown) (p : Plain) → runs f ≡ false → p.running ≡ false → RunsAs f p
+rests_as : (f : FunctionKnown) (p : Plain) → has_running f ≡ false → p.running ≡ false → RunsAs f p
 rests_as functions.Untold p still is = tt
 rests_as functions.Rests p still is = is
 rests_as (functions.Runs c x) p still is = absurd cc
 
 pub rest_agrees : (half : ℕ → HalfKnown) (claims : List OrderedExpiry) (t : ℕ) (known : KnownTimer) (armed : Bool) (clock : ClockId) (context : Context) (base : ℕ)
-    → ArmedAs known.armed (at_rest known armed clock context base) → runs known.function ≡ false → IfSome known.home (λ b. base ≡ b)
+    → ArmedAs known.armed (at_rest known armed clock context base) → has_running known.function ≡ false → IfSome known.home (λ b. base ≡ b)
     → IfSome known.clock (λ c. clock ≡ c) → IfSome known.context (λ x. context ≡ x)
     → ((m : ℕ) → known.order ≡ Some m → AllByRecursion (λ q. HasTurnBefore q (at_rest known armed clock context base) m) claims)
     → AgreesAt half claims t known (at_rest known armed clock context base)

@@ -365,7 +365,7 @@ spares_but : (w : TracedTimers) (t : ℕ) (r' : Traced) → Spares t w (updated 
 spares_but w t r' u other = updated_else w t u r' other
 
 turn_of : (left processor t : ℕ) (w : TracedTimers) (p : PlainTimers) → AreAll (left + 1) w p → HasTurn p processor t → (p t).armed ≡ true
-    → traced.HasTurn w processor t
+    → traced.IsNextThere w processor t
 turn_of left processor t w p all turn armed_t = record {
   free = λ u context. false_from_ne_true _ (λ run.
       let parts = and_parts (is_some (w u).timer.running) (nat_eq (w u).timer.base processor) run in

@@ -18,7 +18,7 @@ use Rattle.trace_check.specs.declared.known.FunctionKnown.{FunctionKnown}
 use Rattle.trace_check.specs.declared.known.FunctionKnown.TheVariants as functions
 use Rattle.trace_check.specs.declared.known.HalfKnown.{HalfKnown}
 use Rattle.trace_check.specs.declared.known.KnownTimer.{KnownTimer}
-use Rattle.trace_check.specs.Knowledge.{claim_by, first_that_holds, half_number, is_armed, is_other_context, is_other_processor, is_unarmed, passes, runs, soft_of, with_claim}
+use Rattle.trace_check.specs.Knowledge.{claim_by, first_that_holds, half_number, is_armed, is_other_context, is_other_processor, is_unarmed, passes, has_running, soft_of, with_claim}
 use Rattle.trace_check.specs.Traced.{is_ahead}
 use Rattle.trace_check.proofs.Plain.{Plain, PlainTimers, Spared}
 use Rattle.trace_check.proofs.Agreement.{AgreesAt, ArmedAs, HasTurnBefore, RunsAs}
@@ -62,7 +62,7 @@ not_armed arms.Untold p h e = refl
 not_armed arms.No p h e = refl
 not_armed (arms.Until soft expires) p h e = absurd (both_ways p.armed e h.0)
 
-pub not_runs : (f : FunctionKnown) (p : Plain) → RunsAs f p → p.running ≡ false → runs f ≡ false
+pub not_runs : (f : FunctionKnown) (p : Plain) → RunsAs f p → p.running ≡ false → has_running f ≡ false
 not_runs functions.Untold p h e = refl
 not_runs functions.Rests p h e = refl
 not_runs (functions.Runs processor context) p h e = absurd (both_ways p.running e h.0)
@@ -176,7 +176,7 @@ pub moves_all : (t : ℕ) (w w' : PlainTimers) → Spared t w w' → Moves (w t)
 moves_all t w w' spared here u =
     elim (cases_eq u t) [
       | inl same ↦ subst (λ v. Moves (w v) (w' v)) (sym same) here
-      | inr other ↦ subst (λ p. Moves (w u) p) (sym (spared u other)) (λ runs. (runs, refl, refl))
+      | inr other ↦ subst (λ p. Moves (w u) p) (sym (spared u other)) (λ has_running. (has_running, refl, refl))
     ]
 
 abbrev pub AreAlone : PlainTimers → Type 0

@@ -18,14 +18,14 @@ use Rattle.trace_check.specs.declared.known.FunctionKnown.TheVariants as functio
 use Rattle.trace_check.specs.declared.known.HalfKnown.{HalfKnown}
 use Rattle.trace_check.specs.declared.known.HalfKnown.TheVariants as halves
 use Rattle.trace_check.specs.declared.known.KnownTimer.{KnownTimer}
-use Rattle.trace_check.specs.Knowledge.{Knowledge, known_cancelled, known_entered, known_exited, misfit, misfits_of, half_number, home_by, is_taken, is_untold, learned, may_run, no_knowledge, rests, runs, known_set_up, known_started}
+use Rattle.trace_check.specs.Knowledge.{Knowledge, known_cancelled, known_entered, known_exited, misfit, misfits_of, half_number, home_by, is_taken, is_untold, learned, may_run, no_knowledge, rests, has_running, known_set_up, known_started}
 use Rattle.trace_check.specs.Traced.{context_at}
 use Rattle.trace_check.proofs.Agreement.{Sound, SoundAt, SoundFunction, SoundOrder}
 use Rattle.trace_check.proofs.Parts.{all_fail, waits_with}
 
 -- ---- what can't be
 
-runs_still : (f : FunctionKnown) {c : ℕ} {x : Context} → f ≡ functions.Runs c x → runs f ≡ false → ⊥
+runs_still : (f : FunctionKnown) {c : ℕ} {x : Context} → f ≡ functions.Runs c x → has_running f ≡ false → ⊥
 runs_still functions.Untold is still = absurd cc
 runs_still functions.Rests is still = absurd cc
 runs_still (functions.Runs c x) is still = absurd cc
@@ -74,7 +74,7 @@ later_claims n (q ∷ qs) all = (omega (arith, all.0), later_claims n qs all.1)
 abbrev pub Place : (ℕ → KnownTimer) → ℕ → ℕ → Type 0
 Place f h t = (processor : ℕ) × (context : Context) × ((f t).function ≡ functions.Runs processor context) × (half_number processor context ≡ h)
 
-taken_but : (half : ℕ → HalfKnown) (f : ℕ → KnownTimer) (t : ℕ) (known : KnownTimer) → runs (f t).function ≡ false
+taken_but : (half : ℕ → HalfKnown) (f : ℕ → KnownTimer) (t : ℕ) (known : KnownTimer) → has_running (f t).function ≡ false
     → ((h u : ℕ) → half h ≡ halves.Taken u → Place f h u) → (h u : ℕ) → half h ≡ halves.Taken u → Place (updated f t known) h u
 taken_but half f t known still taken h u is =
     let run = taken h u is in

@@ -106,7 +106,7 @@ start_plain n soft expires processor was reading old new true moves goes from_so
       ap (λ t. t.moving) is,
     )
 
-turn_plain : (w : TracedTimers) (processor t : ℕ) → AreStill w → traced.HasTurn w processor t → HasTurn (plain_all w) processor t
+turn_plain : (w : TracedTimers) (processor t : ℕ) → AreStill w → traced.IsNextThere w processor t → HasTurn (plain_all w) processor t
 turn_plain w processor t still turn = record {
   free = λ u context run at. both_ways _ (turn.free u context) (and_from _ _ run (eq-eqb _ _ at));
   first = λ u m n other order_t order_u context armed at clock.

@@ -11,7 +11,7 @@ use Rattle.seq_timer.specs.Steps.{opening, limited}
 use Rattle.trace_text.specs.declared.event.KernelEvent.{KernelEvent}
 use Rattle.trace_text.specs.declared.event.KernelEvent.TheVariants as kernel
 use Rattle.trace_text.specs.declared.event.Site.{Site}
-use Rattle.trace_check.specs.Traced.{Traced, TracedTimers, Spares, Goes, HasTurn, context_at}
+use Rattle.trace_check.specs.Traced.{Traced, TracedTimers, Spares, Goes, IsNextThere, context_at}
 
 -- where a recording begins, or goes on after a loss, nothing is told: a timer may be armed, and its function may run, one alone on a processor in a context
 pub record IsBeginning (w : TracedTimers) : Type 0 where
@@ -77,7 +77,7 @@ abbrev pub ShowsEvent : ℕ → KernelEvent → TracedTimers → TracedTimers �
 ShowsEvent n (kernel.SetUp t clock context) w w' = IsSetUp clock context (w t) (w' t) × Spares t w w'
 ShowsEvent n (kernel.Start t soft expires was_armed) w w' = IsStarted n soft expires was_armed (w t) (w' t) × Spares t w w'
 ShowsEvent n (kernel.Cancel t) w w' = IsCancelled (w t) (w' t) × Spares t w w'
-ShowsEvent n (kernel.Entry t site now) w w' = IsEntered site now (w t) (w' t) × HasTurn w site.processor t × Spares t w w'
+ShowsEvent n (kernel.Entry t site now) w w' = IsEntered site now (w t) (w' t) × IsNextThere w site.processor t × Spares t w w'
 ShowsEvent n (kernel.Exit t site) w w' = IsExited site (w t) (w' t) × Spares t w w'
 ShowsEvent n kernel.Lost w w' = IsBeginning w'
 

@@ -152,10 +152,10 @@ is_armed arms.Untold = false
 is_armed arms.No = false
 is_armed (arms.Until soft expires) = true
 
-abbrev pub runs : FunctionKnown → Bool
-runs functions.Untold = false
-runs functions.Rests = false
-runs (functions.Runs processor context) = true
+abbrev pub has_running : FunctionKnown → Bool
+has_running functions.Untold = false
+has_running functions.Rests = false
+has_running (functions.Runs processor context) = true
 
 -- the soft expiry, where it is known
 abbrev pub soft_of : ArmedKnown → ℕ
@@ -216,7 +216,7 @@ is_passed claims (Some claim) = list_any (λ earlier. passes earlier claim) clai
 
 -- what is wrong with a set-up, a start and a cancel of a timer of which this is known
 abbrev pub misfits_of_set_up : KnownTimer → List (Bool × Misfit)
-misfits_of_set_up k = (is_armed k.armed, causes.SetUpArmed) ∷ (runs k.function, causes.SetUpRunning) ∷ []
+misfits_of_set_up k = (is_armed k.armed, causes.SetUpArmed) ∷ (has_running k.function, causes.SetUpRunning) ∷ []
 
 abbrev pub misfits_of_start : ℕ → ℕ → Option Bool → KnownTimer → List (Bool × Misfit)
 misfits_of_start soft expires was_armed k =
@@ -227,12 +227,12 @@ misfits_of_start soft expires was_armed k =
     ∷ []
 
 abbrev pub misfits_of_cancel : KnownTimer → List (Bool × Misfit)
-misfits_of_cancel k = (runs k.function, causes.Running) ∷ (is_unarmed k.armed, causes.NotArmed) ∷ []
+misfits_of_cancel k = (has_running k.function, causes.Running) ∷ (is_unarmed k.armed, causes.NotArmed) ∷ []
 
 -- what is wrong with an expiry, where this is known of its timer and of the half of its processor, and whether it was passed
 abbrev pub misfits_of_entry : Site → ℕ → KnownTimer → HalfKnown → Bool → List (Bool × Misfit)
 misfits_of_entry site now k half passed =
-    (runs k.function, causes.Running)
+    (has_running k.function, causes.Running)
     ∷ (is_unarmed k.armed, causes.NotArmed)
     ∷ (is_other_processor site.processor k.home, causes.OtherProcessor)
     ∷ (is_other_context (context_at site.context k.context) k.context, causes.OtherContext)

@@ -33,7 +33,7 @@ is_ahead expires order other_expires other_order = nat_lt expires other_expires 
 
 -- It is a timer's turn on a processor: no function of its context runs there, and of the timers of its clock and context that wait there it is the
 -- first. Only timers are compared whose clock the trace has told and whose start it has shown, and which rested then.
-pub record HasTurn (w : TracedTimers) (processor t : ℕ) : Type 0 where
+pub record IsNextThere (w : TracedTimers) (processor t : ℕ) : Type 0 where
   pub free : (u : ℕ) → (w u).timer.declared.context ≡ (w t).timer.declared.context → runs_on processor (w u).timer ≡ false
   pub first : (u m n : ℕ) → u ≢ t → (w t).order ≡ Some m → (w u).order ≡ Some n → (w u).timer.declared.context ≡ (w t).timer.declared.context
       → is_kept_on processor (w t).timer.clock (w u).timer ≡ true → is_ahead (w t).timer.expires m (w u).timer.expires n ≡ true

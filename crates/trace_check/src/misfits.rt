@@ -1,6 +1,6 @@
 //! What is wrong with an event, by what is known of its timer.
 ghost use Rattle.std.specs.Prelude.{◌≡◌};
-ghost use Rattle.trace_check.specs.Knowledge.{misfits_of_cancel, misfits_of_entry, misfits_of_exit, misfits_of_set_up, misfits_of_start, first_that_holds, is_armed, is_other_context, is_other_processor, is_unarmed, may_run, runs, soft_of};
+ghost use Rattle.trace_check.specs.Knowledge.{misfits_of_cancel, misfits_of_entry, misfits_of_exit, misfits_of_set_up, misfits_of_start, first_that_holds, is_armed, is_other_context, is_other_processor, is_unarmed, may_run, has_running, soft_of};
 
 use crate::known::{ArmedKnown, FunctionKnown, HalfKnown, KnownTimer};
 use crate::learning::context_at;
@@ -23,7 +23,7 @@ impl KnownTimer {
     }
 
     fn runs(&self) -> bool
-        ensures { result ≡ runs self.now.function }
+        ensures { result ≡ has_running self.now.function }
     {
         matches!(self.function, FunctionKnown::Runs { .. })
     }

@@ -4,14 +4,14 @@ use Rattle.std.specs.Prelude.{IsOk, option_map}
 use Rattle.trace_text.specs.declared.event.KernelEvent.{KernelEvent}
 use Rattle.trace_text.specs.declared.event.KernelEvent.TheVariants as kernel
 use Rattle.trace_text.specs.declared.unreadable.Unreadable.{Unreadable}
-use Rattle.trace_text.specs.Reading.{line_in}
+use Rattle.trace_text.specs.Reading.{event_line}
 use Rattle.trace_check.specs.declared.misfit.Misfit.{Misfit}
 use Rattle.trace_check.specs.Knowledge.{Knowledge, misfit, misfit_or, first_misfit, learned, no_knowledge}
 use Rattle.trace_check.proofs.Histories.{fitting_fits, fits_without_misfit}
 use Rattle.trace_read.specs.declared.verdict.Verdict.{Verdict}
 use Rattle.trace_read.specs.declared.verdict.Verdict.TheVariants as verdicts
 use Rattle.trace_read.specs.Lines as lines_spec
-use Rattle.trace_read.specs.Lines.{Answers, AreReadable, Fit, Means, events_in, judged, known_after, line_verdict, lines_of, told, verdict_on, verdict_or}
+use Rattle.trace_read.specs.Lines.{HasVerdict, AreReadable, LinesFit, Means, events_in, judged, known_after, line_verdict, trace_lines, event_told, verdict_on, verdict_or}
 
 -- lines can be read, and what they tell has no misfit behind what is known
 abbrev Passes : Knowledge → List (List ℕ) → Type 0
@@ -29,26 +29,26 @@ record IsFirst (n : ℕ) (k : Knowledge) (lines : List (List ℕ)) (at : ℕ) : 
 -- what an answer says, behind lines that told this
 abbrev Says : ℕ → Knowledge → List (List ℕ) → Verdict → Type 0
 Says n k lines (verdicts.Fits events) = Passes k lines × (events ≡ k.count + length (events_in lines))
-Says n k lines (verdicts.Refused at cause) = (first : IsFirst n k lines at) × IsOk (line_in first.line)
+Says n k lines (verdicts.Refused at cause) = (first : IsFirst n k lines at) × IsOk (event_line first.line)
     × (first_misfit k (events_in (first.front ++ first.line ∷ [])) ≡ None → ⊥)
-Says n k lines (verdicts.Unreadable at what) = (first : IsFirst n k lines at) × (line_in first.line ≡ Err what)
+Says n k lines (verdicts.Unreadable at what) = (first : IsFirst n k lines at) × (event_line first.line ≡ Err what)
 
 no_cause : (o : Option Misfit) (n : ℕ) → option_map (λ cause. verdicts.Refused n cause) o ≡ None → o ≡ None
 no_cause None n is = refl
 no_cause (Some cause) n is = absurd cc
 
 -- a line that passes leaves the misfits to those behind it
-same_misfit : (k : Knowledge) (line : List ℕ) (lines : List (List ℕ)) (r : Result (Option KernelEvent) Unreadable) (n : ℕ) → line_in line ≡ r
+same_misfit : (k : Knowledge) (line : List ℕ) (lines : List (List ℕ)) (r : Result (Option KernelEvent) Unreadable) (n : ℕ) → event_line line ≡ r
     → line_verdict n k r ≡ None → first_misfit k (events_in (line ∷ lines)) ≡ first_misfit (known_after k r) (events_in lines)
 same_misfit k line lines (Ok None) n is none = rw is refl
 same_misfit k line lines (Ok (Some event)) n is none = rw (is, no_cause (misfit k event) n none) refl
 same_misfit k line lines (Err what) n is none = absurd cc
 
-readable : (k : Knowledge) (line : List ℕ) (r : Result (Option KernelEvent) Unreadable) (n : ℕ) → line_in line ≡ r → line_verdict n k r ≡ None → IsOk (line_in line)
+readable : (k : Knowledge) (line : List ℕ) (r : Result (Option KernelEvent) Unreadable) (n : ℕ) → event_line line ≡ r → line_verdict n k r ≡ None → IsOk (event_line line)
 readable k line (Ok event) n is none = rw is refl
 readable k line (Err what) n is none = absurd cc
 
-abbrev one_more : (n : ℕ) (k : Knowledge) (line : List ℕ) (lines : List (List ℕ)) (r : Result (Option KernelEvent) Unreadable) (at : ℕ) → line_in line ≡ r
+abbrev one_more : (n : ℕ) (k : Knowledge) (line : List ℕ) (lines : List (List ℕ)) (r : Result (Option KernelEvent) Unreadable) (at : ℕ) → event_line line ≡ r
     → line_verdict n k r ≡ None → IsFirst (n + 1) (known_after k r) lines at → IsFirst n k (line ∷ lines) at
 one_more n k line lines r at is none f = record {
   front = line ∷ f.front;
@@ -68,14 +68,14 @@ counted k (kernel.Exit t site) = refl
 counted k kernel.Lost = refl
 
 -- a line that passes counts as many events as it tells
-one_event : (k : Knowledge) (line : List ℕ) (lines : List (List ℕ)) (r : Result (Option KernelEvent) Unreadable) (n : ℕ) → line_in line ≡ r
+one_event : (k : Knowledge) (line : List ℕ) (lines : List (List ℕ)) (r : Result (Option KernelEvent) Unreadable) (n : ℕ) → event_line line ≡ r
     → line_verdict n k r ≡ None → (known_after k r).count + length (events_in lines) ≡ k.count + length (events_in (line ∷ lines))
 one_event k line lines (Ok None) n is none = rw is refl
 one_event k line lines (Ok (Some event)) n is none = rw is (omega (arith, counted k event))
 one_event k line lines (Err what) n is none = absurd cc
 
 -- what an answer to the lines behind one that passes says, with that one before
-more : (n : ℕ) (k : Knowledge) (line : List ℕ) (lines : List (List ℕ)) (r : Result (Option KernelEvent) Unreadable) (v : Verdict) → line_in line ≡ r
+more : (n : ℕ) (k : Knowledge) (line : List ℕ) (lines : List (List ℕ)) (r : Result (Option KernelEvent) Unreadable) (v : Verdict) → event_line line ≡ r
     → line_verdict n k r ≡ None → Says (n + 1) (known_after k r) lines v → Says n k (line ∷ lines) v
 more n k line lines r (verdicts.Fits events) is none s =
     (((readable k line r n is none, s.0.0), same_misfit k line lines r n is none ∙ s.0.1), s.1 ∙ one_event k line lines r n is none)
@@ -93,20 +93,20 @@ here n k line lines = record { front = []; line = line; rest = lines; cut = refl
 not_none : {n : ℕ} {cause : Misfit} → ◌≡◌ {A = Option (ℕ × Misfit)} (Some (n, cause)) None → ⊥
 not_none e = absurd cc
 
-misfit_there : (k : Knowledge) (line : List ℕ) (event : KernelEvent) (cause : Misfit) → line_in line ≡ Ok (Some event) → misfit k event ≡ Some cause
+misfit_there : (k : Knowledge) (line : List ℕ) (event : KernelEvent) (cause : Misfit) → event_line line ≡ Ok (Some event) → misfit k event ≡ Some cause
     → first_misfit k (events_in (line ∷ [])) ≡ None → ⊥
 misfit_there k line event cause is found no_misfit =
-    not_none (subst (λ o. misfit_or o k.count None ≡ None) found (subst (λ r. first_misfit k (told r ++ []) ≡ None) is no_misfit))
+    not_none (subst (λ o. misfit_or o k.count None ≡ None) found (subst (λ r. first_misfit k (event_told r ++ []) ≡ None) is no_misfit))
 
 -- a line is answered itself
 told_misfit : (n : ℕ) (k : Knowledge) (line : List ℕ) (lines : List (List ℕ)) (event : KernelEvent) (o : Option Misfit) (later : Verdict)
-    → line_in line ≡ Ok (Some event) → misfit k event ≡ o → Says (n + 1) (learned k event) lines later
+    → event_line line ≡ Ok (Some event) → misfit k event ≡ o → Says (n + 1) (learned k event) lines later
     → Says n k (line ∷ lines) (verdict_or (option_map (λ cause. verdicts.Refused n cause) o) later)
 told_misfit n k line lines event (Some cause) later is found s = (here n k line lines, rw is refl, λ no_misfit. misfit_there k line event cause is found no_misfit)
 told_misfit n k line lines event None later is found s =
     more n k line lines (Ok (Some event)) later is (ap (λ o. option_map (λ cause. verdicts.Refused n cause) o) found) s
 
-by_line : (n : ℕ) (k : Knowledge) (line : List ℕ) (lines : List (List ℕ)) (r : Result (Option KernelEvent) Unreadable) (later : Verdict) → line_in line ≡ r
+by_line : (n : ℕ) (k : Knowledge) (line : List ℕ) (lines : List (List ℕ)) (r : Result (Option KernelEvent) Unreadable) (later : Verdict) → event_line line ≡ r
     → Says (n + 1) (known_after k r) lines later → Says n k (line ∷ lines) (verdict_or (line_verdict n k r) later)
 by_line n k line lines (Ok None) later is s = more n k line lines (Ok None) later is refl s
 by_line n k line lines (Ok (Some event)) later is s = told_misfit n k line lines event (misfit k event) later is refl s
@@ -115,7 +115,7 @@ by_line n k line lines (Err what) later is s = (here n k line lines, is)
 says : (n : ℕ) (k : Knowledge) (lines : List (List ℕ)) → Says n k lines (judged n k lines)
 says n k [] = ((tt, refl), omega arith)
 says n k (line ∷ lines) =
-    by_line n k line lines (line_in line) (judged (n + 1) (known_after k (line_in line)) lines) refl (says (n + 1) (known_after k (line_in line)) lines)
+    by_line n k line lines (event_line line) (judged (n + 1) (known_after k (event_line line)) lines) refl (says (n + 1) (known_after k (event_line line)) lines)
 
 abbrev first_is : (lines : List (List ℕ)) (at : ℕ) → IsFirst 1 (no_knowledge 0) lines at → lines_spec.IsFirst lines at
 first_is lines at f = record {
@@ -139,8 +139,8 @@ means lines (verdicts.Unreadable at what) s = (first_is lines at s.0, s.1)
 pub judged_means : (lines : List (List ℕ)) → Means lines (judged 1 (no_knowledge 0) lines)
 judged_means lines = means lines (judged 1 (no_knowledge 0) lines) (says 1 (no_knowledge 0) lines)
 
-pub answered : (bytes : List ℕ) (v : Verdict) → verdict_on bytes ≡ v → Answers bytes v
-answered bytes v is = (is, subst (λ u. Means (lines_of bytes) u) is (judged_means (lines_of bytes)))
+pub answered : (bytes : List ℕ) (v : Verdict) → verdict_on bytes ≡ v → HasVerdict bytes v
+answered bytes v is = (is, subst (λ u. Means (trace_lines bytes) u) is (judged_means (trace_lines bytes)))
 
 -- ---- what fits is answered so
 
@@ -157,20 +157,20 @@ not_refused e = absurd cc
 pub not_unreadable : {events n : ℕ} {what : Unreadable} → verdicts.Fits events ≡ verdicts.Unreadable n what → ⊥
 not_unreadable e = absurd cc
 
-fits_by : (n : ℕ) (k : Knowledge) (line : List ℕ) (lines : List (List ℕ)) (r : Result (Option KernelEvent) Unreadable) → line_in line ≡ r
+fits_by : (n : ℕ) (k : Knowledge) (line : List ℕ) (lines : List (List ℕ)) (r : Result (Option KernelEvent) Unreadable) → event_line line ≡ r
     → Passes k (line ∷ lines) → (line_verdict n k r ≡ None) × Passes (known_after k r) lines
-fits_by n k line lines (Ok None) is p = (refl, (p.0.1, subst (λ r. first_misfit k (told r ++ events_in lines) ≡ None) is p.1))
+fits_by n k line lines (Ok None) is p = (refl, (p.0.1, subst (λ r. first_misfit k (event_told r ++ events_in lines) ≡ None) is p.1))
 fits_by n k line lines (Ok (Some event)) is p =
-    let both = neither (misfit k event) k.count _ (subst (λ r. first_misfit k (told r ++ events_in lines) ≡ None) is p.1) in
+    let both = neither (misfit k event) k.count _ (subst (λ r. first_misfit k (event_told r ++ events_in lines) ≡ None) is p.1) in
     (ap (λ o. option_map (λ cause. verdicts.Refused n cause) o) both.0, (p.0.1, both.1))
 fits_by n k line lines (Err what) is p = absurd (not_readable what (subst (λ r. IsOk r) is p.0.0))
 
 passes_fits : (n : ℕ) (k : Knowledge) (lines : List (List ℕ)) → Passes k lines → (events : ℕ) × (judged n k lines ≡ verdicts.Fits events)
 passes_fits n k [] p = (k.count, refl)
 passes_fits n k (line ∷ lines) p =
-    let first = fits_by n k line lines (line_in line) refl p in
-    let more = passes_fits (n + 1) (known_after k (line_in line)) lines first.1 in
-    (more.0, ap (λ v. verdict_or v (judged (n + 1) (known_after k (line_in line)) lines)) first.0 ∙ more.1)
+    let first = fits_by n k line lines (event_line line) refl p in
+    let more = passes_fits (n + 1) (known_after k (event_line line)) lines first.1 in
+    (more.0, ap (λ v. verdict_or v (judged (n + 1) (known_after k (event_line line)) lines)) first.0 ∙ more.1)
 
-pub fit_verdict : (bytes : List ℕ) → Fit (lines_of bytes) → (events : ℕ) × (verdict_on bytes ≡ verdicts.Fits events)
-fit_verdict bytes fit = passes_fits 1 (no_knowledge 0) (lines_of bytes) (fit.0, fits_without_misfit (events_in (lines_of bytes)) fit.1)
+pub fit_verdict : (bytes : List ℕ) → LinesFit (trace_lines bytes) → (events : ℕ) × (verdict_on bytes ≡ verdicts.Fits events)
+fit_verdict bytes fit = passes_fits 1 (no_knowledge 0) (trace_lines bytes) (fit.0, fits_without_misfit (events_in (trace_lines bytes)) fit.1)

@@ -4,7 +4,7 @@ use Rattle.std.specs.List.{AllByRecursion, flat_map}
 use Rattle.std.specs.Option.{option_to_list}
 use Rattle.trace_text.specs.declared.event.KernelEvent.{KernelEvent}
 use Rattle.trace_text.specs.declared.unreadable.Unreadable.{Unreadable}
-use Rattle.trace_text.specs.Reading.{line_in}
+use Rattle.trace_text.specs.Reading.{event_line}
 use Rattle.trace_check.specs.Fits.{FitsTrace}
 use Rattle.trace_check.specs.Knowledge.{Knowledge, misfit, learned, no_knowledge}
 use Rattle.trace_read.specs.declared.verdict.Verdict.{Verdict}
@@ -16,27 +16,27 @@ lines_from begun [] = begun ∷ []
 lines_from begun (b ∷ bs) = if b == 10 then begun ∷ lines_from [] bs else lines_from (begun ++ b ∷ []) bs
 
 -- the lines of a text: what stands before, between and behind its newlines
-abbrev pub lines_of : List ℕ → List (List ℕ)
-lines_of bytes = lines_from [] bytes
+abbrev pub trace_lines : List ℕ → List (List ℕ)
+trace_lines bytes = lines_from [] bytes
 
 -- ---- what a text tells
 
 -- the event of a line that was read
-abbrev pub told : Result (Option KernelEvent) Unreadable → List KernelEvent
-told (Ok event) = option_to_list event
-told (Err what) = []
+abbrev pub event_told : Result (Option KernelEvent) Unreadable → List KernelEvent
+event_told (Ok event) = option_to_list event
+event_told (Err what) = []
 
 -- the events that lines tell, in order
 abbrev pub events_in : List (List ℕ) → List KernelEvent
-events_in lines = flat_map (λ line. told (line_in line)) lines
+events_in lines = flat_map (λ line. event_told (event_line line)) lines
 
 -- each line can be read
 abbrev pub AreReadable : List (List ℕ) → Type 0
-AreReadable lines = AllByRecursion (λ line. IsOk (line_in line)) lines
+AreReadable lines = AllByRecursion (λ line. IsOk (event_line line)) lines
 
 -- these lines can be read, and what they tell fits
-abbrev pub Fit : List (List ℕ) → Type 0
-Fit lines = AreReadable lines × FitsTrace (events_in lines)
+abbrev pub LinesFit : List (List ℕ) → Type 0
+LinesFit lines = AreReadable lines × FitsTrace (events_in lines)
 
 -- ---- how lines are answered one by one
 
@@ -60,11 +60,11 @@ verdict_or (Some verdict) later = verdict
 -- the answer to lines, numbered on from n, behind those that told this
 abbrev pub judged : ℕ → Knowledge → List (List ℕ) → Verdict
 judged n k [] = verdicts.Fits k.count
-judged n k (line ∷ lines) = verdict_or (line_verdict n k (line_in line)) (judged (n + 1) (known_after k (line_in line)) lines)
+judged n k (line ∷ lines) = verdict_or (line_verdict n k (event_line line)) (judged (n + 1) (known_after k (event_line line)) lines)
 
 -- the answer to a text
 abbrev pub verdict_on : List ℕ → Verdict
-verdict_on bytes = judged 1 (no_knowledge 0) (lines_of bytes)
+verdict_on bytes = judged 1 (no_knowledge 0) (trace_lines bytes)
 
 -- ---- what an answer means
 
@@ -75,16 +75,16 @@ pub record IsFirst (lines : List (List ℕ)) (n : ℕ) : Type 0 where
   pub rest : List (List ℕ)
   pub cut : lines ≡ front ++ line ∷ rest
   pub number : n ≡ length front + 1
-  pub fits : Fit front
+  pub fits : LinesFit front
 
 -- all lines can be read and fit, and tell so many events; or with a line that can be read, behind lines that fit, no history shows the lines so far; or
 -- it can't be read
 abbrev pub Means : List (List ℕ) → Verdict → Type 0
-Means lines (verdicts.Fits events) = Fit lines × (events ≡ length (events_in lines))
+Means lines (verdicts.Fits events) = LinesFit lines × (events ≡ length (events_in lines))
 Means lines (verdicts.Refused n cause) =
-    (first : IsFirst lines n) × IsOk (line_in first.line) × (FitsTrace (events_in (first.front ++ first.line ∷ [])) → ⊥)
-Means lines (verdicts.Unreadable n what) = (first : IsFirst lines n) × (line_in first.line ≡ Err what)
+    (first : IsFirst lines n) × IsOk (event_line first.line) × (FitsTrace (events_in (first.front ++ first.line ∷ [])) → ⊥)
+Means lines (verdicts.Unreadable n what) = (first : IsFirst lines n) × (event_line first.line ≡ Err what)
 
 -- a text is answered so, and the answer means what it says
-abbrev pub Answers : List ℕ → Verdict → Type 0
-Answers bytes verdict = (verdict_on bytes ≡ verdict) × Means (lines_of bytes) verdict
+abbrev pub HasVerdict : List ℕ → Verdict → Type 0
+HasVerdict bytes verdict = (verdict_on bytes ≡ verdict) × Means (trace_lines bytes) verdict

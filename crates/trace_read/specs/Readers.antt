@@ -16,7 +16,7 @@ pub record HasTaken (r : Reader) (known : Knowledge) : Type 0 where
   pub events : r.events ≡ known.count
 
 -- a reader has read so far that this is the answer, by the bytes that come behind
-pub record Stands (r : Reader) (answer : List ℕ → Verdict) : Type 0 where
+pub record HasReadSoFar (r : Reader) (answer : List ℕ → Verdict) : Type 0 where
   pub known : Knowledge
   pub holds : HoldsKnowledge r.checker known
   pub events : r.events ≡ known.count
@@ -25,4 +25,4 @@ pub record Stands (r : Reader) (answer : List ℕ → Verdict) : Type 0 where
 -- after these bytes more there is an answer whatever follows, or the reader has read so far
 abbrev pub ReadsOn : Option Verdict → Reader → (List ℕ → Verdict) → List ℕ → Type 0
 ReadsOn (Some verdict) r answer bytes = (rest : List ℕ) → answer (bytes ++ rest) ≡ verdict
-ReadsOn None r answer bytes = Stands r (λ rest. answer (bytes ++ rest))
+ReadsOn None r answer bytes = HasReadSoFar r (λ rest. answer (bytes ++ rest))

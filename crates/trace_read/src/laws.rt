@@ -1,15 +1,15 @@
 //! What an answer means.
 ghost use Rattle.std.specs.Prelude.{◌≡◌, List, ℕ};
 ghost use Rattle.trace_read.specs.declared.verdict.Verdict.TheVariants.{Fits};
-ghost use Rattle.trace_read.specs.Lines.{Fit, lines_of, verdict_on, Means};
+ghost use Rattle.trace_read.specs.Lines.{LinesFit, trace_lines, verdict_on, Means};
 
 /// An answer says that all lines of a text can be read and fit, or which line is the first that can't be read, or with which the lines so far don't
 /// fit.
 pub fn an_answer_means_what_it_says()
-    ensures { (bytes : List ℕ) → Means (lines_of bytes) (verdict_on bytes) }
+    ensures { (bytes : List ℕ) → Means (trace_lines bytes) (verdict_on bytes) }
 {}
 
 /// A text whose lines can all be read and fit is answered so.
 pub fn what_fits_is_answered_so()
-    ensures { (bytes : List ℕ) → Fit (lines_of bytes) → (events : ℕ) × (verdict_on bytes ≡ Fits events) }
+    ensures { (bytes : List ℕ) → LinesFit (trace_lines bytes) → (events : ℕ) × (verdict_on bytes ≡ Fits events) }
 {}

@@ -2,10 +2,10 @@
 ghost use Rattle.std.specs.Prelude.{◌≡◌, ◌++◌, ◌∷◌, [], List, ℕ, IfOk, OnOk, Option, Some, None, MatchOption};
 ghost use Rattle.trace_read.specs.declared.verdict.Verdict.{Verdict};
 ghost use Rattle.trace_read.specs.Lines.{known_after, line_verdict, verdict_on};
-ghost use Rattle.trace_read.specs.Readers.{HasTaken, ReadsOn, Stands};
+ghost use Rattle.trace_read.specs.Readers.{HasTaken, ReadsOn, HasReadSoFar};
 ghost use Rattle.trace_check.specs.Checkers.{HoldsKnowledge};
 ghost use Rattle.trace_check.specs.Knowledge.{Knowledge};
-ghost use Rattle.trace_text.specs.Reading.{line_in};
+ghost use Rattle.trace_text.specs.Reading.{event_line};
 
 use crate::tally::Tally;
 use crate::verdict::Verdict;
@@ -27,7 +27,7 @@ pub struct Reader {
 impl Reader {
     /// Nothing was read yet.
     pub fn new(alloc: Global) -> Reader
-        ensures { Stands result verdict_on }
+        ensures { HasReadSoFar result verdict_on }
     {
         Reader {
             begun: Vec::new(alloc),
@@ -41,7 +41,7 @@ impl Reader {
 
     /// The answer to the line that was begun, where it can't be read or no history shows it; else the checker has taken it.
     fn judge(&mut self) -> Result<Option<Verdict>, AllocError>
-        ensures answer { (k : Knowledge) → HoldsKnowledge self.old.checker k → self.old.events ≡ k.count → IfOk result (λ v. (v ≡ line_verdict self.old.number k (line_in self.old.begun.items)) × (v ≡ None → HasTaken self.new (known_after k (line_in self.old.begun.items)))) }
+        ensures answer { (k : Knowledge) → HoldsKnowledge self.old.checker k → self.old.events ≡ k.count → IfOk result (λ v. (v ≡ line_verdict self.old.number k (event_line self.old.begun.items)) × (v ≡ None → HasTaken self.new (known_after k (event_line self.old.begun.items)))) }
         ensures number { self.new.number ≡ self.old.number }
         ensures begun { self.new.begun ≡ self.old.begun }
     {
@@ -64,7 +64,7 @@ impl Reader {
 
     /// Takes the newline that ends the line that was begun.
     fn end_line(&mut self) -> Result<Option<Verdict>, AllocError>
-        ensures { (answer : List ℕ → Verdict) → Stands self.old answer → IfOk result (λ v. ReadsOn v self.new answer (10 ∷ [])) }
+        ensures { (answer : List ℕ → Verdict) → HasReadSoFar self.old answer → IfOk result (λ v. ReadsOn v self.new answer (10 ∷ [])) }
     {
         if let Some(verdict) = self.judge()? {
             return Ok(Some(verdict));
@@ -79,7 +79,7 @@ impl Reader {
 
     /// Takes one more byte of the line that was begun.
     fn take_byte(&mut self, byte: u8) -> Result<(), AllocError>
-        ensures { (answer : List ℕ → Verdict) → Stands self.old answer → (byte ≡ 10 → ⊥) → OnOk result (Stands self.new (λ rest. answer (byte ∷ rest))) }
+        ensures { (answer : List ℕ → Verdict) → HasReadSoFar self.old answer → (byte ≡ 10 → ⊥) → OnOk result (HasReadSoFar self.new (λ rest. answer (byte ∷ rest))) }
     {
         self.begun.push(byte)?;
         Ok(())
@@ -87,7 +87,7 @@ impl Reader {
 
     /// Takes more of the text. There is an answer where no more of it is to be read.
     pub fn take(&mut self, piece: &[u8]) -> Result<Option<Verdict>, AllocError>
-        ensures { (answer : List ℕ → Verdict) → Stands self.old answer → IfOk result (λ v. ReadsOn v self.new answer piece.now) }
+        ensures { (answer : List ℕ → Verdict) → HasReadSoFar self.old answer → IfOk result (λ v. ReadsOn v self.new answer piece.now) }
     {
         for byte in piece {
             if *byte != b'\n' {
@@ -103,7 +103,7 @@ impl Reader {
 
     /// The answer to the text, where no more of it comes.
     pub fn end(&mut self) -> Result<Verdict, AllocError>
-        ensures { (answer : List ℕ → Verdict) → Stands self.old answer → IfOk result (λ v. answer [] ≡ v) }
+        ensures { (answer : List ℕ → Verdict) → HasReadSoFar self.old answer → IfOk result (λ v. answer [] ≡ v) }
     {
         if let Some(verdict) = self.judge()? {
             return Ok(verdict);
@@ -115,7 +115,7 @@ impl Reader {
 
     /// The answer to the text, where this is all that comes.
     pub fn take_last(&mut self, piece: &[u8]) -> Result<Verdict, AllocError>
-        ensures { (answer : List ℕ → Verdict) → Stands self.old answer → IfOk result (λ v. answer piece.now ≡ v) }
+        ensures { (answer : List ℕ → Verdict) → HasReadSoFar self.old answer → IfOk result (λ v. answer piece.now ≡ v) }
     {
         match self.take(piece)? {
             Some(verdict) => Ok(verdict),

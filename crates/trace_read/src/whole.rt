@@ -1,6 +1,6 @@
 //! Reads a text that lies in memory.
 ghost use Rattle.std.specs.Prelude.{IfOk};
-ghost use Rattle.trace_read.specs.Lines.{Answers};
+ghost use Rattle.trace_read.specs.Lines.{HasVerdict};
 
 use crate::reader::Reader;
 use crate::tally::Tally;
@@ -9,7 +9,7 @@ use std::alloc::{AllocError, Global};
 
 /// The answer to a whole text, and what the events up to it were, by numbers.
 pub fn read_whole(alloc: Global, text: &[u8]) -> Result<(Verdict, Tally), AllocError>
-    ensures { IfOk result (λ read. Answers text.now read.0) }
+    ensures { IfOk result (λ read. HasVerdict text.now read.0) }
 {
     let mut reader = Reader::new(alloc);
     let verdict = reader.take_last(text)?;

@@ -11,7 +11,7 @@ use Rattle.seq_timer.specs.declared.context.Context.TheVariants as contexts
 use Rattle.trace_text.specs.declared.modes.TimerMode.{TimerMode}
 use Rattle.trace_text.specs.declared.unreadable.Unreadable.{Unreadable}
 use Rattle.trace_text.specs.declared.unreadable.Unreadable.TheVariants as wrong
-use Rattle.trace_text.specs.Words.{behind, number_in}
+use Rattle.trace_text.specs.Words.{behind, number_by_radix}
 
 -- what a field says: what stands behind its key in the first word that has it
 abbrev pub field : List ℕ → List (List ℕ) → Option (List ℕ)
@@ -25,32 +25,32 @@ or_wrong cause (Some x) = Ok x
 
 -- a timer's address, with or without `0x` before it
 abbrev pub address_in : List ℕ → Option ℕ
-address_in word = number_in 16 (2 ^ 64 - 1) (unwrap_or (behind (codes "0x") word) word)
+address_in word = number_by_radix 16 (2 ^ 64 - 1) (unwrap_or (behind (codes "0x") word) word)
 
-abbrev pub timer_of : List (List ℕ) → Result ℕ Unreadable
-timer_of ws = or_wrong wrong.Timer (option_and_then address_in (field (codes "hrtimer=") ws))
+abbrev pub timer_field : List (List ℕ) → Result ℕ Unreadable
+timer_field ws = or_wrong wrong.Timer (option_and_then address_in (field (codes "hrtimer=") ws))
 
 -- the time that a field says, up to the end of time
-abbrev pub time_of : List ℕ → Unreadable → List (List ℕ) → Result ℕ Unreadable
-time_of key cause ws = or_wrong cause (option_and_then (λ w. number_in 10 last_time w) (field key ws))
+abbrev pub time_field : List ℕ → Unreadable → List (List ℕ) → Result ℕ Unreadable
+time_field key cause ws = or_wrong cause (option_and_then (λ w. number_by_radix 10 last_time w) (field key ws))
 
 -- whether the timer was queued before: nothing where no field says so
-unfoldable pub armed_in : List ℕ → Result (Option Bool) Unreadable
-armed_in word =
+unfoldable pub was_armed_in : List ℕ → Result (Option Bool) Unreadable
+was_armed_in word =
     if bytes_eq word (codes "0") then Ok (Some false) else if bytes_eq word (codes "1") then Ok (Some true) else Err wrong.WasArmed
 
-abbrev pub armed_by : Option (List ℕ) → Result (Option Bool) Unreadable
-armed_by None = Ok None
-armed_by (Some word) = armed_in word
+abbrev pub armed_field : Option (List ℕ) → Result (Option Bool) Unreadable
+armed_field None = Ok None
+armed_field (Some word) = was_armed_in word
 
 abbrev pub was_armed_of : List (List ℕ) → Result (Option Bool) Unreadable
-was_armed_of ws = armed_by (field (codes "was_armed=") ws)
+was_armed_of ws = armed_field (field (codes "was_armed=") ws)
 
 -- ---- clocks and modes
 
 -- the clock of this name, among those that the model has
-unfoldable pub clock_in : List ℕ → Option ClockId
-clock_in word =
+unfoldable pub clock_named : List ℕ → Option ClockId
+clock_named word =
     if bytes_eq word (codes "CLOCK_MONOTONIC") then Some clocks.Monotonic
     else if bytes_eq word (codes "CLOCK_REALTIME") then Some clocks.Realtime
     else if bytes_eq word (codes "CLOCK_BOOTTIME") then Some clocks.Boottime
@@ -83,8 +83,8 @@ abbrev pub mode_numbered : ℕ → Option TimerMode
 mode_numbered n = option_map (λ x. record { mode = (if n % 2 == 0 then modes.Abs else modes.Rel); context = x }) (context_numbered (n / 4))
 
 -- a mode: by its name as tracefs prints it, or by its number as perf does
-abbrev pub mode_in : List ℕ → Option TimerMode
-mode_in word = option_or (mode_named word) (option_and_then (λ n. mode_numbered n) (option_and_then (λ w. number_in 16 (2 ^ 64 - 1) w) (behind (codes "0x") word)))
+abbrev pub mode_field : List ℕ → Option TimerMode
+mode_field word = option_or (mode_named word) (option_and_then (λ n. mode_numbered n) (option_and_then (λ w. number_by_radix 16 (2 ^ 64 - 1) w) (behind (codes "0x") word)))
 
 -- the clock of a timer's times, where it is set up on this one and by this mode
 abbrev pub clock_kept : Mode → Option ClockId → Option ClockId

@@ -6,11 +6,11 @@ use Rattle.seq_timer.specs.declared.context.Context.TheVariants as contexts
 use Rattle.trace_text.specs.declared.names.EventName.{EventName}
 use Rattle.trace_text.specs.declared.names.EventName.TheVariants as names
 use Rattle.trace_text.specs.declared.heads.Head.{Head}
-use Rattle.trace_text.specs.Words.{behind, before, number_in}
+use Rattle.trace_text.specs.Words.{behind, before, number_by_radix}
 
 -- the event of a name, behind its beginning
-unfoldable pub name_of : List ℕ → Option EventName
-name_of rest =
+unfoldable pub event_named : List ℕ → Option EventName
+event_named rest =
     if bytes_eq rest (codes "start:") then Some names.Start
     else if bytes_eq rest (codes "expire_entry:") then Some names.Entry
     else if bytes_eq rest (codes "expire_exit:") then Some names.Exit
@@ -20,18 +20,18 @@ name_of rest =
 
 -- the event that a word names, alone as tracefs and `trace-cmd` print it, or behind its group as `perf` does
 abbrev pub name_in : List ℕ → Option EventName
-name_in word = option_and_then name_of (behind (codes "hrtimer_") (unwrap_or (behind (codes "timer:") word) word))
+name_in word = option_and_then event_named (behind (codes "hrtimer_") (unwrap_or (behind (codes "timer:") word) word))
 
 -- the processor that a word names, as `[003]` does
 abbrev pub processor_in : List ℕ → Option ℕ
-processor_in word = option_and_then (λ digits. number_in 10 (2 ^ 32 - 1) digits) (option_and_then (λ rest. before (codes "]") rest) (behind (codes "[") word))
+processor_in word = option_and_then (λ digits. number_by_radix 10 (2 ^ 32 - 1) digits) (option_and_then (λ rest. before (codes "]") rest) (behind (codes "[") word))
 
 -- the context that flags tell by their third byte: `h`, or `H` where a soft interrupt was interrupted, and `s`
-unfoldable pub context_of : ℕ → Option Context
-context_of b = if b == 104 || b == 72 then Some contexts.Hard else if b == 115 then Some contexts.Soft else None
+unfoldable pub context_flag : ℕ → Option Context
+context_flag b = if b == 104 || b == 72 then Some contexts.Hard else if b == 115 then Some contexts.Soft else None
 
 abbrev pub context_in : List ℕ → Option Context
-context_in flags = context_of (get_or flags 2 0)
+context_in flags = context_flag (get_or flags 2 0)
 
 -- nothing is told yet
 abbrev pub no_head : Head

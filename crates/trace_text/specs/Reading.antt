@@ -10,9 +10,9 @@ use Rattle.trace_text.specs.declared.names.EventName.{EventName}
 use Rattle.trace_text.specs.declared.names.EventName.TheVariants as names
 use Rattle.trace_text.specs.declared.unreadable.Unreadable.{Unreadable}
 use Rattle.trace_text.specs.declared.unreadable.Unreadable.TheVariants as wrong
-use Rattle.trace_text.specs.Words.{behind, words_in}
+use Rattle.trace_text.specs.Words.{behind, trace_words}
 use Rattle.trace_text.specs.Names.{Found, first_event, no_head}
-use Rattle.trace_text.specs.Fields.{clock_in, clock_kept, field, mode_in, or_wrong, time_of, timer_of, was_armed_of}
+use Rattle.trace_text.specs.Fields.{clock_named, clock_kept, field, mode_field, or_wrong, time_field, timer_field, was_armed_of}
 
 infixl 10 ◌>>=◌
 abbrev pub ◌>>=◌ : {A B E : Type 0} → Result A E → (A → Result B E) → Result B E
@@ -26,15 +26,15 @@ site_of h = or_wrong wrong.Processor (option_map (λ p. record { processor = p; 
 -- the event of a line, by its name, by what stands before that, and by the words behind it
 abbrev pub event_of : EventName → Head → List (List ℕ) → Result KernelEvent Unreadable
 event_of names.SetUp h ws =
-    timer_of ws >>= λ t. or_wrong wrong.Clock (field (codes "clockid=") ws) >>= λ c.
-    or_wrong wrong.Mode (option_and_then mode_in (field (codes "mode=") ws)) >>= λ m. Ok (events.SetUp t (clock_kept m.mode (clock_in c)) m.context)
+    timer_field ws >>= λ t. or_wrong wrong.Clock (field (codes "clockid=") ws) >>= λ c.
+    or_wrong wrong.Mode (option_and_then mode_field (field (codes "mode=") ws)) >>= λ m. Ok (events.SetUp t (clock_kept m.mode (clock_named c)) m.context)
 event_of names.Start h ws =
-    timer_of ws >>= λ t. time_of (codes "softexpires=") wrong.SoftExpires ws >>= λ soft.
-    time_of (codes "expires=") wrong.Expires ws >>= λ expires. was_armed_of ws >>= λ was. Ok (events.Start t soft expires was)
-event_of names.Cancel h ws = timer_of ws >>= λ t. Ok (events.Cancel t)
+    timer_field ws >>= λ t. time_field (codes "softexpires=") wrong.SoftExpires ws >>= λ soft.
+    time_field (codes "expires=") wrong.Expires ws >>= λ expires. was_armed_of ws >>= λ was. Ok (events.Start t soft expires was)
+event_of names.Cancel h ws = timer_field ws >>= λ t. Ok (events.Cancel t)
 event_of names.Entry h ws =
-    timer_of ws >>= λ t. site_of h >>= λ site. time_of (codes "now=") wrong.Now ws >>= λ now. Ok (events.Entry t site now)
-event_of names.Exit h ws = timer_of ws >>= λ t. site_of h >>= λ site. Ok (events.Exit t site)
+    timer_field ws >>= λ t. site_of h >>= λ site. time_field (codes "now=") wrong.Now ws >>= λ now. Ok (events.Entry t site now)
+event_of names.Exit h ws = timer_field ws >>= λ t. site_of h >>= λ site. Ok (events.Exit t site)
 
 -- the last word of a line that tells of lost events, by tracefs or by `trace-cmd`
 abbrev pub ends_loss : List ℕ → Bool
@@ -60,5 +60,5 @@ unfoldable pub event_in : List (List ℕ) → Result (Option KernelEvent) Unread
 event_in ws = if tells_loss ws then Ok (Some events.Lost) else if is_comment ws then Ok None else read_event (first_event no_head ws)
 
 -- what a line tells of a timer
-abbrev pub line_in : List ℕ → Result (Option KernelEvent) Unreadable
-line_in line = event_in (words_in line)
+abbrev pub event_line : List ℕ → Result (Option KernelEvent) Unreadable
+event_line line = event_in (trace_words line)

@@ -4,8 +4,8 @@ use Rattle.std.specs.List.{filter, slice_split}
 use Rattle.std.specs.Option.{option_and_then}
 
 -- a line's words: what stands between its spaces
-abbrev pub words_in : List ℕ → List (List ℕ)
-words_in line = filter (λ w. not (length w == 0)) (slice_split (λ b. b == 32) line)
+abbrev pub trace_words : List ℕ → List (List ℕ)
+trace_words line = filter (λ w. not (length w == 0)) (slice_split (λ b. b == 32) line)
 
 -- what stands behind this beginning of a word, if the word has it
 abbrev pub behind : List ℕ → List ℕ → Option (List ℕ)
@@ -24,15 +24,15 @@ digit_in b =
     else None
 
 -- a number of this radix with one more digit, if it then is at most `most`
-abbrev pub next_number : ℕ → ℕ → ℕ → ℕ → Option ℕ
-next_number radix most n b =
+abbrev pub with_digit : ℕ → ℕ → ℕ → ℕ → Option ℕ
+with_digit radix most n b =
     option_and_then (λ d. if nat_lt d radix && nat_le (n * radix + d) most then Some (n * radix + d) else None) (digit_in b)
 
 -- a number followed by these digits
 abbrev pub number_from : ℕ → ℕ → ℕ → List ℕ → Option ℕ
 number_from radix most n [] = Some n
-number_from radix most n (b ∷ bs) = option_and_then (λ m. number_from radix most m bs) (next_number radix most n b)
+number_from radix most n (b ∷ bs) = option_and_then (λ m. number_from radix most m bs) (with_digit radix most n b)
 
 -- the number of this radix that a word is, if it is at most `most`
-abbrev pub number_in : ℕ → ℕ → List ℕ → Option ℕ
-number_in radix most word = if length word == 0 then None else number_from radix most 0 word
+abbrev pub number_by_radix : ℕ → ℕ → List ℕ → Option ℕ
+number_by_radix radix most word = if length word == 0 then None else number_from radix most 0 word

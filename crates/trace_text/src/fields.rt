@@ -1,6 +1,6 @@
 //! The fields behind an event's name.
 ghost use Rattle.std.specs.Prelude.{◌≡◌, map, option_map};
-ghost use Rattle.trace_text.specs.Fields.{field, time_of, timer_of, was_armed_of};
+ghost use Rattle.trace_text.specs.Fields.{field, time_field, timer_field, was_armed_of};
 
 use crate::numbers::number;
 use crate::unreadable::Unreadable;
@@ -20,7 +20,7 @@ pub fn field<'a>(key: &[u8], words: &[&'a [u8]]) -> Option<&'a [u8]>
 
 /// The timer's address.
 pub fn timer(words: &[&[u8]]) -> Result<u64, Unreadable>
-    ensures { result ≡ timer_of (map (λ w. w.now) words.now) }
+    ensures { result ≡ timer_field (map (λ w. w.now) words.now) }
 {
     let Some(word) = field(b"hrtimer=", words) else {
         return Err(Unreadable::Timer);
@@ -30,7 +30,7 @@ pub fn timer(words: &[&[u8]]) -> Result<u64, Unreadable>
 
 /// The time that a field says.
 pub fn time(key: &[u8], cause: Unreadable, words: &[&[u8]]) -> Result<u64, Unreadable>
-    ensures { result ≡ time_of key.now cause (map (λ w. w.now) words.now) }
+    ensures { result ≡ time_field key.now cause (map (λ w. w.now) words.now) }
 {
     let Some(word) = field(key, words) else {
         return Err(cause);
@@ -39,7 +39,7 @@ pub fn time(key: &[u8], cause: Unreadable, words: &[&[u8]]) -> Result<u64, Unrea
 }
 
 /// Whether the timer was queued before, where that is told.
-#[tactic(auto, unfolding(crate::specs::Fields::armed_in))]
+#[tactic(auto, unfolding(crate::specs::Fields::was_armed_in))]
 pub fn was_armed(words: &[&[u8]]) -> Result<Option<bool>, Unreadable>
     ensures { result ≡ was_armed_of (map (λ w. w.now) words.now) }
 {

@@ -24,7 +24,7 @@ fn processor(word: &[u8]) -> Option<u32>
 }
 
 /// The context that flags tell, where they tell one.
-#[tactic(auto, unfolding(crate::specs::Names::context_of))]
+#[tactic(auto, unfolding(crate::specs::Names::context_flag))]
 fn context(flags: &[u8]) -> Option<Context>
     ensures { result ≡ context_in flags.now }
 {

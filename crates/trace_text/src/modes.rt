@@ -1,6 +1,6 @@
 //! Clocks and modes.
 ghost use Rattle.std.specs.Prelude.{◌≡◌};
-ghost use Rattle.trace_text.specs.Fields.{clock_in, context_by, context_numbered, mode_in, mode_named, mode_numbered, mode_with};
+ghost use Rattle.trace_text.specs.Fields.{clock_named, context_by, context_numbered, mode_field, mode_named, mode_numbered, mode_with};
 
 use crate::numbers::number;
 use ktime::{ClockId, Mode};
@@ -14,9 +14,9 @@ pub struct TimerMode {
 }
 
 /// The clock of this name, among those that the model has.
-#[tactic(auto, unfolding(crate::specs::Fields::clock_in))]
+#[tactic(auto, unfolding(crate::specs::Fields::clock_named))]
 pub fn clock(word: &[u8]) -> Option<ClockId>
-    ensures { result ≡ clock_in word.now }
+    ensures { result ≡ clock_named word.now }
 {
     if word == b"CLOCK_MONOTONIC".as_slice() {
         Some(ClockId::Monotonic)
@@ -89,7 +89,7 @@ fn named(word: &[u8]) -> Option<TimerMode>
 
 /// A mode by its name, as tracefs prints it, or by its number, as perf does.
 pub fn mode(word: &[u8]) -> Option<TimerMode>
-    ensures { result ≡ mode_in word.now }
+    ensures { result ≡ mode_field word.now }
 {
     if let Some(mode) = named(word) {
         return Some(mode);

@@ -13,7 +13,7 @@ pub enum EventName {
 }
 
 /// The event that a word names.
-#[tactic(auto, unfolding(crate::specs::Names::name_of))]
+#[tactic(auto, unfolding(crate::specs::Names::event_named))]
 pub fn name(word: &[u8]) -> Option<EventName>
     ensures { result ≡ name_in word.now }
 {

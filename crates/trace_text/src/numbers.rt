@@ -1,6 +1,6 @@
 //! Numbers in decimal and hexadecimal.
 ghost use Rattle.std.specs.Prelude.{◌≡◌, ◌≤◌, IfSome};
-ghost use Rattle.trace_text.specs.Words.{digit_in, next_number, number_in};
+ghost use Rattle.trace_text.specs.Words.{digit_in, with_digit, number_by_radix};
 
 /// What a digit stands for, the letters `a` to `f` among them.
 fn digit(byte: u8) -> Option<u64>
@@ -16,7 +16,7 @@ fn digit(byte: u8) -> Option<u64>
 /// The number with one more digit, if it is one of this radix and the number then is at most `most`.
 fn next(radix: u64, most: u64, n: u64, byte: u8) -> Option<u64>
     requires radix { radix ≤ 16 }
-    ensures number { result ≡ next_number radix most n byte }
+    ensures number { result ≡ with_digit radix most n byte }
     ensures most { IfSome result (λ m. m ≤ most) }
 {
     let d = digit(byte)?;
@@ -33,7 +33,7 @@ fn next(radix: u64, most: u64, n: u64, byte: u8) -> Option<u64>
 /// The number of this radix that a word is, if it is at most `most`.
 pub fn number(radix: u64, most: u64, word: &[u8]) -> Option<u64>
     requires radix { radix ≤ 16 }
-    ensures number { result ≡ number_in radix most word.now }
+    ensures number { result ≡ number_by_radix radix most word.now }
     ensures most { IfSome result (λ n. n ≤ most) }
 {
     if word.is_empty() {

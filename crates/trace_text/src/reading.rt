@@ -1,7 +1,7 @@
 //! Reads a line.
 ghost use Rattle.std.specs.Prelude.{◌≡◌, IfOk, map};
 ghost use Rattle.std.specs.List.{list_any};
-ghost use Rattle.trace_text.specs.Reading.{ends_loss, event_in, event_of, is_comment, line_in, site_of, tells_loss};
+ghost use Rattle.trace_text.specs.Reading.{ends_loss, event_in, event_of, is_comment, event_line, site_of, tells_loss};
 
 use crate::event::{KernelEvent, Site};
 use crate::fields::{field, time, timer, was_armed};
@@ -139,7 +139,7 @@ pub fn read_line(
     alloc: Global,
     line: &[u8],
 ) -> Result<Result<Option<KernelEvent>, Unreadable>, AllocError>
-    ensures { IfOk result (λ r. r ≡ line_in line.now) }
+    ensures { IfOk result (λ r. r ≡ event_line line.now) }
 {
     let words = words(alloc, line)?;
     Ok(event_among(&words))

@@ -5,14 +5,14 @@ use Rattle.trace_top.specs.declared.command.Asked.TheVariants as asks
 use Rattle.trace_top.specs.declared.status.Status.TheVariants as statuses
 use Rattle.trace_read.specs.declared.verdict.Verdict.{Verdict}
 use Rattle.trace_read.specs.declared.verdict.Verdict.TheVariants as verdicts
-use Rattle.trace_top.specs.Checking.{HasFitted, IsAnswer, IsAnswered}
+use Rattle.trace_top.specs.Checking.{HasFitted, IsToldAs, IsJudged}
 use Rattle.trace_top.specs.Status.{status_of}
-use Rattle.byte_streams.specs.Streams.{Adds}
-use Rattle.trace_top.specs.Texts.{text_of}
+use Rattle.byte_streams.specs.Streams.{GrowsBy}
+use Rattle.trace_top.specs.Texts.{verdict_text}
 
 -- what is written where a trace fits and one line is asked for
-pub fitted : (asked : Asked) (verdict : Verdict) (text : List ℕ) (left left_now taken now : Option (List ℕ)) → IsAnswer asked verdict text
-    → IsAnswered left left_now verdict → Adds taken now text → status_of verdict ≡ statuses.Fits → asked ≡ asks.Line → HasFitted left left_now taken now
+pub fitted : (asked : Asked) (verdict : Verdict) (text : List ℕ) (left left_now taken now : Option (List ℕ)) → IsToldAs asked verdict text
+    → IsJudged left left_now verdict → GrowsBy taken now text → status_of verdict ≡ statuses.Fits → asked ≡ asks.Line → HasFitted left left_now taken now
 fitted asks.Line (verdicts.Fits events) text left left_now taken now answer read added fits line =
     record { events = events; read = read; text = text; is = answer; written = added }
 fitted asks.Summary (verdicts.Fits events) text left left_now taken now answer read added fits line = absurd cc
@@ -20,8 +20,8 @@ fitted asked (verdicts.Refused n cause) text left left_now taken now answer read
 fitted asked (verdicts.Unreadable n what) text left left_now taken now answer read added fits line = absurd cc
 
 -- what is written where a trace doesn't fit or can't be read
-pub refusal_is : (asked : Asked) (verdict : Verdict) (text : List ℕ) → IsAnswer asked verdict text
-    → (status_of verdict ≡ statuses.Refused) ⊎ (status_of verdict ≡ statuses.Unreadable) → text ≡ text_of verdict
+pub refusal_is : (asked : Asked) (verdict : Verdict) (text : List ℕ) → IsToldAs asked verdict text
+    → (status_of verdict ≡ statuses.Refused) ⊎ (status_of verdict ≡ statuses.Unreadable) → text ≡ verdict_text verdict
 refusal_is asks.Line (verdicts.Fits events) text answer (inl is) = absurd cc
 refusal_is asks.Line (verdicts.Fits events) text answer (inr is) = absurd cc
 refusal_is asks.Summary (verdicts.Fits events) text answer (inl is) = absurd cc

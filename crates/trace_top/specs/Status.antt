@@ -7,24 +7,24 @@ use Rattle.trace_read.specs.declared.verdict.Verdict.{Verdict}
 use Rattle.trace_read.specs.declared.verdict.Verdict.TheVariants as verdicts
 
 -- the number that the process ends with
-abbrev pub code_of : Status → ℕ
-code_of statuses.Fits = 0
-code_of statuses.Usage = 2
-code_of statuses.Unreadable = 3
-code_of statuses.ReadFault = 4
-code_of statuses.WriteFault = 5
-code_of statuses.OutOfMemory = 6
-code_of statuses.Refused = 7
+abbrev pub check_code : Status → ℕ
+check_code statuses.Fits = 0
+check_code statuses.Usage = 2
+check_code statuses.Unreadable = 3
+check_code statuses.ReadFault = 4
+check_code statuses.WriteFault = 5
+check_code statuses.OutOfMemory = 6
+check_code statuses.Refused = 7
 
 -- the line for standard error, where there is one
-abbrev pub message_of : Status → Option (List ℕ)
-message_of statuses.Fits = None
-message_of statuses.Usage = Some (codes "usage: hrt_check [--summary] < TRACE")
-message_of statuses.Unreadable = None
-message_of statuses.ReadFault = Some (codes "hrt_check: read fault")
-message_of statuses.WriteFault = Some (codes "hrt_check: write fault")
-message_of statuses.OutOfMemory = Some (codes "hrt_check: out of memory")
-message_of statuses.Refused = None
+abbrev pub check_message : Status → Option (List ℕ)
+check_message statuses.Fits = None
+check_message statuses.Usage = Some (codes "usage: hrt_check [--summary] < TRACE")
+check_message statuses.Unreadable = None
+check_message statuses.ReadFault = Some (codes "hrt_check: read fault")
+check_message statuses.WriteFault = Some (codes "hrt_check: write fault")
+check_message statuses.OutOfMemory = Some (codes "hrt_check: out of memory")
+check_message statuses.Refused = None
 
 -- how the program ends where a text is answered so
 abbrev pub status_of : Verdict → Status

@@ -9,21 +9,21 @@ use Rattle.trace_read.specs.declared.verdict.Verdict.{Verdict}
 use Rattle.trace_read.specs.declared.verdict.Verdict.TheVariants as verdicts
 
 -- the word of a cause
-abbrev pub cause_word : Misfit → List ℕ
-cause_word causes.SetUpArmed = codes "SetUpArmed"
-cause_word causes.SetUpRunning = codes "SetUpRunning"
-cause_word causes.SoftAfterHard = codes "SoftAfterHard"
-cause_word causes.PastTime = codes "PastTime"
-cause_word causes.WasNotArmed = codes "WasNotArmed"
-cause_word causes.WasArmed = codes "WasArmed"
-cause_word causes.NotArmed = codes "NotArmed"
-cause_word causes.Running = codes "Running"
-cause_word causes.OtherProcessor = codes "OtherProcessor"
-cause_word causes.OtherContext = codes "OtherContext"
-cause_word (causes.TooEarly soft now) = codes "TooEarly"
-cause_word (causes.SecondFunction timer) = codes "SecondFunction"
-cause_word causes.OutOfOrder = codes "OutOfOrder"
-cause_word causes.NotRunning = codes "NotRunning"
+abbrev pub misfit_word : Misfit → List ℕ
+misfit_word causes.SetUpArmed = codes "SetUpArmed"
+misfit_word causes.SetUpRunning = codes "SetUpRunning"
+misfit_word causes.SoftAfterHard = codes "SoftAfterHard"
+misfit_word causes.PastTime = codes "PastTime"
+misfit_word causes.WasNotArmed = codes "WasNotArmed"
+misfit_word causes.WasArmed = codes "WasArmed"
+misfit_word causes.NotArmed = codes "NotArmed"
+misfit_word causes.Running = codes "Running"
+misfit_word causes.OtherProcessor = codes "OtherProcessor"
+misfit_word causes.OtherContext = codes "OtherContext"
+misfit_word (causes.TooEarly soft now) = codes "TooEarly"
+misfit_word (causes.SecondFunction timer) = codes "SecondFunction"
+misfit_word causes.OutOfOrder = codes "OutOfOrder"
+misfit_word causes.NotRunning = codes "NotRunning"
 
 -- what a cause tells beside its word
 abbrev pub cause_rest : Misfit → List ℕ
@@ -43,14 +43,14 @@ what_word wrong.WasArmed = codes "no was_armed"
 what_word wrong.Now = codes "no now"
 
 -- the line that tells of this line, and the reason
-abbrev pub line_text : ℕ → List ℕ → List ℕ
-line_text line reason = codes "line " ++ decimal line ++ codes ": " ++ reason ++ 10 ∷ []
+abbrev pub told_line : ℕ → List ℕ → List ℕ
+told_line line reason = codes "line " ++ decimal line ++ codes ": " ++ reason ++ 10 ∷ []
 
 -- the line that tells where and why a trace doesn't fit, or can't be read
-abbrev pub text_of : Verdict → List ℕ
-text_of (verdicts.Fits events) = []
-text_of (verdicts.Refused line cause) = line_text line (cause_word cause ++ cause_rest cause)
-text_of (verdicts.Unreadable line what) = line_text line (what_word what)
+abbrev pub verdict_text : Verdict → List ℕ
+verdict_text (verdicts.Fits events) = []
+verdict_text (verdicts.Refused line cause) = told_line line (misfit_word cause ++ cause_rest cause)
+verdict_text (verdicts.Unreadable line what) = told_line line (what_word what)
 
 -- how many events and timers a trace has
 abbrev pub counts_text : ℕ → ℕ → List ℕ

@@ -1,6 +1,6 @@
 //! The words of the command line.
 ghost use Rattle.std.specs.Prelude.{◌≡◌};
-ghost use Rattle.trace_top.specs.Command.{asked_by};
+ghost use Rattle.trace_top.specs.Command.{asked_of_words};
 
 use crate::status::Status;
 use std::alloc::Global;
@@ -16,7 +16,7 @@ pub enum Asked {
 
 /// What words ask for, the program's name first; `None` where that is nothing that the program does.
 pub fn asks(words: &[String]) -> Option<Asked>
-    ensures { result ≡ asked_by words.now }
+    ensures { result ≡ asked_of_words words.now }
 {
     match words.len() {
         1 => Some(Asked::Line),

@@ -1,6 +1,6 @@
 //! How the program ends.
 ghost use Rattle.std.specs.Prelude.{◌≡◌, option_map};
-ghost use Rattle.trace_top.specs.Status.{code_of, message_of, status_of};
+ghost use Rattle.trace_top.specs.Status.{check_code, check_message, status_of};
 
 use trace_read::Verdict;
 
@@ -37,7 +37,7 @@ impl Status {
 
     /// The number that the process ends with.
     pub fn code(self) -> u8
-        ensures { result ≡ code_of self }
+        ensures { result ≡ check_code self }
     {
         match self {
             Status::Fits => 0,
@@ -52,7 +52,7 @@ impl Status {
 
     /// The line for standard error, where there is one.
     pub fn message(self) -> Option<&'static str>
-        ensures { option_map (λ text. text.now) result ≡ message_of self }
+        ensures { option_map (λ text. text.now) result ≡ check_message self }
     {
         match self {
             Status::Fits | Status::Unreadable | Status::Refused => None,

@@ -1,7 +1,7 @@
 //! The line for a trace that doesn't fit or can't be read.
 ghost use Rattle.std.specs.Prelude.{◌≡◌, ◌++◌, false, IfOk, codes, string_bytes};
 ghost use Rattle.std.specs.Fmt.{decimal, digits};
-ghost use Rattle.trace_top.specs.Texts.{cause_rest, cause_word, line_text, text_of, what_word};
+ghost use Rattle.trace_top.specs.Texts.{cause_rest, misfit_word, told_line, verdict_text, what_word};
 
 use std::alloc::{AllocError, Global};
 use trace_check::Misfit;
@@ -10,7 +10,7 @@ use trace_text::Unreadable;
 
 /// The word of a cause.
 fn cause_word(cause: Misfit) -> &'static str
-    ensures { result.now ≡ cause_word cause }
+    ensures { result.now ≡ misfit_word cause }
 {
     match cause {
         Misfit::SetUpArmed => "SetUpArmed",
@@ -48,7 +48,7 @@ fn what_word(what: Unreadable) -> &'static str
 
 /// The line of this number and its reason.
 fn line_text(alloc: Global, line: u64, reason: &str) -> Result<String, AllocError>
-    ensures { IfOk result (λ t. string_bytes t ≡ line_text line reason.now) }
+    ensures { IfOk result (λ t. string_bytes t ≡ told_line line reason.now) }
 {
     Ok(format!(in alloc; "line {line}: {reason}\n")?)
 }
@@ -69,7 +69,7 @@ fn second_text(alloc: Global, word: &str, timer: u64) -> Result<String, AllocErr
 
 /// A cause with what it tells.
 fn cause_text(alloc: Global, cause: Misfit) -> Result<String, AllocError>
-    ensures { IfOk result (λ t. string_bytes t ≡ cause_word cause ++ cause_rest cause) }
+    ensures { IfOk result (λ t. string_bytes t ≡ misfit_word cause ++ cause_rest cause) }
 {
     let word = cause_word(cause);
     match cause {
@@ -81,7 +81,7 @@ fn cause_text(alloc: Global, cause: Misfit) -> Result<String, AllocError>
 
 /// The line that tells how a trace is answered, where it doesn't fit or can't be read.
 pub fn text_of(alloc: Global, verdict: Verdict) -> Result<String, AllocError>
-    ensures { IfOk result (λ t. string_bytes t ≡ text_of verdict) }
+    ensures { IfOk result (λ t. string_bytes t ≡ verdict_text verdict) }
 {
     match verdict {
         Verdict::Fits { .. } => Ok(String::new(alloc)),

@@ -1,7 +1,7 @@
 //! All that the program does, over the streams that it is handed.
 ghost use Rattle.std.specs.Prelude.{◌≡◌, ◌≤◌, ◌⊎◌, Some, None, IfOk, IfSome, string_bytes};
-ghost use Rattle.trace_top.specs.Checking.{HasAnswered, HasFitted, HasRefused, IsAnswer, MayEnd, MustAnswer};
-ghost use Rattle.trace_top.specs.Command.{asked_by};
+ghost use Rattle.trace_top.specs.Checking.{HasAnswered, HasFitted, HasToldMisfit, IsToldAs, MayEnd, MustEnd};
+ghost use Rattle.trace_top.specs.Command.{asked_of_words};
 ghost use Rattle.byte_streams.specs.Streams.{Rose};
 
 use crate::checking::{CheckFault, check};
@@ -22,15 +22,15 @@ pub fn top<S: Source, K: Sink>(
     source: &mut S,
     sink: &mut K,
 ) -> Status
-    ensures usage { result ≡ Status.Usage → asked_by words.now ≡ None }
-    ensures untouched { asked_by words.now ≡ None → (result ≡ Status.Usage) × (source.new ≡ source.old) × (sink.new ≡ sink.old) }
+    ensures usage { result ≡ Status.Usage → asked_of_words words.now ≡ None }
+    ensures untouched { asked_of_words words.now ≡ None → (result ≡ Status.Usage) × (source.new ≡ source.old) × (sink.new ≡ sink.old) }
     ensures fits { result ≡ Status.Fits → HasAnswered (S.left source.old) (S.left source.new) result }
-    ensures told { result ≡ Status.Fits → asked_by words.now ≡ Some Asked.Line → HasFitted (S.left source.old) (S.left source.new) (K.taken sink.old) (K.taken sink.new) }
-    ensures refused { (result ≡ Status.Refused) ⊎ (result ≡ Status.Unreadable) → HasRefused (S.left source.old) (S.left source.new) (K.taken sink.old) (K.taken sink.new) result }
+    ensures told { result ≡ Status.Fits → asked_of_words words.now ≡ Some Asked.Line → HasFitted (S.left source.old) (S.left source.new) (K.taken sink.old) (K.taken sink.new) }
+    ensures refused { (result ≡ Status.Refused) ⊎ (result ≡ Status.Unreadable) → HasToldMisfit (S.left source.old) (S.left source.new) (K.taken sink.old) (K.taken sink.new) result }
     ensures read_fault { result ≡ Status.ReadFault → Rose (S.faults source.old) (S.faults source.new) }
     ensures write_fault { result ≡ Status.WriteFault → Rose (K.faults sink.old) (K.faults sink.new) }
     ensures unwritten { (result ≡ Status.ReadFault) ⊎ (result ≡ Status.OutOfMemory) → sink.new ≡ sink.old }
-    ensures complete { (asked_by words.now ≡ None → ⊥) → (Rose (S.faults source.old) (S.faults source.new) → ⊥) → (Rose (K.faults sink.old) (K.faults sink.new) → ⊥) → IfSome (S.left source.old) (λ bytes. MustAnswer bytes result) }
+    ensures complete { (asked_of_words words.now ≡ None → ⊥) → (Rose (S.faults source.old) (S.faults source.new) → ⊥) → (Rose (K.faults sink.old) (K.faults sink.new) → ⊥) → IfSome (S.left source.old) (λ bytes. MustEnd bytes result) }
     ensures source_later { S.faults source.old ≤ S.faults source.new }
     ensures sink_later { K.faults sink.old ≤ K.faults sink.new }
 {
@@ -45,7 +45,7 @@ fn run<S: Source, K: Sink>(alloc: Global, asked: Asked, source: &mut S, sink: &m
     ensures used { result ≡ Status.Usage → ⊥ }
     ensures fits { result ≡ Status.Fits → HasAnswered (S.left source.old) (S.left source.new) result }
     ensures told { result ≡ Status.Fits → asked ≡ Asked.Line → HasFitted (S.left source.old) (S.left source.new) (K.taken sink.old) (K.taken sink.new) }
-    ensures refused { (result ≡ Status.Refused) ⊎ (result ≡ Status.Unreadable) → HasRefused (S.left source.old) (S.left source.new) (K.taken sink.old) (K.taken sink.new) result }
+    ensures refused { (result ≡ Status.Refused) ⊎ (result ≡ Status.Unreadable) → HasToldMisfit (S.left source.old) (S.left source.new) (K.taken sink.old) (K.taken sink.new) result }
     ensures read_fault { result ≡ Status.ReadFault → Rose (S.faults source.old) (S.faults source.new) }
     ensures write_fault { result ≡ Status.WriteFault → Rose (K.faults sink.old) (K.faults sink.new) }
     ensures unwritten { (result ≡ Status.ReadFault) ⊎ (result ≡ Status.OutOfMemory) → sink.new ≡ sink.old }
@@ -75,7 +75,7 @@ fn answer(
     verdict: Verdict,
     reader: &Reader,
 ) -> Result<String, AllocError>
-    ensures { IfOk result (λ t. IsAnswer asked verdict (string_bytes t)) }
+    ensures { IfOk result (λ t. IsToldAs asked verdict (string_bytes t)) }
 {
     match verdict {
         Verdict::Fits { events } => {

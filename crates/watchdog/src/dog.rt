@@ -1,6 +1,5 @@
 //! The watchdog's timer, and what its function does.
-use expire_pass::{Handler, Restart};
-use hr_timers::{Claim, Pass, Timers};
+use hr_timers::{Claim, Handler, Pass, Restart, Timers};
 use ktime::Reading;
 use std::sync::Wait;
 
@@ -15,7 +14,7 @@ pub struct Dog {
 
 impl Handler for Dog {
     ghost use Rattle.std.specs.Prelude.{◌≡◌, ◌^◌};
-    ghost use Rattle.expire_pass.specs.declared.handler.Restart.TheVariants as restarts;
+    ghost use Rattle.hr_timers.specs.declared.handler.Restart.TheVariants as restarts;
 
     // What each function does; for how many functions there is room; the most timers that it serves, here all that there can be; and how
     // many bases and counters it needs.

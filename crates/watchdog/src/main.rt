@@ -7,8 +7,7 @@ ghost use Rattle.hr_timers.specs.Known.{IsPassOf};
 mod dog;
 
 use dog::{DOG, Dog};
-use expire_pass::{Log, expire};
-use hr_timers::{Pass, Timers};
+use hr_timers::{Log, Pass, Timers, expire};
 use ktime::{ClockId, Mode, Reading};
 use pass_names::a_pass_answers_for_its_split;
 use std::alloc::{AllocError, Global};

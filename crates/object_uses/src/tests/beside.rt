@@ -4,7 +4,7 @@ ghost use Rattle.std.specs.Prelude.{◌≤◌, ◌<◌};
 use super::assert_equal;
 use super::stand::{FD, NONE, Stand, Step, Told, number_at};
 use crate::{Expired, read_beside};
-use expire_pass::{ExpireAnswer, Log};
+use hr_timers::{ExpireAnswer, Log};
 use ktime::{ClockId, Reading};
 use std::alloc::{AllocError, Global};
 use std::sync::Wait;

@@ -1,7 +1,7 @@
 //! The calls of one thread, each on its happy path, and the receipts of their entries.
 use super::assert_equal;
 use super::stand::{FD, NONE, QUEUED, Stand, Step, Told};
-use expire_pass::ExpireAnswer;
+use hr_timers::ExpireAnswer;
 use ktime::{ClockId, Reading};
 use posix_timer::AcceptAnswer;
 use sleeper::SleptAnswer;

@@ -1,7 +1,6 @@
 //! The log of `expire_pass` as callers use it.
 use super::assert_equal;
-use expire_pass::{Log, Noted, Receipt};
-use hr_timers::ReceiptSink;
+use hr_timers::{Log, Noted, Receipt, ReceiptSink};
 use seq_timer::{Event, Observation, Reply};
 use std::test::Fail;
 

@@ -2,7 +2,7 @@
 use super::assert_equal;
 use super::stand::{QUEUED, Stand, Step, Told};
 use crate::{Taken, take_signals};
-use expire_pass::ExpireAnswer;
+use hr_timers::ExpireAnswer;
 use ktime::{ClockId, Reading};
 use std::sync::Wait;
 use std::test::Fail;

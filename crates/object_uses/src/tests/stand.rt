@@ -3,8 +3,7 @@ ghost use Rattle.std.specs.Prelude.{◌≡◌, ◌≤◌, ◌<◌, OnOk};
 
 use crate::{accept_signal, await_frame, expire_queued, leave_frame, read_count, set_timer};
 use counted_row::RowPass;
-use expire_pass::{ExpireAnswer, Log};
-use hr_timers::{Pass, Timers};
+use hr_timers::{ExpireAnswer, Log, Pass, Timers};
 use ktime::{ClockId, Reading, TimeSpec};
 use posix_timer::AcceptAnswer;
 use seq_timer::{Declared, Terms};

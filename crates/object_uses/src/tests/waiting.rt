@@ -2,7 +2,7 @@
 //! makes.
 ghost use Rattle.std.specs.Prelude.{◌≡◌, ◌+◌, ◌≤◌, ◌<◌, length};
 ghost use Rattle.hr_timers.specs.Known.{IsPassOf};
-ghost use Rattle.expire_pass.specs.Handlers.{KeepsPass};
+ghost use Rattle.hr_timers.specs.Handlers.{KeepsPass};
 ghost use Rattle.timer_objects.specs.declared.object.Kind.TheVariants as kinds;
 ghost use Rattle.timer_objects.specs.Known.{IsObjectsPass, decl_at, most_noted};
 ghost use Rattle.timer_objects.specs.Calls.{HasSetting};
@@ -12,8 +12,7 @@ use super::assert_equal;
 use super::stand::{FD, NONE, QUEUED, Stand, Step, Told, number_at};
 use crate::set_timer;
 use counted_row::RowPass;
-use expire_pass::{ExpireAnswer, Handler, Log, Restart, expire};
-use hr_timers::{Claim, Pass, Timers};
+use hr_timers::{Claim, ExpireAnswer, Handler, Log, Pass, Restart, Timers, expire};
 use ktime::{ClockId, Reading};
 use std::alloc::{AllocError, Global};
 use std::sync::Wait;

@@ -6,8 +6,7 @@ ghost use Rattle.record_text.specs.Text.{counted_word, restart_word, spaced, wri
 ghost use Rattle.record_text.specs.Words.{clock_word, mode_word, version_word};
 
 use crate::version::Version;
-use clock_model::Write;
-use ktime::{ClockId, Mode};
+use ktime::{ClockId, Mode, Write};
 use std::alloc::AllocError;
 
 /// Writes a word and numbers behind it, each after a space.

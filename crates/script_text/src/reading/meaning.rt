@@ -11,8 +11,7 @@ ghost use Rattle.script_text.specs.CallLines.{call_of, object_call_of, plain_cal
 use crate::form::Form;
 use crate::form::Value::{self, Clock, Mode, Number};
 use crate::script::{Call, Callback, Declaration, Kind, LaneCall, StartRequest};
-use clock_model::Write;
-use ktime::TimeSpec;
+use ktime::{TimeSpec, Write};
 use seq_timer::Context;
 
 /// What a declaration declares, by its form and values.

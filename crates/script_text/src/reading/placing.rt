@@ -1,7 +1,7 @@
 //! The causes that refuse a line after the lines before it.
 ghost use Rattle.std.specs.Prelude.{◌≡◌};
 ghost use Rattle.script_text.specs.Forms.{row};
-ghost use Rattle.script_text.specs.Scripts.{most_bases, most_events, most_lanes, most_timers};
+ghost use Rattle.script_text.specs.Scripts.{most_script_bases, most_events, most_lanes, most_timers};
 ghost use Rattle.script_text.specs.Refusals.{base_named, check_line, check_count, check_kind, check_number, check_value, check_values, is_placed, drafted_kind};
 
 use crate::form::{Field, Form, Line, Part, Value};
@@ -19,7 +19,7 @@ const MOST_BUDGET: u64 = 4096;
 
 /// How many bases a script of a version may have.
 fn most_bases(version: Version) -> u64
-    ensures { result ≡ most_bases version }
+    ensures { result ≡ most_script_bases version }
 {
     match version {
         Version::One => 8,

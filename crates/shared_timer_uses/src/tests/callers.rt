@@ -7,8 +7,7 @@ use super::{HARD, SOFT, assert_equal, some_timers};
 use crate::{
     OneShot, Stopped, Tick, expire_once, expire_periodic, start_once, stop_and_wait, stop_now,
 };
-use expire_pass::{ExpireAnswer, Log, expire, expire_soft};
-use hr_timers::{Pass, Timers};
+use hr_timers::{ExpireAnswer, Log, Pass, Timers, expire, expire_soft};
 use ktime::{Mode, Reading};
 use seq_timer::Moved;
 use std::alloc::{AllocError, Global};

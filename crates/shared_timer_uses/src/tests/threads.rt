@@ -1,12 +1,11 @@
 //! Two threads: one that waits for the end of a function that runs in the other, and two on one base.
 ghost use Rattle.std.specs.Prelude.{◌≡◌, ◌<◌, ◌≤◌, length};
 ghost use Rattle.hr_timers.specs.Known.{IsPassOf};
-ghost use Rattle.expire_pass.specs.Handlers.{KeepsPass};
+ghost use Rattle.hr_timers.specs.Handlers.{KeepsPass};
 
 use super::{TURNS, assert_equal, retire, some_timers};
 use crate::{OneShot, expire_and_stop, start_anew, start_counted, start_once, stop_and_wait};
-use expire_pass::{ExpireAnswer, Handler, Log, Restart, expire};
-use hr_timers::{Claim, Pass, Timers};
+use hr_timers::{Claim, ExpireAnswer, Handler, Log, Pass, Restart, Timers, expire};
 use ktime::Reading;
 use seq_timer::CancelAnswer;
 use std::sync::Wait;

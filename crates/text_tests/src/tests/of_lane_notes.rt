@@ -1,8 +1,7 @@
 //! Tests of notes and of the record that is made of them.
 use crate::tests::of_record_text::shows;
-use clock_model::Write;
-use expire_pass::{Noted, Receipt};
-use ktime::{ClockId, Mode, Reading};
+use hr_timers::{Noted, Receipt};
+use ktime::{ClockId, Mode, Reading, Write};
 use lane_notes::{BaseNote, Notes, note_object_receipts, note_receipts, record_of};
 use posix_timer::{AcceptAnswer, Arm, TriggerAnswer};
 use record_text::{ClockLine, Label, Version};

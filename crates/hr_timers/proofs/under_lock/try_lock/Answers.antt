@@ -4,14 +4,14 @@ use Rattle.seq_timer.specs.Systems.{BaseContent}
 use Rattle.base_row.specs.declared.view.HeldContent.{HeldContent}
 use Rattle.base_row.specs.declared.view.BaseView.{BaseView}
 use Rattle.base_row.specs.Calls.{GetsBase, MissesBase}
-use Rattle.hr_timers.specs.Known.{Looks}
+use Rattle.hr_timers.specs.Known.{OnlySeesMore}
 use Rattle.hr_timers.proofs.Making.{looks_locked, looks_missed}
 use Rattle.hr_timers.proofs.under_lock.try_lock.Goals as goal
 
 record Tried (base : ℕ) (v w : BaseView BaseContent) (r : Option (HeldContent BaseContent)) : Type 0 where
   at : IfSome r (λ h. h.base ≡ base)
   held : w.held ≡ r
-  looks : Looks v w
+  looks : OnlySeesMore v w
 
 tried : (base : ℕ) (v w : BaseView BaseContent) (r : Option (HeldContent BaseContent))
     → v.held ≡ None → MatchOption r (MissesBase base v w) (λ h. GetsBase base v w h) → Tried base v w r

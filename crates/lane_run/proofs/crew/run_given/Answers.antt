@@ -5,9 +5,9 @@ use Rattle.script_text.specs.declared.script.LaneCall.{LaneCall}
 use Rattle.script_text.specs.declared.script.Round.{Round}
 use Rattle.script_text.specs.declared.script.Script.{Script}
 use Rattle.script_text.proofs.VersionOne.{version_one_is_hard}
-use Rattle.lane_world.specs.Called.{CanCall}
-use Rattle.lane_world.specs.Rounds.{RunsLane}
-use Rattle.lane_world.specs.Worlds.{WorldOf}
+use Rattle.lane_notes.specs.Called.{CanCall}
+use Rattle.lane_notes.specs.Rounds.{RunsLane}
+use Rattle.lane_notes.specs.Worlds.{WorldOf}
 use Rattle.lane_run.proofs.Ranges.{round_can}
 use Rattle.lane_run.proofs.crew.run_given.Goals as goal
 

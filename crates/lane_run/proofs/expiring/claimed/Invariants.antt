@@ -1,5 +1,5 @@
 use Rattle.std.proofs.Common.{◌≡◌, take}
-use Rattle.lane_world.specs.Called.{claimed_in}
+use Rattle.lane_notes.specs.Called.{claimed_in}
 use Rattle.lane_run.proofs.expiring.claimed.Given as goal
 
 abbrev pub invariant-loop-receipt : goal.invariant-loop-receipt

@@ -4,7 +4,7 @@ use Rattle.lane_notes.proofs.Receipts.{with_receipts-append}
 use Rattle.lane_notes.specs.Entries.{with_receipts}
 use Rattle.lane_notes.specs.Notes.{NotesOf}
 use Rattle.lane_notes.specs.Objects.{with_object_receipts}
-use Rattle.lane_world.specs.Called.{expire_told}
+use Rattle.lane_notes.specs.Called.{expire_told}
 use Rattle.lane_run.proofs.Objects.{reads_still}
 use Rattle.lane_run.proofs.expiring.expire.Goals as goal
 

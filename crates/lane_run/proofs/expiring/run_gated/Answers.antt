@@ -3,14 +3,14 @@ use Rattle.counted_row.specs.Views.{Knows}
 use Rattle.timer_objects.specs.Meaning.{object_meaning}
 use Rattle.timer_objects.specs.Known.{ObjectsPass}
 use Rattle.base_row.specs.declared.log.Receipt.{Receipt}
-use Rattle.expire_pass.specs.Expiring.{Expires}
+use Rattle.hr_timers.specs.Expiring.{Expires}
 use Rattle.base_row.specs.Logs.{LogOf}
 use Rattle.signal_queue.specs.Views.{KnowsQueue, PassOfQueue}
 use Rattle.timer_objects.specs.QueuedFirings.{queued_firing}
 use Rattle.timer_objects.specs.declared.log.ObjectReceipt.{ObjectReceipt}
-use Rattle.lane_world.specs.Expiries.{RunsGated}
-use Rattle.lane_world.specs.Worlds.{ArePassesOf, KeepPasses, WorldOf}
-use Rattle.lane_world.specs.declared.WorldPass.{WorldPass}
+use Rattle.lane_notes.specs.Expiries.{RunsGated}
+use Rattle.lane_notes.specs.Worlds.{ArePassesOf, KeepPasses, WorldOf}
+use Rattle.lane_notes.specs.declared.lane.WorldPass.{WorldPass}
 use Rattle.timer_objects.proofs.QueuedLending.{objects_after, signals_after}
 use Rattle.lane_run.proofs.expiring.run_gated.Goals as goal
 

@@ -1,9 +1,9 @@
 use Rattle.std.proofs.Common.{◌≡◌, ◌∙◌, refl, rules, subst}
 use Rattle.timer_objects.specs.QueuedFirings.{QueuedFiring, queued_firing}
 use Rattle.lane_run.specs.declared.expiring.Gated.{Gated}
-use Rattle.expire_pass.proofs.Leaving.{expires_of, run_leaves}
+use Rattle.hr_timers.proofs.ExpiryEnds.{expires_of, run_leaves}
 use Rattle.timer_objects.proofs.QueuedLending.{leaves_passes}
-use Rattle.lane_world.specs.Expiries.{RunsWith}
+use Rattle.lane_notes.specs.Expiries.{RunsWith}
 use Rattle.lane_run.proofs.QueueKept.{knows_still}
 use Rattle.lane_run.proofs.expiring.run_with.Goals as goal
 

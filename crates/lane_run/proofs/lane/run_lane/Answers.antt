@@ -1,6 +1,6 @@
 use Rattle.std.proofs.Common.{◌+◌, arith, sym, subst, take}
 use Rattle.std.proofs.lemmas.Bool.{eq-eqb}
-use Rattle.lane_world.specs.declared.Lane.{Lane}
+use Rattle.lane_notes.specs.declared.lane.Lane.{Lane}
 use Rattle.lane_run.proofs.Calls.{HasCome, calls_of_lane, come_last, come_none, come_on, come_past, other_lane}
 use Rattle.lane_run.proofs.lane.run_lane.Goals as goal
 use Rattle.lane_run.proofs.lane.run_lane.Goals.{then-line-lane, else-line-lane}

@@ -2,7 +2,7 @@ use Rattle.std.proofs.Common.{◌≡◌, ◌∙◌, ap, refl}
 use Rattle.ktime.specs.Readings.{ClockReading}
 use Rattle.timer_objects.specs.Calls.{Gettimes}
 use Rattle.timer_objects.specs.Known.{decl_at}
-use Rattle.lane_world.specs.Called.{gettime_told}
+use Rattle.lane_notes.specs.Called.{gettime_told}
 use Rattle.lane_run.proofs.Objects.{calls_object}
 use Rattle.lane_run.proofs.object_calls.gettime.Goals as goal
 

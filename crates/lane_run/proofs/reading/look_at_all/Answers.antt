@@ -1,7 +1,7 @@
 use Rattle.std.proofs.Common.{refl, subst}
 use Rattle.hr_timers.specs.Known.{IsPassOf}
 use Rattle.timer_objects.specs.Known.{IsObjectsPass}
-use Rattle.lane_world.specs.Worlds.{WorldOf}
+use Rattle.lane_notes.specs.Worlds.{WorldOf}
 use Rattle.lane_run.proofs.Looking.{looked_more, looked_none}
 use Rattle.lane_run.proofs.reading.look_at_all.Goals as goal
 

@@ -2,9 +2,9 @@ use Rattle.std.specs.Prelude.{option_to_list}
 use Rattle.std.proofs.Common.{ℕ, List, ◌++◌, ◌≡◌, ◌<◌, ◌∙◌, ap, arith, get_or, length, subst, sym}
 use Rattle.std.proofs.lemmas.List.{append-nil}
 use Rattle.handoff.specs.Seated.{HandoffOf, MayGive}
-use Rattle.lane_world.specs.declared.Lane.{Lane}
-use Rattle.lane_world.specs.Rounds.{CanRun, RunsLane}
-use Rattle.lane_world.specs.Worlds.{WorldOf}
+use Rattle.lane_notes.specs.declared.lane.Lane.{Lane}
+use Rattle.lane_notes.specs.Rounds.{CanRun, RunsLane}
+use Rattle.lane_notes.specs.Worlds.{WorldOf}
 use Rattle.lane_run.specs.declared.crew.Ground.{Ground}
 use Rattle.lane_run.specs.Crews.{AreAt, SeatOfLanes}
 use Rattle.lane_run.proofs.Crewing.{at_pop_by, at_return, came_back}

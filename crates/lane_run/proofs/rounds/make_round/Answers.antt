@@ -1,9 +1,9 @@
 use Rattle.std.proofs.Common.{◌≡◌, ◌<◌, ◌∙◌, length, get_or, [], sym, subst, ap}
 use Rattle.record_text.specs.declared.record.Answer.{Answer}
 use Rattle.std.proofs.lemmas.List.{get_or_default}
-use Rattle.lane_world.specs.Rounds.{HasSplit, LeftOf, as_index}
-use Rattle.lane_world.specs.Worlds.{ArePassesOf, KeepPasses}
-use Rattle.lane_world.specs.declared.WorldPass.{WorldPass}
+use Rattle.lane_notes.specs.Rounds.{HasSplit, LeftOf, as_index}
+use Rattle.lane_notes.specs.Worlds.{ArePassesOf, KeepPasses}
+use Rattle.lane_notes.specs.declared.lane.WorldPass.{WorldPass}
 use Rattle.lane_run.proofs.Calls.{on_both}
 use Rattle.lane_run.proofs.Mains.{main_ran}
 use Rattle.std.proofs.Common.{List}

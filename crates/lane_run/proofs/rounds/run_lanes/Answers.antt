@@ -1,8 +1,8 @@
 use Rattle.std.proofs.Common.{sym, subst}
 use Rattle.std.specs.Prelude.{All}
 use Rattle.std.proofs.lemmas.List.Elements.{All-push}
-use Rattle.lane_world.specs.declared.Lane.{Lane}
-use Rattle.lane_world.specs.Rounds.{CanRun, RunsLane}
+use Rattle.lane_notes.specs.declared.lane.Lane.{Lane}
+use Rattle.lane_notes.specs.Rounds.{CanRun, RunsLane}
 use Rattle.lane_run.proofs.Taking.{ran_apart}
 use Rattle.lane_run.proofs.rounds.run_lanes.Goals as goal
 

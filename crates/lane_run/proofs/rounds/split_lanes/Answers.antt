@@ -1,10 +1,10 @@
 use Rattle.std.proofs.Common.{◌≡◌, List, ◌<◌, ◌+◌, [], ◌∷◌, ◌++◌, length, get_or, ap, sym, ◌∙◌, subst, arith}
 use Rattle.record_text.specs.declared.record.Answer.{Answer}
-use Rattle.lane_world.specs.declared.Lane.{Lane}
-use Rattle.lane_world.specs.Rounds.{LeftOf, as_index}
+use Rattle.lane_notes.specs.declared.lane.Lane.{Lane}
+use Rattle.lane_notes.specs.Rounds.{LeftOf, as_index}
 use Rattle.std.proofs.lemmas.List.{append-nil, get_or_default}
 use Rattle.lane_run.proofs.Mains.{splits_lane}
-use Rattle.lane_world.specs.declared.WorldPass.{WorldPass}
+use Rattle.lane_notes.specs.declared.lane.WorldPass.{WorldPass}
 use Rattle.lane_run.proofs.Splitting.{SplitsSoFar, splits_more, splits_none, splits_past}
 use Rattle.lane_run.proofs.rounds.split_lanes.Goals as goal
 use Rattle.lane_run.proofs.rounds.split_lanes.Goals.{then-has_calls, else-has_calls}

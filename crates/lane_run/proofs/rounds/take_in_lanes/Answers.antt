@@ -1,7 +1,7 @@
 use Rattle.std.proofs.Common.{◌<◌, ◌∙◌, length, refl, subst, sym}
 use Rattle.std.proofs.lemmas.Bool.{true≢false}
 use Rattle.lane_run.proofs.Calls.{no_error}
-use Rattle.lane_world.specs.Rounds.{IsLaneOf, IsMain}
+use Rattle.lane_notes.specs.Rounds.{IsLaneOf, IsMain}
 use Rattle.lane_run.proofs.Mains.{answers_last}
 use Rattle.lane_run.proofs.Taking.{last_of, takes_none, takes_one}
 use Rattle.lane_run.proofs.rounds.take_in_lanes.Goals as goal

@@ -5,8 +5,8 @@ use Rattle.std.specs.List.{AllByRecursion}
 use Rattle.std.proofs.lemmas.List.{take_all, take_more}
 use Rattle.script_text.specs.declared.script.LaneCall.{LaneCall}
 use Rattle.script_text.specs.declared.script.Round.{Round}
-use Rattle.lane_world.specs.Rounds.{MakesRound, MakesRounds, none_left}
-use Rattle.lane_world.specs.Called.{CanCall}
+use Rattle.lane_notes.specs.Rounds.{MakesRound, MakesRounds, none_left}
+use Rattle.lane_notes.specs.Called.{CanCall}
 use Rattle.lane_run.proofs.Greatest.{lanes_few}
 use Rattle.lane_run.proofs.Looking.{run_made}
 use Rattle.lane_run.proofs.Ranges.{round_can}

@@ -1,5 +1,5 @@
 use Rattle.std.proofs.Common.{◌≡◌, [], length, take}
-use Rattle.lane_world.specs.Rounds.{IsMain, MakesRounds, none_left}
+use Rattle.lane_notes.specs.Rounds.{IsMain, MakesRounds, none_left}
 use Rattle.lane_run.specs.Crews.{AllMayGive}
 use Rattle.lane_run.proofs.running.make_rounds.Given as goal
 

@@ -1,5 +1,5 @@
 use Rattle.std.proofs.Common.{refl}
-use Rattle.lane_world.specs.declared.WorldPass.{WorldPass}
+use Rattle.lane_notes.specs.declared.lane.WorldPass.{WorldPass}
 use Rattle.lane_run.proofs.Objects.{calls_sigwait}
 use Rattle.lane_run.proofs.signals.sigwait.Goals as goal
 

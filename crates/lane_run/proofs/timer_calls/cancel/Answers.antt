@@ -1,6 +1,6 @@
 use Rattle.std.proofs.Common.{ap, refl, ◌∙◌}
 use Rattle.lane_run.proofs.Logged.{cancel_logged, only_timers}
-use Rattle.lane_world.specs.Worlds.{WorldOf}
+use Rattle.lane_notes.specs.Worlds.{WorldOf}
 use Rattle.lane_run.proofs.timer_calls.cancel.Goals as goal
 
 pub returns-clause-call : goal.returns-clause-call

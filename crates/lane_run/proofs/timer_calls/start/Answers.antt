@@ -1,7 +1,7 @@
 use Rattle.std.proofs.Common.{ap, refl, ◌∙◌}
 use Rattle.seq_timer.specs.Calls.{asked_for}
 use Rattle.lane_run.proofs.Logged.{only_timers, start_logged}
-use Rattle.lane_world.specs.Worlds.{WorldOf}
+use Rattle.lane_notes.specs.Worlds.{WorldOf}
 use Rattle.lane_run.proofs.timer_calls.start.Goals as goal
 
 pub returns-clause-call : goal.returns-clause-call

@@ -1,5 +1,5 @@
 use Rattle.std.proofs.Common.{◌∙◌, ap}
-use Rattle.expire_pass.proofs.Turning.{keeps_trans}
+use Rattle.hr_timers.proofs.ExpiryTurns.{keeps_trans}
 use Rattle.pass_names.proofs.Passes.{begins_trans, goes_trans}
 use Rattle.timer_objects.proofs.Lending.{keeps_both}
 use Rattle.object_uses.specs.declared.queued.Taken.{Taken}

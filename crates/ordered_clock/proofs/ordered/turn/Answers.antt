@@ -1,6 +1,6 @@
 use Rattle.std.proofs.Common.{ap, arith, inr, subst}
 use Rattle.clock_cell.proofs.Taking.{hears_again, takes_again}
-use Rattle.clock_model.proofs.Writes.{shown_by}
+use Rattle.ktime.proofs.Writes.{shown_by}
 use Rattle.ordered_clock.proofs.Moments.{grown, read_at, written_at}
 use Rattle.ordered_clock.specs.Moments.{ReadsAt}
 use Rattle.ordered_clock.proofs.ordered.turn.Goals as goal

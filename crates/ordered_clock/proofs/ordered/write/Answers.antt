@@ -2,8 +2,8 @@ use Rattle.std.proofs.Common.{◌≡◌, ◌⊎◌, ◌∙◌, inr, Ok, Err, Res
 use Rattle.pass_names.specs.Passes.{Looks}
 use Rattle.pass_names.proofs.Passes as clocks
 use Rattle.pass_names.proofs.SharedHistory.{looks_trans}
-use Rattle.clock_model.specs.declared.write.ClockFault.{ClockFault}
-use Rattle.clock_model.specs.declared.write.Write.{Write}
+use Rattle.ktime.specs.declared.write.ClockFault.{ClockFault}
+use Rattle.ktime.specs.declared.write.Write.{Write}
 use Rattle.ktime.specs.Readings.{ClockReading}
 use Rattle.clock_cell.proofs.Taking.{hears_again, takes_again}
 use Rattle.clock_cell.specs.Views.{AnswersWrite, Hears}

@@ -1,7 +1,7 @@
 //! A base that one thread holds, in the middle of a start, while the other one tries to cancel timers there and elsewhere.
 ghost use Rattle.std.specs.Prelude.{◌≡◌, length};
 ghost use Rattle.hr_timers.specs.Known.{IsPassOf};
-ghost use Rattle.expire_pass.specs.Handlers.{KeepsPass};
+ghost use Rattle.hr_timers.specs.Handlers.{KeepsPass};
 
 use super::super::{TURNS, assert_equal, kept, retire, some_timers};
 use crate::{Stopped, stop_now};

@@ -1,6 +1,5 @@
 //! Scripts of both versions that are read whole, with a line of each form, and refusals of lines that hrt's own tests and examples don't have.
-use clock_model::Write;
-use ktime::{ClockId, Mode, TimeSpec};
+use ktime::{ClockId, Mode, TimeSpec, Write};
 use record_text::Version;
 use script_text::{
     Call, Callback, Declaration, Kind, LaneCall, ParseError, Round, StartRequest,

@@ -2,7 +2,7 @@ use Rattle.std.proofs.Common.{◌≡◌, ◌++◌, ◌∙◌, [], List, ℕ, sym
 use Rattle.std.proofs.lemmas.List.{append-nil}
 use Rattle.std.specs.Io.KnownBytes.{Consumes}
 use Rattle.trace_read.specs.Lines.{verdict_on}
-use Rattle.trace_read.specs.Readers.{ReadsOn, Stands}
+use Rattle.trace_read.specs.Readers.{ReadsOn, HasReadSoFar}
 use Rattle.trace_read.proofs.Meanings.{answered}
 use Rattle.byte_streams.proofs.Streams.{Consumes-trans}
 use Rattle.trace_top.proofs.checking.check.Goals as goal
@@ -37,7 +37,7 @@ pub loop-preserved : goal.loop-preserved
 loop-preserved g c =
     let i = c.loop.invariant in
     let piece = take c.in-Ok.n c.read.new.buf in
-    let on : Stands c.take.new.self (λ rest. verdict_on (i.bytes ++ (piece ++ rest))) =
+    let on : HasReadSoFar c.take.new.self (λ rest. verdict_on (i.bytes ++ (piece ++ rest))) =
     subst (λ v. ReadsOn v c.take.new.self (λ rest. verdict_on (i.bytes ++ rest)) piece) c.in_default.is (c.in_ok-verdict-in-Ok.ensures _ i.stands) in
     record {
       bytes = i.bytes ++ piece;

@@ -1,13 +1,13 @@
 use Rattle.std.proofs.Common.{◌≡◌, ◌⊎◌, sym, subst, ◌∙◌}
 use Rattle.trace_top.specs.declared.status.Status.TheVariants as statuses
-use Rattle.byte_streams.specs.Streams.{Adds}
+use Rattle.byte_streams.specs.Streams.{GrowsBy}
 use Rattle.trace_top.proofs.Fitting.{fitted, refusal_is}
 use Rattle.trace_top.proofs.whole.run.Goals as goal
 
 pub returns-in-Ok-write_all-clause-told : goal.returns-in-Ok-write_all-clause-told
 returns-in-Ok-write_all-clause-told g c = λ fits line.
     fitted c.args.asked c.in-Ok.verdict _ _ _ _ _ c.in-Ok-answer.ensures c.in-Ok.ensures.read
-    (subst (λ text. Adds (g.K.Sink.taken c.args.sink.now) (g.K.Sink.taken c.write_all.new.sink) text) c.as_bytes.ensures.value c.in-Ok-write_all.ensures.all)
+    (subst (λ text. GrowsBy (g.K.Sink.taken c.args.sink.now) (g.K.Sink.taken c.write_all.new.sink) text) c.as_bytes.ensures.value c.in-Ok-write_all.ensures.all)
     (sym c.of.ensures ∙ fits) line
 
 pub returns-in-Ok-write_all-clause-refused : goal.returns-in-Ok-write_all-clause-refused
@@ -19,5 +19,5 @@ returns-in-Ok-write_all-clause-refused g c = λ refused.
       verdict = c.in-Ok.verdict;
       is = c.of.ensures;
       read = c.in-Ok.ensures.read;
-      written = subst (λ text. Adds (g.K.Sink.taken c.args.sink.now) (g.K.Sink.taken c.write_all.new.sink) text) (text ∙ is) c.in-Ok-write_all.ensures.all;
+      written = subst (λ text. GrowsBy (g.K.Sink.taken c.args.sink.now) (g.K.Sink.taken c.write_all.new.sink) text) (text ∙ is) c.in-Ok-write_all.ensures.all;
     }

@@ -3,7 +3,7 @@ use Rattle.std.specs.Prelude.{Option}
 use Rattle.atomic_table.specs.Table.{Step}
 use Rattle.seq_timer.specs.Systems.{BaseContent}
 use Rattle.seq_timer.specs.Histories.{peek_of}
-use Rattle.timer_word.specs.Words.{IsWord, packed}
+use Rattle.seq_timer.specs.Words.{IsWord, packed}
 use Rattle.seq_timer.specs.declared.observation.Peek.{Peek}
 use Rattle.base_row.specs.declared.view.Opening.{Opening}
 use Rattle.base_row.specs.Places.{word_at}

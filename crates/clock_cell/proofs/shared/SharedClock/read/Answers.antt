@@ -1,6 +1,6 @@
 use Rattle.std.proofs.Common.{ap, ◌∙◌}
 use Rattle.clock_cell.specs.Words.{reading_in}
-use Rattle.clock_model.proofs.Writes.{shown_by, stamp_after}
+use Rattle.ktime.proofs.Writes.{shown_by, stamp_after}
 use Rattle.clock_cell.proofs.shared.SharedClock.read.Goals as goal
 
 pub reading_in-requires : goal.reading_in-requires

@@ -1,7 +1,7 @@
 use Rattle.std.proofs.Common.{◌≡◌, Bool, true, subst}
 use Rattle.std.specs.Prelude.{MatchBool}
 use Rattle.clock_cell.proofs.Taking.{takes_again}
-use Rattle.clock_model.proofs.Writes.{shown_by}
+use Rattle.ktime.proofs.Writes.{shown_by}
 use Rattle.clock_cell.proofs.shared.SharedClock.turn.Goals as goal
 
 pub at-requires-clause-counted : goal.at-requires-clause-counted

@@ -1,6 +1,6 @@
 use Rattle.std.proofs.Common.{◌≡◌, ◌-◌, ◌⊎◌, length}
 use Rattle.pass_names.specs.Passes.{Looks}
-use Rattle.clock_model.specs.Clocks.{last_stamp}
+use Rattle.ktime.specs.Clocks.{last_stamp}
 use Rattle.clock_cell.specs.Views.{IsPassOfClock, Hears, writes}
 use Rattle.clock_cell.proofs.shared.SharedClock.write.Given as goal
 

@@ -1,5 +1,5 @@
 use Rattle.hr_timers.specs.Known.{IsPassOf}
-use Rattle.expire_pass.specs.Handlers.{KeepsPass}
+use Rattle.hr_timers.specs.Handlers.{KeepsPass}
 use Rattle.object_uses.proofs.tests.waiting.look_on.Given as goal
 
 abbrev pub invariant-loop : goal.invariant-loop

@@ -4,7 +4,7 @@ use Rattle.counted_row.specs.Views.{Knows}
 use Rattle.timer_objects.specs.Meaning.{object_meaning}
 use Rattle.timer_objects.specs.Known.{IsObjectsPass, KeepsObjectsPass, ObjectsPass}
 use Rattle.object_uses.specs.declared.tests.waiting.Gated.{Gated}
-use Rattle.expire_pass.proofs.Leaving.{run_leaves}
+use Rattle.hr_timers.proofs.ExpiryEnds.{run_leaves}
 use Rattle.timer_objects.specs.Firings.{LeavesPass}
 use Rattle.timer_objects.proofs.Lending.{leaves_fired, leaves_same, leaves_trans, pass_after}
 use Rattle.object_uses.proofs.tests.waiting.run_one.Goals as goal

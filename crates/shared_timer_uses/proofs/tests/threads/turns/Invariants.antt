@@ -1,6 +1,6 @@
 use Rattle.std.specs.Prelude.{◌+◌, ◌*◌, ◌≤◌}
 use Rattle.hr_timers.specs.Known.{IsPassOf}
-use Rattle.expire_pass.specs.Handlers.{KeepsPass}
+use Rattle.hr_timers.specs.Handlers.{KeepsPass}
 use Rattle.shared_timer_uses.proofs.tests.threads.turns.Given as goal
 
 abbrev pub invariant-loop : goal.invariant-loop

@@ -4,7 +4,7 @@ use Rattle.base_row.specs.Logs.{LogOf}
 use Rattle.base_row.specs.declared.log.Receipt.{Receipt}
 use Rattle.timer_objects.specs.declared.object.Decl.{Decl}
 use Rattle.timer_setting.specs.Phases.{IsOutcomeOf}
-use Rattle.timer_objects.specs.Known.{Enters, MayEnter, decl_at, receipt_of}
+use Rattle.timer_objects.specs.Known.{EntersObjectCall, MayEnterCall, decl_at, receipt_of}
 use Rattle.timer_objects.specs.Turns.{EndsTurn, HasTurn}
 use Rattle.timer_objects.specs.Anew.{DisarmsAndArms, anew_reading, anew_wanted}
 use Rattle.timer_objects.specs.Arming.{ArmsFor}
@@ -18,7 +18,7 @@ enter-reply-requires-clause-may g c =
     let holding = c.requires.holding in
     let arm = c.in-Some.outcome in
     let wants = c.wants-wants.ensures ∙ ap (λ (d : Decl). anew_wanted d.clock c.args.call.now) c.decl-decl.ensures in
-    subst (λ call. MayEnter x c.args.objects_pass.now c.args.held c.args.id call) (sym c.with-entered.ensures) (record {
+    subst (λ call. MayEnterCall x c.args.objects_pass.now c.args.held c.args.id call) (sym c.with-entered.ensures) (record {
       row = holding.row;
       unclaimed = holding.unclaimed;
       held = holding.held;
@@ -62,7 +62,7 @@ returns-clause-ends g c = λ first begun took.
     c.decl-decl.ensures
     (subst (λ r. ArmsFor o sets.disarmed w c.args.id (anew_wanted c.decl-decl.result.clock call) (decl_at x c.args.id).base r arm sets.cancel_log then)
     c.reading-reading.ensures sets.arms))
-    (subst (λ k. Enters c.args.objects_pass.now q h k c.enter-reply.result) named entry.enters)
+    (subst (λ k. EntersObjectCall c.args.objects_pass.now q h k c.enter-reply.result) named entry.enters)
     (entry.receipt ∙ ap (λ k. log ++ receipt_of h k ∷ []) named)
 
 pub returns-in_default-clause-ends : goal.returns-in_default-clause-ends

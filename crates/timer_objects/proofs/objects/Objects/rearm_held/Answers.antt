@@ -3,7 +3,7 @@ use Rattle.timer_setting.specs.Phases.{IsOutcomeOf}
 use Rattle.timer_objects.specs.declared.object.Decl.{Decl}
 use Rattle.timer_objects.specs.Arming.{ArmsFor}
 use Rattle.timer_objects.specs.Calls.{wanted_by}
-use Rattle.timer_objects.specs.Known.{Enters, MayEnter, receipt_of, seen_of}
+use Rattle.timer_objects.specs.Known.{EntersObjectCall, MayEnterCall, receipt_of, seen_of}
 use Rattle.timer_objects.specs.Turns.{BeginsTurn, EndsTurn, HasTurn}
 use Rattle.timer_objects.proofs.Asking.{may_rearm, rearms}
 use Rattle.timer_objects.proofs.Retrying.{begins_after}
@@ -14,7 +14,7 @@ enter-reply-requires-clause-may g c =
     let holding = c.requires.holding in
     let arm = c.arm-outcome.result in
     let wants = c.wanted-wants.ensures ∙ ap (λ object. wanted_by c.args.call object c.args.reading) c.state.ensures in
-    subst (λ call. MayEnter c.args.self.now c.args.objects_pass.now c.args.held c.args.id call) (sym c.call_of-made.ensures) (record {
+    subst (λ call. MayEnterCall c.args.self.now c.args.objects_pass.now c.args.held c.args.id call) (sym c.call_of-made.ensures) (record {
       row = holding.row;
       unclaimed = holding.unclaimed;
       held = holding.held;
@@ -46,6 +46,6 @@ returns-clause-ends g c = λ first begun took.
     c.decl-base.result.base c.args.reading arm c.args.log.now.receipts c.arm-outcome.new.log.receipts) wants c.arm-outcome.ensures.arms) in
     let made = rearms x c.args.id h holding.index holding.holds _ first.known v w c.end.new.pass.known begun c.args.objects_pass.now q arm _ _ log _ _
     holding.room holding.row took.locks entry.pass turn c.args.call c.args.reading c.requires.kind armed
-    (subst (λ call. Enters c.args.objects_pass.now q h call c.enter-reply.result) c.call_of-made.ensures entry.enters)
+    (subst (λ call. EntersObjectCall c.args.objects_pass.now q h call c.enter-reply.result) c.call_of-made.ensures entry.enters)
     (entry.receipt ∙ ap (λ call. log ++ receipt_of h call ∷ []) c.call_of-made.ensures) in
     (made.0, made.1, ap (λ n. n + 1) c.stamp-stamp.ensures ∙ (sym entry.enters.count ∙ ap (λ i. length (seen_of q i)) holding.index))

@@ -1,12 +1,12 @@
 use Rattle.std.proofs.Common.{◌≡◌, ◌+◌, ◌∷◌, ◌∙◌, sym, ap, None, [], arith}
 use Rattle.trace_read.specs.Lines.{judged, known_after, line_verdict, lines_from, verdict_or}
-use Rattle.trace_text.specs.Reading.{line_in}
+use Rattle.trace_text.specs.Reading.{event_line}
 use Rattle.trace_read.proofs.reader.Reader.end_line.Goals as goal
 
 pub returns : goal.returns
 returns c = λ answer stands.
     let k = stands.known in
-    let told = line_in c.args.self.now.begun.items in
+    let told = event_line c.args.self.now.begun.items in
     let judged_is = c.in_ok-verdict.ensures.answer k stands.holds stands.events in
     let none : line_verdict c.args.self.now.number k told ≡ None = sym judged_is.0 ∙ c.in_default.is in
     let next : c.judge.new.self.number + 1 ≡ c.args.self.now.number + 1 = omega (arith, c.in_ok-verdict.ensures.number) in

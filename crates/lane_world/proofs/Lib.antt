@@ -1,6 +1,0 @@
-pub mod PartLists
-pub mod Declared
-pub mod ObjectSeen
-pub mod Kept
-pub mod Left
-pub mod SeenMore

@@ -1,5 +1,0 @@
-pub mod Worlds
-pub mod Expiries
-pub mod Called
-pub mod Rounds
-pub mod Runs
