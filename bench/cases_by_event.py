@@ -7,7 +7,7 @@ import subprocess
 
 os.chdir(os.path.dirname(os.path.dirname(os.path.abspath(__file__))))
 NAMES = "(Out|Start|Cancel|Claim|Forward|Finish)"
-APART = re.compile("_uses/|_bench/|_tests/|run_cases/|/tests")
+APART = re.compile("_uses/|benches/|_tests/|run_cases/|/tests")
 
 
 def of_proofs(text):

@@ -4,12 +4,14 @@
 # On a busy machine threads may get one processor in turn: `chrt -r 1 bench/clock.sh` keeps them running.
 . "$(dirname "$0")/peers.bash"
 gcc -O2 -pthread -o "$built/c" "$top/bench/clock_peers.c"
-proved clock_cell_bench
+proved benches
 
+run() {
+    timeout 10 "$@" || { echo "clock.sh: ${1##*/} failed, or took over 10 seconds" >&2; exit 1; }
+}
 for _ in 1 2 3 4 5; do
-    for each in "$program" "$built/c"; do
-        timeout 10 "$each" || { echo "clock.sh: ${each##*/} failed, or took over 10 seconds" >&2; exit 1; }
-    done
+    run "$program" clocks
+    run "$built/c"
 done > "$built/rates"
 
 machine

@@ -1,4 +1,4 @@
-// The kernel's clock, read by one thread and by two: the cases of crates/clock_cell_bench in which nobody writes.
+// The kernel's clock, read by one thread and by two: the cases of crates/benches/src/clocks in which nobody writes.
 #include <pthread.h>
 #include <stddef.h>
 #include <stdint.h>

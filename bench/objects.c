@@ -1,4 +1,4 @@
-// POSIX timers and timer descriptors of the running kernel by system calls: the cases of crates/timer_objects_bench. The accept of a POSIX timer
+// POSIX timers and timer descriptors of the running kernel by system calls: the cases of crates/benches/src/objects. The accept of a POSIX timer
 // is here the wait for its signal, which is blocked. The kernel queues no timer that has no signal (SIGEV_NONE), so settimes alone are timed of
 // both sorts.
 #define _GNU_SOURCE

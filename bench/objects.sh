@@ -3,8 +3,8 @@
 # proved program is built with `rt run` if none is current; the runs then end within 60 seconds. Outside the gate.
 . "$(dirname "$0")/peers.bash"
 gcc -O2 -o "$built/calls" "$top/bench/objects.c" -lrt
-proved timer_objects_bench
-timeout 30 "$program" > "$built/times"
+proved benches
+timeout 30 "$program" objects > "$built/times"
 timeout 30 "$built/calls" >> "$built/times"
 machine
 echo "Nanoseconds that the calls on an object take one thread, the least of 7 rounds, by the objects that it arms before it ends them:"

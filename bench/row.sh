@@ -5,12 +5,15 @@
 . "$(dirname "$0")/peers.bash"
 gcc -O2 -pthread -o "$built/c" "$top/bench/row_peers.c"
 rustc -O -o "$built/rust" "$top/bench/row_peers.rs"
-proved counted_row_bench
+proved benches
 
+run() {
+    timeout 3 "$@" || { echo "row.sh: ${1##*/} failed, or took over 3 seconds" >&2; exit 1; }
+}
 for _ in 1 2 3; do
-    for each in "$program" "$built/c" "$built/rust"; do
-        timeout 3 "$each" || { echo "row.sh: ${each##*/} failed, or took over 3 seconds" >&2; exit 1; }
-    done
+    run "$program" rows
+    run "$built/c"
+    run "$built/rust"
 done > "$built/times"
 
 machine

@@ -1,4 +1,4 @@
-// A test-and-test-and-set lock of C11 round a 64-bit counter: the cases of crates/counted_row_bench.
+// A test-and-test-and-set lock of C11 round a 64-bit counter: the cases of crates/benches/src/rows.
 #include <pthread.h>
 #include <sched.h>
 #include <stdatomic.h>

@@ -1,4 +1,4 @@
-//! The standard library's lock round a 64-bit counter: the cases of crates/counted_row_bench.
+//! The standard library's lock round a 64-bit counter: the cases of crates/benches/src/rows.
 use std::sync::{Mutex, PoisonError};
 use std::thread;
 use std::time::Instant;

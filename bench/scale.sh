@@ -6,19 +6,19 @@
 . "$(dirname "$0")/peers.bash"
 . "$top/bench/kernel_tree.bash"
 with_kernel_tree "$top/bench/timer_peers.c" "$built/peers"
-proved hr_timers_bench
+proved benches
 machine
 python3 - "$program" "$built/peers" "${1:-$top/crates/hrt_app/out/hrt_app}" "${ROUNDS:-7}" <<'PY'
 import os, statistics, subprocess, sys, time
 
-ours, kernel, hrt, rounds = sys.argv[1], sys.argv[2], sys.argv[3], int(sys.argv[4])
+ours, kernel, hrt, rounds = (sys.argv[1], "timers"), (sys.argv[2],), sys.argv[3], int(sys.argv[4])
 MOST = 65535
 processor = {max(os.sched_getaffinity(0))}
 
 
 # The nanoseconds that the program tells, and the most memory that it had, in bytes.
 def told(program, queued):
-    run = subprocess.Popen([program, "scale", str(queued)], stdout=subprocess.PIPE, text=True, preexec_fn=lambda: os.sched_setaffinity(0, processor))
+    run = subprocess.Popen([*program, "scale", str(queued)], stdout=subprocess.PIPE, text=True, preexec_fn=lambda: os.sched_setaffinity(0, processor))
     line = run.stdout.readline()
     _, _, usage = os.wait4(run.pid, 0)
     return float(line.split("\t")[-1]), usage.ru_maxrss * 1024

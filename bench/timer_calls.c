@@ -1,5 +1,5 @@
 // Timers of the running kernel by system calls, with so many others armed: timerfd descriptors and POSIX timers. Beside the cases of
-// crates/hr_timers_bench.
+// crates/benches/src/timers.
 #define _GNU_SOURCE
 #include <pthread.h>
 #include <signal.h>

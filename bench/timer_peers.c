@@ -1,5 +1,5 @@
 // The kernel's own tree of timers, a queue a base, under a lock each: a test-and-test-and-set lock of C11, or pthread's spin lock. The cases are
-// those of crates/base_row_bench (word `base`) and crates/hr_timers_bench (word `timers`; `scale N`: a start and a cancel with N queued).
+// those of crates/benches, src/bases (word `base`) and src/timers (word `timers`; `scale N`: a start and a cancel with N queued).
 #include <linux/bug.h>
 #include <linux/timerqueue.h>
 #include <pthread.h>

@@ -6,9 +6,9 @@
 . "$top/bench/kernel_tree.bash"
 with_kernel_tree "$top/bench/timer_peers.c" "$built/peers"
 gcc -O2 -pthread -o "$built/calls" "$top/bench/timer_calls.c" -lrt
-proved hr_timers_bench
+proved benches
 timeout 9 "$built/peers" timers > "$built/times"
-timeout 9 "$program" >> "$built/times"
+timeout 9 "$program" timers >> "$built/times"
 timeout 9 "$built/calls" >> "$built/times"
 machine
 echo "Nanoseconds that the calls take a thread, the least of the rounds, with 256 timers queued on each base:"

@@ -1,12 +1,12 @@
 #!/usr/bin/env bash
-# Proves and builds the program crates/timer_tree_bench, and prints its table: what a cancel and start of a random timer (pair) takes,
+# Proves and builds the program crates/benches, and prints its table of queues: what a cancel and start of a random timer (pair) takes,
 # and an expiry of the first timer and its start (hold), in nanoseconds, by the number of queued timers. Where valgrind is
 # installed, instructions follow. Outside the gate.
 set -eu
 top=$(cd "$(dirname "$0")/.." && pwd)
-cd "$top/crates/timer_tree_bench"
+cd "$top/crates/benches"
 rt run --jobs 1 -- check > /dev/null 2>&1 || { echo "not proved: see rt check in $PWD" >&2; exit 1; }
-program=$PWD/out/timer_tree_bench
+program=$PWD/out/benches
 sizes="1 16 256 4096 100000"
 # Reads lines NAME OP SIZE FIGURE with or without a second figure, and prints a column for each size.
 table() {
@@ -15,9 +15,9 @@ table() {
             for (r = 1; r <= rows; r++) { printf "%-18s", order[r]; for (i = 1; i <= count; i++) { x = cell[order[r], size[i]]; printf " %13s", x == "" ? "-" : x }; print "" } }'
 }
 echo "nanoseconds, least/median of seven runs"
-"$program" | table
+"$program" trees | table
 command -v valgrind > /dev/null || exit 0
-instructions() { valgrind --tool=callgrind --callgrind-out-file=/dev/null "$program" "$@" 2>&1 | awk '/Collected/ { print $4 }'; }
+instructions() { valgrind --tool=callgrind --callgrind-out-file=/dev/null "$program" trees "$@" 2>&1 | awk '/Collected/ { print $4 }'; }
 echo
 echo "instructions, from the difference of 1000 and 4000"
 for op in pair hold; do

@@ -6,12 +6,12 @@
 . "$(dirname "$0")/peers.bash"
 . "$top/bench/kernel_tree.bash"
 with_kernel_tree "$top/bench/tree_peer.c" "$built/peer"
-proved timer_tree_bench
+proved benches
 machine
 python3 - "$program" "$built/peer" "${ROUNDS:-31}" <<'PY'
 import os, resource, statistics, subprocess, sys
 
-tree, kernel, rounds = [sys.argv[1], "timer_tree"], [sys.argv[2]], int(sys.argv[3])
+tree, kernel, rounds = [sys.argv[1], "trees", "timer_tree"], [sys.argv[2]], int(sys.argv[3])
 os.sched_setaffinity(0, {max(os.sched_getaffinity(0))})
 TIMES, FEW = 2_000_000, 1_000
 

@@ -1,4 +1,4 @@
-// The kernel's own tree of timers: OP SIZE COUNT does an operation of crates/timer_tree_bench so often on a queue of so many timers, untimed.
+// The kernel's own tree of timers: OP SIZE COUNT does an operation of crates/benches/src/trees so often on a queue of so many timers, untimed.
 #include <linux/bug.h>
 #include <linux/timerqueue.h>
 #include <stdio.h>
@@ -9,7 +9,7 @@ static struct timerqueue_head queue;
 static struct timerqueue_node *nodes;
 static uint64_t state = 0x9E3779B97F4A7C15u;
 
-// Marsaglia's xorshift, as in crates/bench_cases.
+// Marsaglia's xorshift, as in crates/benches/src/random.rt.
 static uint64_t next(void) {
     state ^= state << 13;
     state ^= state >> 7;

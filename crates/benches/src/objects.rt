@@ -1,0 +1,6 @@
+//! The calls of `timer_objects`, by one thread.
+pub use report::print_lines;
+
+mod report;
+mod stand;
+mod turns;

@@ -1,6 +1,0 @@
-use Rattle.std.proofs.Common.{◌≡◌}
-use Rattle.hr_timers_bench.specs.Working.{IsUnclaimed}
-use Rattle.hr_timers_bench.proofs.report.stamps.Given as goal
-
-abbrev pub invariant-loop-timer : goal.invariant-loop-timer
-invariant-loop-timer l = record { ready : IsUnclaimed l.timers l.pass; id : l.pass.known.id ≡ l.fn.pass.known.id }

@@ -1,6 +1,0 @@
-use Rattle.std.proofs.Common.{◌≡◌}
-use Rattle.timer_tree_bench.proofs.figures.repeat.Given as goal
-
--- the room stays
-abbrev pub invariant-loop : goal.invariant-loop
-invariant-loop g l = g.Q.Queue.bound l.queue ≡ l.room

@@ -1,6 +1,0 @@
-use Rattle.std.proofs.Common.{◌≡◌}
-use Rattle.timer_tree_bench.proofs.moves.filled.Given as goal
-
--- the room stays
-abbrev pub invariant-loop-id : goal.invariant-loop-id
-invariant-loop-id g l = g.Q.Queue.bound l.queue ≡ l.room
