@@ -4,7 +4,7 @@ mod beside;
 mod blocking;
 mod calls;
 mod greatest;
-mod of_expire_pass;
+mod of_logs;
 mod passes;
 mod queued;
 mod stand;

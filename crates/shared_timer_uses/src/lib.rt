@@ -1,4 +1,4 @@
-//! Callers of `hr_timers` and `expire_pass`: timers that threads share, each thread with a pass of its own.
+//! Callers of `hr_timers` and its expiry runs: timers that threads share, each thread with a pass of its own.
 #![tactic(auto)]
 
 pub use cancelling::{Stopped, stop_and_wait, stop_now};

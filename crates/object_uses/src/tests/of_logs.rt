@@ -1,4 +1,4 @@
-//! The log of `expire_pass` as callers use it.
+//! The log of an expiry run, as callers use it.
 use super::assert_equal;
 use hr_timers::{Log, Noted, Receipt, ReceiptSink};
 use seq_timer::{Event, Observation, Reply};
