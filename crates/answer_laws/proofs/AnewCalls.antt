@@ -1,5 +1,5 @@
 -- A settime, a sleep and an interrupt have one answer at one moment.
-use Rattle.std.proofs.Common.{◌≡◌, ◌<◌, ℕ, ap, sym, ◌∙◌, subst, refl, true, false}
+use Rattle.std.proofs.Common.{◌≡◌, ℕ, ap, sym, ◌∙◌, subst, refl, true}
 use Rattle.std.specs.Prelude.{not}
 use Rattle.std.proofs.lemmas.Bool.{true≢false}
 use Rattle.ktime.specs.Readings.{ClockReading}
@@ -23,7 +23,7 @@ use Rattle.timer_objects.specs.Anew.{EndsAnew, anew_call, anew_reading, anew_wan
 use Rattle.timer_objects.specs.Calls.{Caller, Interrupts, SettimeMade, SleepMade}
 use Rattle.timer_objects.specs.Known.{ObjectsOf, decl_at}
 use Rattle.timer_objects.specs.Steps.{ObjectAllows}
-use Rattle.answer_laws.specs.Objects.{AreOne, ObjectMoment, SameWork, anew_at, interrupt_at, look_at, settime_at, sleep_at}
+use Rattle.answer_laws.specs.Objects.{AreOne, ObjectMoment, SameWork, anew_at, interrupt_at, looked_at, settime_at, sleep_at}
 use Rattle.answer_laws.proofs.ObjectCalls.{anew_once, full_looked, full_made, full_once, look_once, looked_made}
 
 -- an object that allows a call doesn't refuse it
@@ -45,8 +45,8 @@ are_one_as m m' n n' e f a = subst (λ x. AreOne x n') e (subst (AreOne m) f a)
 
 -- the moment of a call that ended so
 abbrev ends_at : (x : ObjectsOf) (o : Opening) (old new : Caller) (id : ℕ) (call : Anew) (e : EndedAnew) → EndsAnew x o old new id call e → ObjectMoment
-ends_at x o old new id call (ends.Full n) f = look_at x o old new id
-ends_at x o old new id call (ends.Refused n) f = look_at x o old new id
+ends_at x o old new id call (ends.Full n) f = looked_at x o old new id
+ends_at x o old new id call (ends.Refused n) f = looked_at x o old new id
 ends_at x o old new id call (ends.Made reply) f =
     anew_at x o old new id (anew_call call) (anew_wanted (decl_at x id).clock call) (anew_reading call) reply f.0
 
@@ -63,7 +63,7 @@ module _ (x : ObjectsOf) (o : Opening) (old new new' : Caller) (id : ℕ) (call 
   ended_once (ends.Full n) (ends.Made r) c d at = absurd (full_made x o old new new' id (anew_call call d.0.arm) r n c d.0.enters at)
   ended_once (ends.Refused n) (ends.Full m) c d at = absurd (full_looked x o old new' new id c.0 m n d c.1 c.2 (sym at))
   ended_once (ends.Refused n) (ends.Refused m) c d at =
-      let same = look_once x o old new new' id c.0 d.0 n m c.1 d.1 at in (ap ends.Refused same.1, same.2)
+      let same = look_once old new new' id c.0 d.0 n m c.1 d.1 at in (ap ends.Refused same.1, same.2)
   ended_once (ends.Refused n) (ends.Made r) c d at = absurd (refused_made n r c d at)
   ended_once (ends.Made r) (ends.Full m) c d at = absurd (full_made x o old new' new id (anew_call call c.0.arm) r m d c.0.enters (sym at))
   ended_once (ends.Made r) (ends.Refused m) c d at = absurd (allowed call c.0.arm c.0.enters.commits.state c.0.enters.may
@@ -167,7 +167,8 @@ module _ (x : ObjectsOf) (o : Opening) (old : Caller) (id : ℕ) where
     sleep_ends new sleeps.BadFlags s = absurd s
     sleep_ends new sleeps.BadTime s = absurd s
 
-    pub sleep_once : (new new' : Caller) (a a' : SleepAnswer) (c : SleepMade x o old new id flags time reading a) (d : SleepMade x o old new' id flags time reading a')
+    pub sleep_once : (new new' : Caller) (a a' : SleepAnswer) (c : SleepMade x o old new id flags time reading a)
+        (d : SleepMade x o old new' id flags time reading a')
         → AreOne (sleep_at x o old new id flags time reading a c) (sleep_at x o old new' id flags time reading a' d) → (a ≡ a') × SameWork new new' id
     sleep_once new new' a a' c d at =
         let p = sleep_ends new a c in

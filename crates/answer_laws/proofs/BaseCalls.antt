@@ -1,15 +1,12 @@
 -- What each call on a base leaves is a function of what was then seen.
-use Rattle.std.proofs.Common.{◌≡◌, ◌≢◌, ◌+◌, ℕ, List, [], ◌∷◌, ap, sym, ◌∙◌, subst, refl, Bool, true, false, arith}
+use Rattle.std.proofs.Common.{◌≡◌, ◌+◌, ℕ, List, [], ◌∷◌, ap, sym, ◌∙◌, refl, Bool, true, false, arith}
 use Rattle.std.specs.Prelude.{Option, Some, None, ◌++◌, ◌-◌, slice_index, unwrap_or}
-use Rattle.seq_timer.specs.Contents.{front_of}
-use Rattle.seq_timer.specs.Events.{Event}
 use Rattle.seq_timer.specs.Systems.{BaseContent, rises_of, system_after}
-use Rattle.seq_timer.specs.declared.standing.BaseEvent.{BaseEvent}
 use Rattle.seq_timer.specs.declared.system.SystemEntry.{SystemEntry}
 use Rattle.seq_timer.specs.declared.system.SystemEntry.TheVariants as entries
-use Rattle.base_row.specs.Calls.{Appended, GetsBase, Shifted, Waits}
-use Rattle.base_row.specs.Plays.{KnowsOwn, RaisesTo, having_entered, having_shifted, rises, claims_with_event, carry_after}
-use Rattle.base_row.specs.Rules.{base_seen, timer_seen}
+use Rattle.base_row.specs.Calls.{GetsBase, Waits}
+use Rattle.base_row.specs.Plays.{KnowsOwn, RaisesTo, rises}
+use Rattle.base_row.specs.Rules.{base_seen}
 use Rattle.base_row.specs.declared.view.BaseView.{BaseView}
 use Rattle.base_row.specs.declared.view.HeldContent.{HeldContent}
 use Rattle.base_row.specs.declared.view.Opening.{Opening}
@@ -19,7 +16,8 @@ use Rattle.answer_laws.specs.Bases.{FrontFits, StepFits, step_moment}
 pub by_seen : {A B : Type 0} (f : A → B) (x y : A) (w w' : B) → w ≡ f x → w' ≡ f y → x ≡ y → w ≡ w'
 by_seen f x y w w' a b e = a ∙ (ap f e ∙ sym b)
 
-pub waits_once : (base : ℕ) (v w w' : BaseView BaseContent) → Waits base v w → Waits base v w' → w.seen ≡ w'.seen → w.heard ≡ w'.heard → w.met ≡ w'.met → w ≡ w'
+pub waits_once : (base : ℕ) (v w w' : BaseView BaseContent) → Waits base v w → Waits base v w' → w.seen ≡ w'.seen → w.heard ≡ w'.heard
+    → w.met ≡ w'.met → w ≡ w'
 waits_once base v w w' a b s h m =
     a.rest ∙ (ap (λ l. record v { seen = l; heard = w.heard; met = w.met }) s ∙ (ap (λ l. record v { seen = w'.seen; heard = l; met = w.met }) h
     ∙ (ap (λ l. record v { seen = w'.seen; heard = w'.heard; met = l }) m ∙ sym b.rest)))
@@ -33,7 +31,8 @@ held_same b c m n x y e f g = cc
 doubled : (m n a b : ℕ) → m + 1 ≡ a + a → n + 1 ≡ b + b → m ≡ n → a ≡ b
 doubled m n a b e f g = omega (arith, e, f, g)
 
-pub gets_once : (base : ℕ) (v w w' : BaseView BaseContent) (h h' : HeldContent BaseContent) → GetsBase base v w h → GetsBase base v w' h' → KnowsOwn w → KnowsOwn w'
+pub gets_once : (base : ℕ) (v w w' : BaseView BaseContent) (h h' : HeldContent BaseContent) → GetsBase base v w h → GetsBase base v w' h'
+    → KnowsOwn w → KnowsOwn w'
     → w.seen ≡ w'.seen → w.met ≡ w'.met → (h ≡ h') × (w ≡ w')
 gets_once base v w w' h h' a b k l s m =
     let own = k.held h (ap (λ (x : BaseView BaseContent). x.held) a.rest) in

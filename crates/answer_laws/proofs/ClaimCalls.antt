@@ -1,11 +1,10 @@
 -- At one moment one timer's turn it is on a base, or none's, or one function runs there.
-use Rattle.std.proofs.Common.{◌≡◌, ℕ, List, [], ◌∷◌, ap, sym, ◌∙◌, subst, refl, Bool, true, false}
-use Rattle.std.specs.Prelude.{Option, Some, None, ◌+◌, ◌++◌, ◌&&◌, is_some, unwrap_or, nat_eq, if◌then◌else◌}
+use Rattle.std.proofs.Common.{◌≡◌, ℕ, List, [], ◌∷◌, ap, sym, ◌∙◌, refl, Bool, true, false}
+use Rattle.std.specs.Prelude.{Option, Some, None, ◌+◌, ◌++◌, ◌&&◌, is_some, nat_eq, if◌then◌else◌}
 use Rattle.std.proofs.lemmas.Bool.{eqb-true}
 use Rattle.ktime.specs.Readings.{ClockReading}
-use Rattle.seq_timer.specs.Contents.{half_of, running_in}
+use Rattle.seq_timer.specs.Contents.{half_of}
 use Rattle.seq_timer.specs.Halves.{generation_in, running_on}
-use Rattle.seq_timer.specs.Histories as seq
 use Rattle.seq_timer.specs.Steps.{Timer}
 use Rattle.seq_timer.specs.Systems.{next_on, system_after}
 use Rattle.seq_timer.specs.Tables.{in_context, runs_on}
@@ -76,7 +75,8 @@ module _ (o : Opening) (v v' w w' : KnownOfTimers) (x : Context) (base : ℕ) (r
         numbers_same : (t u g h b p k l : ℕ) → t ≡ u → g ≡ h → b ≡ p → k ≡ l → numbers t g b k ≡ numbers u h p l
         numbers_same t u g h b p k l i j r s = cc
 
-    same_claim_entry : entry_by (timer_then o c.at n.timer) (events.Claim base reading) ∷ [] ≡ entry_by (timer_then o d.at m.timer) (events.Claim base reading) ∷ []
+    same_claim_entry : entry_by (timer_then o c.at n.timer) (events.Claim base reading) ∷ [] ≡ entry_by (timer_then o d.at m.timer)
+        (events.Claim base reading) ∷ []
     same_claim_entry = ap (λ t. entry_by t (events.Claim base reading) ∷ []) same_state
 
   pub no_turn : (at seen : List SystemEntry) (p : ℕ × ℕ) → next_on x ((system_after o.timers at).bases base) reading ≡ Some p

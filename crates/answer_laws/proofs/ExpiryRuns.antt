@@ -1,5 +1,5 @@
 -- A run of expiries notes what the moments of its turns say, and ends as what it has then seen says.
-use Rattle.std.proofs.Common.{◌≡◌, ◌<◌, ℕ, zero, suc, List, [], ◌∷◌, ap, sym, ◌∙◌, subst, refl, arith}
+use Rattle.std.proofs.Common.{◌≡◌, ℕ, zero, suc, List, [], ◌∷◌, ap, sym, ◌∙◌, refl, arith}
 use Rattle.std.specs.Prelude.{◌++◌}
 use Rattle.ktime.specs.Readings.{ClockReading}
 use Rattle.seq_timer.specs.Halves.{running_on}
@@ -49,7 +49,8 @@ module _ {A : Type 0} (m : Meaning A) (o : Opening) (x : Context) (base : ℕ) (
       let claim = same_claim o t.0 u.0 t.4.claimed u.4.claimed x base reading t.4.claim u.4.claim t.4.claims u.4.claims claimed in
       (more n n' rest.0, t.4.receipts ∙ (noted_same _ _ _ _ _ _ _ _ rest.1 claim restart finished ∙ sym u.4.receipts))
 
-  module _ (budget : ℕ) (n n' : KnownOfTimers) (i i' : A) (l l' : List Receipt) (fresh : AreFresh o.timers) (knows : KnowsTimers o n) (e : n.seen ≡ n'.seen) where
+  module _ (budget : ℕ) (n n' : KnownOfTimers) (i i' : A) (l l' : List Receipt) (fresh : AreFresh o.timers) (knows : KnowsTimers o n)
+      (e : n.seen ≡ n'.seen) where
     pub run_once : (a a' : ExpireAnswer) (c : Expires m o x base reading budget k h log n i l a) (d : Expires m o x base reading budget k h log n' i' l' a')
         → run_at m o x base reading budget k h log n i l a c ≡ run_at m o x base reading budget k h log n' i' l' a' d → (a ≡ a') × (l ≡ l')
     run_once (expiries.More f) (expiries.More g) c d q = let t = turns_once f g n n' i i' l l' c.1 d.1 q in (ap expiries.More t.0, t.1)

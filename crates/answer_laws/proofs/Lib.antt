@@ -3,11 +3,15 @@ pub mod BaseCalls
 pub mod ClaimCalls
 pub mod ClockCalls
 pub mod ExpiryRuns
+pub mod HandlerCalls
+pub mod LookCalls
+pub mod NextCalls
 pub mod NowCalls
 pub mod ObjectCalls
 pub mod OfflineCalls
 pub mod OneAnswer
 pub mod Outcomes
+pub mod PlainStarts
 pub mod RearmCalls
 pub mod RowCalls
 pub mod SignalCalls

@@ -1,6 +1,5 @@
 -- A cancel that waits for nobody, and one behind a counter's rise, have one answer at one moment.
-use Rattle.std.proofs.Common.{◌≡◌, ◌≢◌, ℕ, List, ap, sym, ◌∙◌, subst, refl, true, length}
-use Rattle.std.specs.Prelude.{Some, None}
+use Rattle.std.proofs.Common.{◌≡◌, ℕ, List, ap, sym, ◌∙◌, subst, refl, true, length}
 use Rattle.pass_names.specs.Passes.{Begins}
 use Rattle.seq_timer.specs.Steps.{Timer}
 use Rattle.seq_timer.specs.Systems.{first_system, rises_of}
@@ -24,7 +23,8 @@ use Rattle.answer_laws.proofs.Outcomes.{logged_once, looked_once, own_same}
 use Rattle.answer_laws.proofs.TimerCalls.{cancel_once}
 
 -- at a moment that a pass has seen a timer is not both on the move and running
-apart_then : (o : Opening) (k : KnownOfTimers) (x : List SystemEntry) (t : ℕ) → AreFresh o.timers → KnowsTimers o k → Begins x k.seen → IsApart (timer_then o x t)
+apart_then : (o : Opening) (k : KnownOfTimers) (x : List SystemEntry) (t : ℕ) → AreFresh o.timers → KnowsTimers o k → Begins x k.seen
+    → IsApart (timer_then o x t)
 apart_then o k x t fresh knows begins =
     (agrees o.bases o.timers x fresh.each (steps_begins o.bases (length o.timers) (first_system o.timers) x k.seen begins knows.history)).apart t
 
@@ -40,7 +40,8 @@ module _ (o : Opening) (t : ℕ) where
   two_moments v w a b f x d e = f.apart (sym f.base ∙ (ap (λ y. (timer_then o y t).base) (sym d ∙ e) ∙ f.base_later))
 
   module _ (p q q' : PassOf) (fresh : AreFresh o.timers) (knows : KnowsTimers o q.known) where
-    moves_then : (a : CancelAnswer) (x y : List SystemEntry) → Begins x q.known.seen → x ≡ y → CancelFits (timer_then o x t) a → (timer_then o y t).moving ≡ true
+    moves_then : (a : CancelAnswer) (x y : List SystemEntry) → Begins x q.known.seen → x ≡ y → CancelFits (timer_then o x t) a
+        → (timer_then o y t).moving ≡ true
         → ⊥
     moves_then a x y begins e fits moves = still_told (timer_then o x t) a (apart_then o q.known x t fresh knows begins) fits
         (ap (λ z. (timer_then o z t).moving) e ∙ moves)

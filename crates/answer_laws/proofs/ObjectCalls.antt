@@ -1,5 +1,5 @@
 -- A call on an object has one outcome at one moment: of its timer, of its own history, and in the logs.
-use Rattle.std.proofs.Common.{◌≡◌, ◌≤◌, ◌<◌, ℕ, List, [], ◌∷◌, ap, sym, ◌∙◌, subst, refl, length, arith}
+use Rattle.std.proofs.Common.{◌≡◌, ◌<◌, ℕ, List, [], ◌∷◌, ap, sym, ◌∙◌, subst, refl, length, arith}
 use Rattle.std.specs.Prelude.{Option, Some, None, ◌+◌, ◌++◌}
 use Rattle.ktime.specs.Readings.{ClockReading}
 use Rattle.seq_timer.specs.Histories as seq
@@ -56,7 +56,8 @@ module _ (o : Opening) (v v' w w' : KnownOfTimers) (own : SameOwn v v') (t : ℕ
       let asked = ap (λ i. asked_by i base reading) (some_is k j e) in
       let moment = some_is _ _ at in
       let same = start_once o v v' w w' own t (asked_by k base reading) (asked_by j base reading) c.answer d.answer c.starts d.starts asked moment in
-      let entries = same_start_entries o v v' w w' own t (asked_by k base reading) (asked_by j base reading) c.answer d.answer c.starts d.starts asked moment in (
+      let entries = same_start_entries o v v' w w' own t (asked_by k base reading)
+      (asked_by j base reading) c.answer d.answer c.starts d.starts asked moment in (
         c.outcome ∙ (ap arm_of same.0 ∙ sym d.outcome),
         c.receipts ∙ (noted_once log log' _ _ _ _ f (ap (λ (m : StartMoment). m.at) moment) entries ∙ sym d.receipts),
         same.1.own,
@@ -64,8 +65,26 @@ module _ (o : Opening) (v v' w w' : KnownOfTimers) (own : SameOwn v v') (t : ℕ
 
 -- ---- its entry
 
-abbrev entry_of : ℕ → List (Entry ObjectCall ObjectReply) → ObjectCall → ObjectReply → ObjectReceipt
+abbrev pub entry_of : ℕ → List (Entry ObjectCall ObjectReply) → ObjectCall → ObjectReply → ObjectReceipt
 entry_of id before call reply = record { object = id; number = length before + 1; call = call; reply = reply }
+
+module _ (old new new' : Caller) (id : ℕ) where
+  pub look_once : (a a' : Object) (n n' : ℕ) → LooksAtObject old new id a n → LooksAtObject old new' id a' n'
+      → seen_of new.objects id ≡ seen_of new'.objects id → (a ≡ a') × (n ≡ n') × SameWork new new' id
+  look_once a a' n n' c d e =
+      let same = reads_once object_meaning old.objects new.objects new'.objects id c.reads d.reads e in (
+        c.state ∙ (same.0 ∙ sym d.state),
+        c.stamp ∙ (ap length e ∙ sym d.stamp),
+        record {
+          caller = record {
+            timers = looked_once _ _ _ _ (own_same old.timers) c.timers d.timers;
+            objects = same.1;
+            log = c.log ∙ sym d.log;
+            object_log = c.object_log ∙ sym d.object_log;
+          };
+          entries = e;
+        },
+      )
 
 module _ (x : ObjectsOf) (o : Opening) (old new new' : Caller) (id : ℕ) where
   pub enters_once : (call call' : ObjectCall) (a a' : ObjectReply) (c : EntersCall x old new id call a) (d : EntersCall x old new' id call' a') → call ≡ call'
@@ -103,23 +122,6 @@ module _ (x : ObjectsOf) (o : Opening) (old new new' : Caller) (id : ℕ) where
     },
   )
 
-  pub look_once : (a a' : Object) (n n' : ℕ) → LooksAtObject old new id a n → LooksAtObject old new' id a' n'
-      → seen_of new.objects id ≡ seen_of new'.objects id → (a ≡ a') × (n ≡ n') × SameWork new new' id
-  look_once a a' n n' c d e =
-      let same = reads_once object_meaning old.objects new.objects new'.objects id c.reads d.reads e in (
-        c.state ∙ (same.0 ∙ sym d.state),
-        c.stamp ∙ (ap length e ∙ sym d.stamp),
-        record {
-          caller = record {
-            timers = looked_once _ _ _ _ (own_same old.timers) c.timers d.timers;
-            objects = same.1;
-            log = c.log ∙ sym d.log;
-            object_log = c.object_log ∙ sym d.object_log;
-          };
-          entries = e;
-        },
-      )
-
   pub full_looked : (a : Object) (n n' : ℕ) → FindsHistoryFull x old new id n → LooksAtObject old new' id a n' → n' < x.limit
       → seen_of new.objects id ≡ seen_of new'.objects id → ⊥
   full_looked a n n' c d few e = omega (arith, c.full, c.stamp, d.stamp, few, ap length e)
@@ -128,7 +130,8 @@ module _ (x : ObjectsOf) (o : Opening) (old new new' : Caller) (id : ℕ) where
       → seen_of new.objects id ≡ d.commits.adds.before → ⊥
   full_made call a n c d e = omega (arith, c.full, c.stamp, d.room, ap length e)
 
-  pub looked_made : (call : ObjectCall) (object : Object) (a : ObjectReply) (n : ℕ) → LooksAtObject old new id object n → (d : EntersCall x old new' id call a)
+  pub looked_made : (call : ObjectCall) (object : Object) (a : ObjectReply) (n : ℕ) → LooksAtObject old new id object n
+      → (d : EntersCall x old new' id call a)
       → seen_of new.objects id ≡ d.commits.adds.before → object ≡ d.commits.state
   looked_made call object a n c d e = c.state ∙ state_once object_meaning _ _ id _ _ _ _ refl e c.reads.at d.commits.at
 
@@ -140,7 +143,8 @@ module _ (x : ObjectsOf) (o : Opening) (old new new' : Caller) (id : ℕ) where
   anew_once call wanted reading a a' c d at =
       let begun = looked_once _ _ _ _ (own_same old.timers) c.turn.begins.looks d.turn.begins.looks in
       let disarmed = disarms_once o c.begun d.begun c.disarmed d.disarmed begun id old.log c.cancel_log d.cancel_log c.disarms d.disarms at.1 in
-      let armed = arms_once o c.disarmed d.disarmed c.worked d.worked disarmed.1 id (decl_at x id).base reading wanted wanted c.arm d.arm c.cancel_log d.cancel_log
+      let armed = arms_once o c.disarmed d.disarmed c.worked d.worked disarmed.1 id
+      (decl_at x id).base reading wanted wanted c.arm d.arm c.cancel_log d.cancel_log
       new.log new'.log refl disarmed.0 c.arms d.arms at.2 in
       let entered = enters_once (call c.arm) (call d.arm) a a' c.enters d.enters (ap call armed.0) at.0 in (
         entered.0,
@@ -162,8 +166,10 @@ module _ (x : ObjectsOf) (o : Opening) (old new new' : Caller) (id : ℕ) where
       let found = same_found (rearming_call r reading c.arm) (rearming_call r reading d.arm) a a' c.enters d.enters at.0 in
       let begun = looked_once _ _ _ _ (own_same old.timers) c.turn.begins.looks d.turn.begins.looks in
       let armed = arms_once o c.begun d.begun c.worked d.worked begun id (decl_at x id).base reading (wanted_by r c.enters.commits.state reading)
-      (wanted_by r d.enters.commits.state reading) c.arm d.arm old.log old.log new.log new'.log (ap (λ s. wanted_by r s reading) found) refl c.arms d.arms at.2 in
-      let entered = enters_once (rearming_call r reading c.arm) (rearming_call r reading d.arm) a a' c.enters d.enters (ap (rearming_call r reading) armed.0) at.0 in (
+      (wanted_by r d.enters.commits.state reading) c.arm d.arm old.log old.log new.log new'.log
+      (ap (λ s. wanted_by r s reading) found) refl c.arms d.arms at.2 in
+      let entered = enters_once (rearming_call r reading c.arm) (rearming_call r reading d.arm) a a' c.enters d.enters
+      (ap (rearming_call r reading) armed.0) at.0 in (
         entered.0,
         record {
           caller = record {

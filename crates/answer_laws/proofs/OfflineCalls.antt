@@ -1,11 +1,10 @@
 -- By the moments of its moves, and by what was then seen, taking a base off line has one answer; and so has taking it on line.
 use Rattle.std.proofs.Common.{◌≡◌, ◌≤◌, ◌<◌, ℕ, List, [], ◌∷◌, ap, sym, ◌∙◌, subst, refl, Bool, true, false, length, length-append, arith, ◌⊎◌, inl, inr}
-use Rattle.std.specs.Prelude.{Option, Some, None, IsSome, ◌+◌, ◌-◌, ◌++◌, is_some, nat_le, nat_lt, if◌then◌else◌}
+use Rattle.std.specs.Prelude.{Option, Some, None, IsSome, ◌+◌, ◌-◌, ◌++◌, nat_le, nat_lt, if◌then◌else◌}
 use Rattle.ktime.specs.Readings.{ClockReading}
-use Rattle.pass_names.specs.SharedHistory.{LooksOn}
 use Rattle.seq_timer.specs.Contents.{front_of}
 use Rattle.seq_timer.specs.Halves.{running_on}
-use Rattle.seq_timer.specs.Standings.{AreShifts, MayShift, first_standing, last_standing, standing_after, standing_after_all}
+use Rattle.seq_timer.specs.Standings.{AreShifts, first_standing, last_standing, standing_after, standing_after_all}
 use Rattle.seq_timer.specs.Systems.{first_system, shifts_of, system_after}
 use Rattle.seq_timer.specs.Tables.{in_context, is_armed_on}
 use Rattle.seq_timer.specs.declared.context.Context.TheVariants as contexts
@@ -17,7 +16,6 @@ use Rattle.seq_timer.proofs.Systems.{after_entries-shifts_of, shifts_by_turns}
 use Rattle.std.proofs.lemmas.Bool.{true≢false}
 use Rattle.std.proofs.lemmas.Bool.Decides.{nat_tests}
 use Rattle.base_row.specs.Calls.{AreFresh}
-use Rattle.base_row.specs.Rules.{base_place}
 use Rattle.base_row.specs.declared.log.Receipt.{Receipt}
 use Rattle.base_row.specs.declared.view.Opening.{Opening}
 use Rattle.hr_timers.specs.declared.answer.OfflineAnswer.{OfflineAnswer}
@@ -29,7 +27,7 @@ use Rattle.hr_timers.specs.Logged.{IsLogged}
 use Rattle.hr_timers.specs.Moves.{AreMoved, EndFits, GoesOffline, IsFront, MovesTimer, OfflineFits, OnlineFits, OnlyLooks, RunsFirst, RunsNone, ShiftsBase, move_entries}
 use Rattle.hr_timers.specs.Ways.{standing_then}
 use Rattle.answer_laws.specs.Offline.{goes_at, moves_at, offline_at}
-use Rattle.answer_laws.specs.Outcomes.{SameOutcome, SameOwn}
+use Rattle.answer_laws.specs.Outcomes.{SameOwn}
 use Rattle.answer_laws.proofs.BaseCalls.{some_is}
 use Rattle.answer_laws.proofs.ClaimCalls.{no_idle, one_function}
 use Rattle.answer_laws.proofs.Outcomes.{logged_once, looked_once, made_once, own_same}
@@ -40,7 +38,8 @@ one_front : (o : Opening) (x y : List SystemEntry) (base t u : ℕ) → x ≡ y 
 one_front o x y base t u e p q =
     ap (λ (k : ℕ × ℕ). k.1) (some_is _ _ (sym p.1 ∙ (ap (λ z. front_of ((system_after o.timers z).bases base).content) e ∙ q.1)))
 
-one_first : (o : Opening) (k : KnownOfTimers) (base t g u h : ℕ) → AreFresh o.timers → KnowsTimers o k → RunsFirst o k.seen base t g → RunsFirst o k.seen base u h
+one_first : (o : Opening) (k : KnownOfTimers) (base t g u h : ℕ) → AreFresh o.timers → KnowsTimers o k → RunsFirst o k.seen base t g
+    → RunsFirst o k.seen base u h
     → (t ≡ u) × (g ≡ h)
 one_first o k base t g u h fresh knows (inl a) (inl b) = one_function o k contexts.Hard base t g u h fresh knows a b
 one_first o k base t g u h fresh knows (inr a) (inr b) = one_function o k contexts.Soft base t g u h fresh knows a.1 b.1
@@ -77,7 +76,8 @@ module _ {A : Type 0} (put : A → Receipt → A) (o : Opening) (base heir : ℕ
       )
 
   moves_once : (ts us : List ℕ) (v v' w w' : KnownOfTimers) (s s' r r' : A) → SameOwn v v' → s ≡ s' → (m : AreMoved put o base heir reading v ts w s r)
-      → (n : AreMoved put o base heir reading v' us w' s' r') → moves_at put o base heir reading v ts w s r m ≡ moves_at put o base heir reading v' us w' s' r' n
+      → (n : AreMoved put o base heir reading v' us w' s' r')
+      → moves_at put o base heir reading v ts w s r m ≡ moves_at put o base heir reading v' us w' s' r' n
       → (ts ≡ us) × SameOwn w w' × (r ≡ r')
   moves_once [] [] v v' w w' s s' r r' own sinks m n e =
       (refl, subst (λ x. SameOwn x w') (sym m.0) (subst (SameOwn v) (sym n.0) own), m.1 ∙ (sinks ∙ sym n.1))
@@ -155,7 +155,8 @@ module _ {A : Type 0} (put : A → Receipt → A) (o : Opening) (base heir : ℕ
   refused None None n m = if nat_le last_standing n then Some (offs.BaseSpent n) else None
 
   abbrev refusal : KnownOfTimers → Option OfflineAnswer
-  refusal v = refused (standing_then o v.seen base).heir (standing_then o v.seen heir).heir (standing_then o v.seen base).stamp (standing_then o v.seen heir).stamp
+  refusal v = refused (standing_then o v.seen base).heir (standing_then o v.seen heir).heir (standing_then o v.seen base).stamp
+      (standing_then o v.seen heir).stamp
 
   off_first : (h k : Option ℕ) (n m : ℕ) → IsSome h → refused h k n m ≡ Some (offs.AlreadyOffline n)
   off_first (Some x) k n m is = refl
@@ -206,7 +207,8 @@ module _ {A : Type 0} (put : A → Receipt → A) (o : Opening) (base heir : ℕ
 
     pub offline_once : (a a' : OfflineAnswer) (c : OfflineFits put o base heir reading v w budget a s r)
         (d : OfflineFits put o base heir reading v w' budget a' s r')
-        → offline_at put o base heir reading v w budget a s r c ≡ offline_at put o base heir reading v w' budget a' s r' d → (a ≡ a') × (r ≡ r') × SameOwn w w'
+        → offline_at put o base heir reading v w budget a s r c ≡ offline_at put o base heir reading v w' budget a' s r' d
+        → (a ≡ a') × (r ≡ r') × SameOwn w w'
     offline_once a a' c d at = by_kind (sorted v w budget s r a c) (sorted v w' budget s r' a' d)
       where
         by_kind : Sorted v w budget s r a c → Sorted v w' budget s r' a' d → (a ≡ a') × (r ≡ r') × SameOwn w w'

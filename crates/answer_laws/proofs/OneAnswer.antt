@@ -1,10 +1,7 @@
 -- A timer that is so at the moment of a call gives it one answer.
-use Rattle.std.proofs.Common.{◌≡◌, ◌≤◌, ◌<◌, ◌+◌, ℕ, List, [], ◌∷◌, ap, sym, ◌∙◌, subst, refl, arith, Bool, true, false}
-use Rattle.std.specs.Prelude.{Option, Some, None, unwrap_or}
+use Rattle.std.proofs.Common.{◌≡◌, ℕ, List, ap, sym, ◌∙◌, arith}
 use Rattle.ktime.specs.Readings.{ClockReading}
-use Rattle.seq_timer.specs.Calls.{entries_along, forwarded_as, step_all}
 use Rattle.seq_timer.specs.Events.{Asked}
-use Rattle.seq_timer.specs.Histories as seq
 use Rattle.seq_timer.specs.Steps.{Timer}
 use Rattle.seq_timer.specs.declared.answer.CancelAnswer.{CancelAnswer}
 use Rattle.seq_timer.specs.declared.answer.CancelAnswer.TheVariants as cancels
@@ -12,8 +9,7 @@ use Rattle.seq_timer.specs.declared.answer.ForwardAnswer.{ForwardAnswer}
 use Rattle.seq_timer.specs.declared.answer.ForwardAnswer.TheVariants as forwards
 use Rattle.hr_timers.specs.declared.answer.StartAnswer.{StartAnswer}
 use Rattle.hr_timers.specs.declared.answer.StartAnswer.TheVariants as starts
-use Rattle.hr_timers.specs.Calls.{CancelFits, ForwardFits, StartFits, cancel_entries, forward_entries, start_answer, start_entries}
-use Rattle.hr_timers.specs.Ways.{start_on}
+use Rattle.hr_timers.specs.Calls.{CancelFits, ForwardFits, StartFits}
 
 pub one_cancel : (t : Timer) (a b : CancelAnswer) → CancelFits t a → CancelFits t b → a ≡ b
 one_cancel t (cancels.Idle n) (cancels.Idle m) p q = ap cancels.Idle (p.1 ∙ sym q.1)
@@ -26,7 +22,8 @@ one_cancel t (cancels.Running g n) (cancels.Idle m) p q = let e = q.0.running in
 one_cancel t (cancels.Running g n) (cancels.Cancelled h m) p q = let e = q.1 in let f = p.0 in absurd cc
 one_cancel t (cancels.Running g n) (cancels.Running h m) p q = let e = p.0 in let f = q.0 in let k = p.1 in let l = q.1 in cc
 
-pub one_forward : (t : Timer) (reading : ClockReading) (interval : ℕ) (a b : ForwardAnswer) → ForwardFits t reading interval a → ForwardFits t reading interval b
+pub one_forward : (t : Timer) (reading : ClockReading) (interval : ℕ) (a b : ForwardAnswer) → ForwardFits t reading interval a
+    → ForwardFits t reading interval b
     → a ≡ b
 one_forward t r i (forwards.Forwarded n moved) (forwards.Forwarded m by) p q = p.2 ∙ sym q.2
 one_forward t r i (forwards.Forwarded n moved) (forwards.Spent m) p q = absurd (omega (arith, p.0, q.0))

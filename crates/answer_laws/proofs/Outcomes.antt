@@ -22,7 +22,8 @@ looked_once v v' w w' e a b = record {
   claims = a.claims ∙ (e.claims ∙ sym b.claims);
 }
 
-pub made_once : (v v' w w' : KnownOfTimers) (t u : ℕ) (x y : List SystemEntry) (es fs : List seq.Entry) → SameOwn v v' → MadeAt v w t x es → MadeAt v' w' u y fs
+pub made_once : (v v' w w' : KnownOfTimers) (t u : ℕ) (x y : List SystemEntry) (es fs : List seq.Entry) → SameOwn v v' → MadeAt v w t x es
+    → MadeAt v' w' u y fs
     → t ≡ u → x ≡ y → es ≡ fs → w.claims ≡ w'.claims → SameOutcome w w' t
 made_once v v' w w' t u x y es fs e a b timer at same claims =
     let own = a.own in

@@ -1,13 +1,10 @@
 -- An accept, a read and a gettime have one answer at one moment; so has a look.
 use Rattle.std.proofs.Common.{◌≡◌, ◌≤◌, ◌<◌, ℕ, ap, sym, ◌∙◌, subst, refl, length, arith, ◌⊎◌, inl, inr}
-use Rattle.std.specs.Prelude.{Some}
 use Rattle.ktime.specs.Readings.{ClockReading}
 use Rattle.timer_setting.specs.declared.answers.AcceptAnswer.{AcceptAnswer}
 use Rattle.timer_setting.specs.declared.answers.AcceptAnswer.TheVariants as acceptances
-use Rattle.timer_setting.specs.declared.answers.GettimeAnswer.TheVariants as lefts
 use Rattle.timer_setting.specs.declared.answers.ReadAnswer.{ReadAnswer}
 use Rattle.timer_setting.specs.declared.answers.ReadAnswer.TheVariants as reads
-use Rattle.timer_setting.specs.declared.object_call.ObjectReply.{ObjectReply}
 use Rattle.timer_setting.specs.declared.object_call.ObjectReply.TheVariants as replies
 use Rattle.base_row.specs.declared.view.Opening.{Opening}
 use Rattle.posix_timer.specs.States.{PosixTimer, setting_of}
@@ -25,8 +22,8 @@ use Rattle.timer_objects.specs.declared.wanting.Rearming.{Rearming}
 use Rattle.timer_objects.specs.declared.wanting.Rearming.TheVariants as rearmings
 use Rattle.timer_objects.specs.BlockingReads.{ReadsBlocking}
 use Rattle.timer_objects.specs.Calls.{Accepts, Caller, FindsHistoryFull, Gettimes, ReadsFd, RearmingMade, rearming_call}
-use Rattle.timer_objects.specs.Known.{ObjectsOf, seen_of}
-use Rattle.answer_laws.specs.Objects.{AreOne, ObjectMoment, SameCaller, SameWork, accept_at, gettime_at, look_at, read_at, rearming_at}
+use Rattle.timer_objects.specs.Known.{ObjectsOf}
+use Rattle.answer_laws.specs.Objects.{AreOne, ObjectMoment, SameWork, accept_at, gettime_at, looked_at, read_at, rearming_at}
 use Rattle.answer_laws.specs.ObjectReads.{blocking_at}
 use Rattle.answer_laws.proofs.AnewCalls.{are_one_as}
 use Rattle.answer_laws.proofs.ObjectCalls.{full_made, full_once, look_once, rearmed_once}
@@ -39,7 +36,7 @@ work_same c id = record {
   entries = refl;
 }
 
-work_kept : (old new new' : Caller) (id : ℕ) → new ≡ old → new' ≡ old → SameWork new new' id
+pub work_kept : (old new new' : Caller) (id : ℕ) → new ≡ old → new' ≡ old → SameWork new new' id
 work_kept old new new' id e f = subst (λ c. SameWork c new' id) (sym e) (subst (λ c. SameWork old c id) (sym f) (work_same old id))
 
 -- how a call that may arm its timer again ends: it finds the history full, or makes an entry. The entry's number isn't told here.
@@ -49,7 +46,7 @@ Rearms x o old new id r reading (ends.Made n reply) = RearmingMade x o old new i
 
 abbrev rearms_at : (x : ObjectsOf) (o : Opening) (old new : Caller) (id : ℕ) (r : Rearming) (reading : ClockReading) (e : Ended)
     → Rearms x o old new id r reading e → ObjectMoment
-rearms_at x o old new id r reading (ends.Full n) f = look_at x o old new id
+rearms_at x o old new id r reading (ends.Full n) f = looked_at x o old new id
 rearms_at x o old new id r reading (ends.Made n reply) f = rearming_at x o old new id r reading reply f.0
 
 module _ (x : ObjectsOf) (o : Opening) (old new new' : Caller) (id : ℕ) (r : Rearming) (reading : ClockReading) where
@@ -118,7 +115,8 @@ blocking_back blocking.Canceled = refl
 blocking_back blocking.ShortBuffer = refl
 
 module _ (x : ObjectsOf) (o : Opening) (old : Caller) (id : ℕ) (reading : ClockReading) where
-  accept_ends : (new : Caller) (a : AcceptAnswer) (s : Accepts x o old new id reading a) → (f : Rearms x o old new id rearmings.Accepting reading (accept_ended a))
+  accept_ends : (new : Caller) (a : AcceptAnswer) (s : Accepts x o old new id reading a)
+      → (f : Rearms x o old new id rearmings.Accepting reading (accept_ended a))
       × (accept_at x o old new id reading a s ≡ rearms_at x o old new id rearmings.Accepting reading (accept_ended a) f)
   accept_ends new (acceptances.Spent n) s = (s, refl)
   accept_ends new (acceptances.Accepted overrun) s = ((s, refl), refl)
@@ -168,7 +166,8 @@ module _ (x : ObjectsOf) (o : Opening) (old : Caller) (id : ℕ) (reading : Cloc
     read_once new new' a a' c d at = sorted_once ReadAnswer reads.ShortBuffer read_of new new' a a' _ _ _ _ (read_back a) (read_back a')
         (read_sorted new a c) (read_sorted new' a' d) at
 
-    pub blocking_once : (new new' : Caller) (a a' : BlockingRead) (c : ReadsBlocking x o old new id len reading a) (d : ReadsBlocking x o old new' id len reading a')
+    pub blocking_once : (new new' : Caller) (a a' : BlockingRead) (c : ReadsBlocking x o old new id len reading a)
+        (d : ReadsBlocking x o old new' id len reading a')
         → AreOne (blocking_at x o old new id len reading a c) (blocking_at x o old new' id len reading a' d) → (a ≡ a') × SameWork new new' id
     blocking_once new new' a a' c d at = sorted_once BlockingRead blocking.ShortBuffer blocking_of new new' a a' _ _ _ _ (blocking_back a) (blocking_back a')
         (blocking_sorted new a c) (blocking_sorted new' a' d) at
@@ -185,25 +184,27 @@ module _ (x : ObjectsOf) (o : Opening) (old : Caller) (id : ℕ) (reading : Cloc
     abbrev Alike : (kind : Kind) (a a' : Gettime) → Gettimes x o old new id reading kind a → Gettimes x o old new' id reading kind a' → Type 0
     Alike kind a a' c d = AreOne (gettime_at x o old new id reading kind a c) (gettime_at x o old new' id reading kind a' d) → (a ≡ a') × SameWork new new' id
 
-    pub gettime_once : (kind : Kind) (a a' : Gettime) (c : Gettimes x o old new id reading kind a) (d : Gettimes x o old new' id reading kind a') → Alike kind a a' c d
+    pub gettime_once : (kind : Kind) (a a' : Gettime) (c : Gettimes x o old new id reading kind a) (d : Gettimes x o old new' id reading kind a')
+        → Alike kind a a' c d
     gettime_once kinds.Raw a a' c d at = absurd c
     gettime_once kinds.Sleeper a a' c d at = absurd c
     gettime_once kinds.Posix (gettimes.Spent n) a' c d at = absurd c
     gettime_once kinds.Posix (gettimes.Left l i s) (gettimes.Spent n) c d at = absurd d
     gettime_once kinds.Posix (gettimes.Left l i s) (gettimes.Left m j t) c d at =
-        let same = look_once x o old new new' id (objects.Posix c.0) (objects.Posix d.0) s t c.1 d.1 at in
+        let same = look_once old new new' id (objects.Posix c.0) (objects.Posix d.0) s t c.1 d.1 at in
         let timer = same_posix c.0 d.0 same.0 in
         let setting = c.2 ∙ (ap (λ u. setting_of u reading) timer ∙ sym d.2) in
         (left_same l m i j s t (ap (λ z. z.left) setting) (ap (λ z. z.interval) setting) same.1, same.2)
     gettime_once kinds.Queued (gettimes.Spent n) a' c d at = absurd c
     gettime_once kinds.Queued (gettimes.Left l i s) (gettimes.Spent n) c d at = absurd d
     gettime_once kinds.Queued (gettimes.Left l i s) (gettimes.Left m j t) c d at =
-        let same = look_once x o old new new' id (objects.Queued c.0) (objects.Queued d.0) s t c.1 d.1 at in
+        let same = look_once old new new' id (objects.Queued c.0) (objects.Queued d.0) s t c.1 d.1 at in
         let object = same.0 in
         let timer : c.0 ≡ d.0 = cc in
         let setting = c.2 ∙ (ap (λ u. setting_of u.timer reading) timer ∙ sym d.2) in
         (left_same l m i j s t (ap (λ z. z.left) setting) (ap (λ z. z.interval) setting) same.1, same.2)
-    gettime_once kinds.Fd (gettimes.Spent n) (gettimes.Spent m) c d at = let same = full_once x o old new new' id n m c d at in (ap gettimes.Spent same.0, same.1)
+    gettime_once kinds.Fd (gettimes.Spent n) (gettimes.Spent m) c d at = let same = full_once x o old new new' id n m c d at in
+        (ap gettimes.Spent same.0, same.1)
     gettime_once kinds.Fd (gettimes.Spent n) (gettimes.Left m j t) c d at =
         absurd (full_made x o old new new' id (rearming_call rearmings.Getting reading d.0.arm) _ n c d.0.enters at)
     gettime_once kinds.Fd (gettimes.Left l i s) (gettimes.Spent n) c d at =

@@ -1,13 +1,10 @@
 -- A history leads a value to one state, so what is known of a value after it is fixed.
 use Rattle.std.proofs.Common.{◌≡◌, ℕ, List, [], ◌∷◌, ap, sym, ◌∙◌, subst, refl, length, Some}
-use Rattle.std.specs.Prelude.{◌++◌}
-use lib.ListN.{get_elem?}
-use mathlib.Core.Option.{some}
 use Rattle.pass_names.specs.declared.Pass.{Pass}
 use Rattle.pass_names.specs.Passes.{Looks, entries}
 use Rattle.counted_row.specs.Meaning.{CallMeaning, Leads}
 use Rattle.counted_row.specs.Calls.{Commits, ReadsValue}
-use Rattle.counted_row.specs.Views.{IsNow, Locks, PassOfRow, Sees, StateAfter}
+use Rattle.counted_row.specs.Views.{Locks, PassOfRow, Sees, StateAfter}
 use Rattle.counted_row.specs.declared.view.Entry.{Entry}
 use Rattle.counted_row.specs.declared.view.Locked.{Locked}
 use Rattle.answer_laws.specs.Rows.{SameOfRow, SamePlaces}

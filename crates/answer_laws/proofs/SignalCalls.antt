@@ -2,7 +2,7 @@
 use Rattle.std.proofs.Common.{◌≡◌, ◌≤◌, ℕ, List, [], ◌∷◌, length, ap, sym, ◌∙◌, subst, refl, length-append, arith}
 use Rattle.std.specs.Prelude.{◌++◌, Option, Some, None, slice_get}
 use Rattle.pass_names.specs.declared.Pass.{Pass}
-use Rattle.pass_names.specs.Passes.{Adds, entries, places}
+use Rattle.pass_names.specs.Passes.{Adds, entries}
 use Rattle.signal_queue.specs.Calls.{PopsSignal, PushesSignal}
 use Rattle.signal_queue.specs.Rules.{turns}
 use Rattle.signal_queue.specs.Turns.{AreTurns, waiting_after}
@@ -28,10 +28,10 @@ adds_once p q p' r i es fs alike a b e f =
     let mine' = b.mine in
     let own = alike.mine in (cc, record { id = a.id ∙ (alike.id ∙ sym b.id); mine = cc })
 
-places_same : {E : Type 0} (p : Pass E) → SamePlaces p p
+pub places_same : {E : Type 0} (p : Pass E) → SamePlaces p p
 places_same p = record { id = refl; mine = refl }
 
-no_room : (before seen : List Turn) (s : Signal) (room : ℕ) → seen ≡ before ++ Pushed s ∷ [] → length (waiting_after [] seen) ≤ room
+pub no_room : (before seen : List Turn) (s : Signal) (room : ℕ) → seen ≡ before ++ Pushed s ∷ [] → length (waiting_after [] seen) ≤ room
     → length (waiting_after [] before) ≡ room → ⊥
 no_room before seen s room last few full = omega (
   arith,
@@ -58,7 +58,7 @@ module _ (room : ℕ) (v w w' : QueueView) (s : Signal) where
 waited : (w : QueueView) (before : List Turn) (s : Signal) → KnowsQueue w → turns w ≡ before ++ Popped s ∷ [] → slice_get (waiting_after [] before) 0 ≡ Some s
 waited w before s known last = oldest w.room [] before [] s (subst (AreTurns w.room []) last known.legal)
 
-some_waited : (before : List Turn) (s : Signal) → slice_get (waiting_after [] before) 0 ≡ Some s → waiting_after [] before ≡ [] → ⊥
+pub some_waited : (before : List Turn) (s : Signal) → slice_get (waiting_after [] before) 0 ≡ Some s → waiting_after [] before ≡ [] → ⊥
 some_waited before s some none = let empty = ap (λ l. slice_get l 0) none in let e : None ≡ Some s = sym empty ∙ some in cc
 
 module _ (v w w' : QueueView) where

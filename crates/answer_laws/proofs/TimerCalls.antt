@@ -1,18 +1,17 @@
 -- Each call on a timer has one answer at one moment, and makes the same entries. The passes before may differ in what they had seen.
-use Rattle.std.proofs.Common.{◌≡◌, ℕ, List, [], ◌∷◌, ap, sym, ◌∙◌, subst, refl, Bool}
+use Rattle.std.proofs.Common.{◌≡◌, ℕ, [], ◌∷◌, ap, sym, ◌∙◌, subst, refl, Bool}
 use Rattle.std.specs.Prelude.{◌+◌}
 use Rattle.ktime.specs.Readings.{ClockReading}
 use Rattle.pass_names.specs.Counts.{without_first}
 use Rattle.seq_timer.specs.Events.{Asked}
 use Rattle.seq_timer.specs.Histories as seq
-use Rattle.seq_timer.specs.Steps.{Timer, rearmed_by}
+use Rattle.seq_timer.specs.Steps.{rearmed_by}
 use Rattle.seq_timer.specs.declared.answer.CancelAnswer.{CancelAnswer}
 use Rattle.seq_timer.specs.declared.answer.Finished.{Finished}
 use Rattle.seq_timer.specs.declared.answer.ForwardAnswer.{ForwardAnswer}
 use Rattle.seq_timer.specs.declared.answer.Rearmed.{Rearmed}
 use Rattle.seq_timer.specs.declared.event.EventBy.TheVariants as events
 use Rattle.seq_timer.specs.declared.observation.Peek.{Peek}
-use Rattle.seq_timer.specs.declared.system.SystemEntry.{SystemEntry}
 use Rattle.base_row.specs.Rules.{is_base_claim}
 use Rattle.base_row.specs.declared.view.Opening.{Opening}
 use Rattle.hr_timers.specs.declared.answer.StartAnswer.{StartAnswer}
@@ -56,23 +55,35 @@ module _ (o : Opening) (v v' w w' : KnownOfTimers) (own : SameOwn v v') where
     same_cancel = one_cancel (timer_then o c.at t) a a' c.fits (subst (λ x. CancelFits (timer_then o x t) a') (sym e) d.fits)
 
     pub cancel_once : (a ≡ a') × SameOutcome w w' t
-    cancel_once = (same_cancel, made_once v v' w w' t t c.at d.at _ _ own c.made d.made refl e (ap cancel_entries same_cancel) (c.claims ∙ (own.claims ∙ sym d.claims)))
+    cancel_once = (
+      same_cancel,
+      made_once v v' w w' t t c.at d.at _ _ own c.made d.made refl e (ap cancel_entries same_cancel) (c.claims
+          ∙ (own.claims ∙ sym d.claims)),
+    )
 
   module _ (n : ClaimNumbers) (reading : ClockReading) where
-    module _ (interval : ℕ) (a a' : ForwardAnswer) (c : Forwards o v w n reading interval a) (d : Forwards o v' w' n reading interval a') (e : c.at ≡ d.at) where
+    module _ (interval : ℕ) (a a' : ForwardAnswer) (c : Forwards o v w n reading interval a) (d : Forwards o v' w' n reading interval a')
+        (e : c.at ≡ d.at) where
       same_forward : a ≡ a'
       same_forward = one_forward (timer_then o c.at n.timer) reading interval a a' c.fits
           (subst (λ x. ForwardFits (timer_then o x n.timer) reading interval a') (sym e) d.fits)
 
-      pub same_forward_entries : forward_entries (timer_then o c.at n.timer) reading interval a ≡ forward_entries (timer_then o d.at n.timer) reading interval a'
+      pub same_forward_entries : forward_entries (timer_then o c.at n.timer) reading interval a ≡ forward_entries
+          (timer_then o d.at n.timer) reading interval a'
       same_forward_entries =
-          ap (λ x. forward_entries (timer_then o x n.timer) reading interval a) e ∙ ap (forward_entries (timer_then o d.at n.timer) reading interval) same_forward
+          ap (λ x. forward_entries (timer_then o x n.timer) reading interval a) e
+          ∙ ap (forward_entries (timer_then o d.at n.timer) reading interval) same_forward
 
       pub forward_once : (a ≡ a') × SameOutcome w w' n.timer
-      forward_once = (same_forward, made_once v v' w w' n.timer n.timer c.at d.at _ _ own c.made d.made refl e same_forward_entries (c.claims ∙ (own.claims ∙ sym d.claims)))
+      forward_once = (
+        same_forward,
+        made_once v v' w w' n.timer n.timer c.at d.at _ _ own c.made d.made refl e same_forward_entries (c.claims
+            ∙ (own.claims ∙ sym d.claims)),
+      )
 
   module _ (n : ClaimNumbers) (restart : Bool) (a a' : Finished) (c : Finishes o v w n restart a) (d : Finishes o v' w' n restart a') (e : c.at ≡ d.at) where
-    pub same_finish_entries : entry_by (timer_then o c.at n.timer) (events.Finish restart) ∷ [] ≡ entry_by (timer_then o d.at n.timer) (events.Finish restart) ∷ []
+    pub same_finish_entries : entry_by (timer_then o c.at n.timer) (events.Finish restart) ∷ [] ≡ entry_by (timer_then o d.at n.timer)
+        (events.Finish restart) ∷ []
     same_finish_entries = ap (λ x. entry_by (timer_then o x n.timer) (events.Finish restart) ∷ []) e
 
     pub finish_once : (a ≡ a') × SameOutcome w w' n.timer

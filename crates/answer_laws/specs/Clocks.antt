@@ -1,5 +1,5 @@
 -- The moment of a write of the clock.
-use Rattle.std.specs.Prelude.{◌≡◌, List, Result, Ok, Err}
+use Rattle.std.specs.Prelude.{List, Result, Ok, Err}
 use Rattle.ktime.specs.Readings.{ClockReading}
 use Rattle.ktime.specs.declared.write.ClockFault.{ClockFault}
 use Rattle.ktime.specs.declared.write.Write.{Write}

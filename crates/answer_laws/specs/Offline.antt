@@ -7,7 +7,7 @@ use Rattle.base_row.specs.declared.view.Opening.{Opening}
 use Rattle.hr_timers.specs.declared.answer.OfflineAnswer.{OfflineAnswer}
 use Rattle.hr_timers.specs.declared.answer.OfflineAnswer.TheVariants as offs
 use Rattle.hr_timers.specs.Known.{KnownOfTimers}
-use Rattle.hr_timers.specs.Moves.{AreMoved, GoesOffline, OfflineFits}
+use Rattle.hr_timers.specs.Moves.{AreMoved, GoesOffline, OfflineFits, TakesOffline}
 
 module _ {A : Type 0} (put : A → Receipt → A) (o : Opening) (base heir : ℕ) (reading : ClockReading) where
   -- the moment of each move
@@ -30,3 +30,8 @@ module _ {A : Type 0} (put : A → Receipt → A) (o : Opening) (base heir : ℕ
   offline_at v w budget (offs.Offline n stamp) s r f = goes_at v w budget (offs.Offline n stamp) s r f
   offline_at v w budget (offs.More n) s r f = goes_at v w budget (offs.More n) s r f
   offline_at v w budget (offs.Spent n t stamp) s r f = goes_at v w budget (offs.Spent n t stamp) s r f
+
+-- the same of a call without a sink
+abbrev pub plain_offline_at : (o : Opening) (base heir : ℕ) (reading : ClockReading) (v w : KnownOfTimers) (budget : ℕ) (a : OfflineAnswer)
+    → TakesOffline o base heir reading v w budget a → List (List SystemEntry)
+plain_offline_at o base heir reading v w budget a f = offline_at {A = Unit {0}} (λ s receipt. s) o base heir reading v w budget a tt tt f

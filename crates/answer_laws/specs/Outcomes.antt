@@ -1,11 +1,9 @@
 -- What two passes of timers have in common after one call, where one may have seen more of what others did; and the moment of each call.
-use Rattle.std.specs.Prelude.{ℕ, ◌≡◌, Bool, true, false, List, []}
+use Rattle.std.specs.Prelude.{ℕ, ◌≡◌, Bool, true, false, List}
 use Rattle.ktime.specs.Readings.{ClockReading}
 use Rattle.seq_timer.specs.Events.{Asked}
 use Rattle.seq_timer.specs.Systems.{entries_of}
 use Rattle.seq_timer.specs.declared.context.Context.{Context}
-use Rattle.seq_timer.specs.declared.answer.CancelAnswer.{CancelAnswer}
-use Rattle.seq_timer.specs.declared.answer.CancelAnswer.TheVariants as cancels
 use Rattle.seq_timer.specs.declared.system.SystemEntry.{SystemEntry}
 use Rattle.base_row.specs.declared.view.Opening.{Opening}
 use Rattle.hr_timers.specs.declared.answer.ClaimAnswer.{ClaimAnswer}
@@ -13,6 +11,7 @@ use Rattle.hr_timers.specs.declared.answer.ClaimAnswer.TheVariants as claimings
 use Rattle.hr_timers.specs.declared.answer.NowAnswer.{NowAnswer}
 use Rattle.hr_timers.specs.declared.answer.NowAnswer.TheVariants as nows
 use Rattle.hr_timers.specs.declared.answer.StartAnswer.{StartAnswer}
+use Rattle.hr_timers.specs.declared.answer.StartAnswer.TheVariants as starts
 use Rattle.hr_timers.specs.Calls.{ClaimFits, NowFits, StartsTimer}
 use Rattle.hr_timers.specs.Known.{KnownOfTimers, PassOf}
 
@@ -35,6 +34,11 @@ pub record StartMoment : Type 0 where
 
 abbrev pub start_moment : (o : Opening) (v w : KnownOfTimers) (t : ℕ) (asked : Asked) (a : StartAnswer) → StartsTimer o v w t asked a → StartMoment
 start_moment o v w t asked a s = record { at = s.at; sent = s.sent; last = s.last }
+
+-- what a start answers, without the base that it asked for last
+abbrev pub unasked : StartAnswer → StartAnswer
+unasked (starts.Started was_armed generation asked outs placement) = starts.Started was_armed generation 0 outs placement
+unasked (starts.Spent n) = starts.Spent n
 
 -- the moment of a claim; that of a call which claims nothing is when it has seen all that it sees
 abbrev pub claim_moment : (o : Opening) (v w : KnownOfTimers) (x : Context) (base : ℕ) (reading : ClockReading) (a : ClaimAnswer)

@@ -44,9 +44,10 @@ pub fn a_front_is_fixed()
 {}
 
 /// Behind the same entries a counter is raised by as many rises (`raises`), and a step of it has one answer (`steps`).
-pub fn a_counter_s_rise_is_fixed()
+pub fn a_rise_of_a_counter_is_fixed()
     ensures raises { (k to : ℕ) (old new new' : List entry.SystemEntry) (c : RaisesTo k to old new) (d : RaisesTo k to old new')
         → c.before ≡ d.before → new ≡ new' }
-    ensures steps { (k from : ℕ) (old new new' : List entry.SystemEntry) (rose rose' : Bool) (c : StepFits k from old new rose) (d : StepFits k from old new' rose')
+    ensures steps { (k from : ℕ) (old new new' : List entry.SystemEntry) (rose rose' : Bool) (c : StepFits k from old new rose)
+        (d : StepFits k from old new' rose')
         → step_moment k from old new rose c ≡ step_moment k from old new' rose' d → (rose ≡ rose') × (new ≡ new') }
 {}

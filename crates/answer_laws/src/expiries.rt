@@ -15,7 +15,8 @@ use hr_timers::Handler;
 /// By the moments of its claims and finishes, by what its functions asked for, and by what was then seen, a run of expiries has one answer and one log. What
 /// its functions did beside that is said by the handler alone.
 pub fn an_expiry_run_is_fixed<H: Handler>()
-    ensures { (o : Opening) → AreFresh o.timers → (x : contexts.Context) (base : ℕ) (reading : ClockReading) (budget : ℕ) (k n n' : KnownOfTimers) (h i i' : H)
+    ensures { (o : Opening) → AreFresh o.timers
+        → (x : contexts.Context) (base : ℕ) (reading : ClockReading) (budget : ℕ) (k n n' : KnownOfTimers) (h i i' : H)
         (log l l' : List Receipt) (a a' : expiries.ExpireAnswer) (c : Expires H.meaning o x base reading budget k h log n i l a)
         (d : Expires H.meaning o x base reading budget k h log n' i' l' a') → KnowsTimers o n → n.seen ≡ n'.seen
         → run_at H.meaning o x base reading budget k h log n i l a c ≡ run_at H.meaning o x base reading budget k h log n' i' l' a' d → (a ≡ a') × (l ≡ l') }

@@ -4,29 +4,34 @@
 mod bases;
 mod clocks;
 mod expiries;
+mod handlers;
+mod handoffs;
 mod objects;
 mod rows;
 mod signals;
 mod timers;
 
 pub use bases::{
-    a_counter_s_rise_is_fixed, a_front_is_fixed, a_locked_base_is_fixed, a_look_at_bases_is_fixed,
-    an_entry_on_a_base_is_fixed,
+    a_front_is_fixed, a_locked_base_is_fixed, a_look_at_bases_is_fixed,
+    a_rise_of_a_counter_is_fixed, an_entry_on_a_base_is_fixed,
 };
 pub use clocks::a_write_is_fixed;
 pub use expiries::an_expiry_run_is_fixed;
+pub use handlers::{a_callback_is_fixed, a_queued_expiry_is_fixed, a_trigger_is_fixed};
+pub use handoffs::a_seat_is_fixed;
 pub use objects::{
-    a_gettime_is_fixed, a_look_at_an_object_is_fixed, a_read_is_fixed, a_settime_is_fixed,
-    a_sleep_is_fixed, an_accept_is_fixed, an_interrupt_is_fixed,
+    a_gettime_is_fixed, a_look_at_an_object_is_fixed, a_next_signal_is_fixed, a_read_is_fixed,
+    a_settime_is_fixed, a_sleep_is_fixed, an_accept_is_fixed, an_interrupt_is_fixed,
 };
 pub use rows::{
-    a_locked_value_is_fixed, a_state_is_fixed, what_a_row_s_calls_leave_is_fixed,
+    a_locked_value_is_fixed, a_state_is_fixed, what_calls_on_a_row_leave_is_fixed,
     what_passes_tell_is_fixed,
 };
 pub use signals::{a_pop_is_fixed, a_push_is_fixed};
 pub use timers::{
     a_cancel_behind_a_rise_is_fixed, a_cancel_is_fixed, a_cancel_now_is_fixed, a_claim_is_fixed,
     a_finish_is_fixed, a_forward_is_fixed, a_peek_is_fixed, a_start_is_fixed,
+    a_start_of_a_running_timer_is_fixed, a_start_with_all_bases_on_line_is_fixed,
     taking_a_base_off_line_is_fixed, taking_a_base_on_line_is_fixed,
     what_passes_of_timers_tell_is_fixed,
 };

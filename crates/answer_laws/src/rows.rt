@@ -12,7 +12,8 @@ use counted_row::Object;
 
 /// A history leads a value to one state.
 pub fn a_state_is_fixed<O: Object>()
-    ensures { (made : List O) (i : ℕ) (log : List (Entry O.Call O.Reply)) (x y : O) → StateAfter O.meaning made i log x → StateAfter O.meaning made i log y → x ≡ y }
+    ensures { (made : List O) (i : ℕ) (log : List (Entry O.Call O.Reply)) (x y : O) → StateAfter O.meaning made i log x
+        → StateAfter O.meaning made i log y → x ≡ y }
 {}
 
 /// After one history of a value two locks hand out the same: the value's state and its count.
@@ -21,8 +22,9 @@ pub fn a_locked_value_is_fixed<O: Object>()
         → entries i q.knows.pass.seen ≡ entries i q'.knows.pass.seen → (h ≡ h') × SameOfRow q q' }
 {}
 
-/// What a look leaves is fixed but for what it saw (`sees`). A turn that made a call, and one that looked, found one state after one history (`commits`, `reads`).
-pub fn what_a_row_s_calls_leave_is_fixed<O: Object>()
+/// What a look leaves is fixed but for what it saw (`sees`). A turn that made a call found one state after one history (`commits`), and so did a turn that
+/// looked (`reads`).
+pub fn what_calls_on_a_row_leave_is_fixed<O: Object>()
     ensures sees { (p q q' : PassOfRow O O.Call O.Reply) → Sees p q → Sees p q' → SameOfRow q q' }
     ensures commits { (p q q' : PassOfRow O O.Call O.Reply) (i : ℕ) (call : O.Call) (c : Commits O.meaning p q i call) (d : Commits O.meaning p q' i call)
         → c.adds.before ≡ d.adds.before → (c.state ≡ d.state) × (entries i q.knows.pass.seen ≡ entries i q'.knows.pass.seen) × SameOfRow q q' }

@@ -8,5 +8,6 @@ returns g c = record {
   entry = λ o v w w' x base reading n m p q e. claims_once o v v w w' (own_same v) x base reading n m p q e;
   logged = λ o fresh v w w' x base reading a a' s r r' p q knows e.
       let same = claim_once o v v w w' (own_same v) x base reading a a' p.claims q.claims fresh knows e in
-      (same.0, claim_logged_once o v v w w' (own_same v) x base reading g.S.ReceiptSink.pushed s r r' a a' p.claims q.claims e same.0 p.logged q.logged, same.1);
+      let sink = claim_logged_once o v v w w' (own_same v) x base reading g.S.ReceiptSink.pushed s r r' a a' p.claims q.claims e same.0 p.logged q.logged in
+      (same.0, sink, same.1);
 }

@@ -1,6 +1,6 @@
 use Rattle.std.proofs.Common.{refl}
 use Rattle.answer_laws.proofs.RowCalls.{commits_once, reads_once, row_same, sees_once}
-use Rattle.answer_laws.proofs.rows.what_a_row_s_calls_leave_is_fixed.Goals as goal
+use Rattle.answer_laws.proofs.rows.what_calls_on_a_row_leave_is_fixed.Goals as goal
 
 pub returns : goal.returns
 returns g c = record {
