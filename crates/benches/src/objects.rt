@@ -2,5 +2,6 @@
 pub use report::print_lines;
 
 mod report;
+mod running;
 mod stand;
 mod turns;

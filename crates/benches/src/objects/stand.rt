@@ -2,10 +2,10 @@
 ghost use Rattle.std.specs.Prelude.{◌≡◌, ◌*◌, ◌<◌, ◌≤◌, IfOk, OnOk};
 ghost use Rattle.benches.specs.Stands.{IsBenchStand, KeepsStand};
 
+use crate::objects::running::run_functions;
 use counted_row::RowPass;
 use hr_timers::{ExpireAnswer, Log, Pass, Timers};
-use ktime::{ClockId, Reading};
-use object_uses::{accept_signal, expire_objects, read_count, set_timer};
+use ktime::{ClockId, Reading, TimeSpec};
 use posix_timer::AcceptAnswer;
 use seq_timer::{Declared, Terms};
 use std::alloc::{AllocError, Global};
@@ -101,18 +101,17 @@ impl Stand {
             return Ok(false);
         }
         let (timers, objects) = (&self.timers, &self.objects);
-        let answer = set_timer(
+        let answer = objects.settime(
             rt,
             timers,
             &mut self.pass,
-            objects,
             &mut self.objects_pass,
             &mut self.log,
             &mut self.object_log,
             id,
             ABSTIME,
-            ns,
-            0,
+            TimeSpec { sec: 0, nsec: ns },
+            TimeSpec { sec: 0, nsec: 0 },
             Reading::at(NOW),
         );
         Ok(matches!(answer, SettimeAnswer::Old { .. }))
@@ -125,7 +124,7 @@ impl Stand {
     {
         self.make_room(2 * self.count as usize)?;
         let (timers, objects) = (&self.timers, &self.objects);
-        let run = expire_objects(
+        let answer = run_functions(
             rt,
             self.alloc,
             timers,
@@ -133,12 +132,11 @@ impl Stand {
             objects,
             &mut self.objects_pass,
             &self.callbacks,
-            0,
             Reading::at(NOW),
             self.count,
             &mut self.log,
         )?;
-        Ok(matches!(run.answer, ExpireAnswer::More { .. }))
+        Ok(matches!(answer, ExpireAnswer::More { .. }))
     }
 
     /// Accepts a POSIX timer's signal, or reads a descriptor.
@@ -151,11 +149,10 @@ impl Stand {
         let (timers, objects) = (&self.timers, &self.objects);
         match objects.kind(id) {
             Kind::Posix => {
-                let answer = accept_signal(
+                let answer = objects.accept(
                     rt,
                     timers,
                     &mut self.pass,
-                    objects,
                     &mut self.objects_pass,
                     &mut self.log,
                     &mut self.object_log,
@@ -165,11 +162,10 @@ impl Stand {
                 Ok(answer == AcceptAnswer::Accepted { overrun: 0 })
             }
             Kind::Fd => {
-                let answer = read_count(
+                let answer = objects.read(
                     rt,
                     timers,
                     &mut self.pass,
-                    objects,
                     &mut self.objects_pass,
                     &mut self.log,
                     &mut self.object_log,
