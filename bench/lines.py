@@ -1,12 +1,13 @@
 #!/usr/bin/env python3
-"""Counts each crate's lines without imports and blanks: code with tests, definitions, proofs; and its wrong bodies. Prints the rows of the table under
-"Costs" in CONTRIBUTING.md that have changed; with `--write` it puts them there. A crate without a row is only told. Outside the gate."""
+"""Counts each crate's lines without imports and blanks: code with tests, definitions, proofs; and its wrong bodies that the gate tries. Prints
+the table under "Costs" in CONTRIBUTING.md, a row for each crate of crates.txt, and their sum; with `--write` it puts it there. Outside the gate."""
 import os
 import re
 import sys
 
 TOP = os.path.dirname(os.path.dirname(os.path.abspath(__file__)))
 PAGE = os.path.join(TOP, "CONTRIBUTING.md")
+HEAD = "| Crate | code and tests | definitions | proofs | wrong bodies |\n|---|---|---|---|---|"
 USE = re.compile(r"(pub(\(\w+\))? )?(ghost )?use ")
 
 
@@ -29,28 +30,29 @@ def lines_in(folder, ending):
     )
 
 
-def row_of(crate):
+def numbers_of(crate):
     folder = os.path.join(TOP, "crates", crate)
     edits = os.path.join(folder, "must-fail")
-    return "| `%s` | %d | %d | %d | %d |" % (
-        crate,
+    return [
         lines_in(os.path.join(folder, "src"), ".rt"),
         lines_in(os.path.join(folder, "specs"), ".antt"),
         lines_in(os.path.join(folder, "proofs"), ".antt"),
         len(os.listdir(edits)) if os.path.isdir(edits) else 0,
-    )
+    ]
 
 
-with open(PAGE, encoding="utf-8") as file:
-    page = file.read()
-for crate in sorted(os.listdir(os.path.join(TOP, "crates"))):
-    new = row_of(crate)
-    old = re.search(r"^\| `%s` (\| \d+ ){4}\|$" % crate, page, re.M)
-    if old is None:
-        print("no row: " + new)
-    elif old[0] != new:
-        print(old[0] + " is now " + new)
-        page = page.replace(old[0], new)
+def row(name, numbers):
+    return f"| {name} | " + " | ".join(map(str, numbers)) + " |"
+
+
+with open(os.path.join(TOP, "crates.txt"), encoding="utf-8") as file:
+    crates = [line.split(":")[0].split()[0] for line in file if ":" in line]
+numbers = [numbers_of(crate) for crate in crates]
+table = "\n".join([HEAD, *(row(f"`{crate}`", its) for crate, its in zip(crates, numbers)), row("all", map(sum, zip(*numbers)))]) + "\n"
+print(table, end="")
 if "--write" in sys.argv[1:]:
+    with open(PAGE, encoding="utf-8") as file:
+        page = file.read()
+    begin = page.index(HEAD)
     with open(PAGE, "w", encoding="utf-8") as file:
-        file.write(page)
+        file.write(page[:begin] + table + page[page.index("\n\n", begin) + 1 :])
