@@ -1,4 +1,4 @@
-//! High-resolution timers for many threads: they stand on bases that are locked one at a time, under one history of all timers.
+//! High-resolution timers for many threads: they stand on bases that are locked one at a time, under one history of all timers. And expiry runs of a base.
 #![tactic(auto)]
 
 mod answer;

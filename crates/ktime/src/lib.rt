@@ -1,4 +1,4 @@
-//! Times of high-resolution timers: clocks and their readings, sums that stop at the end of time, and forwarding.
+//! Times of high-resolution timers: the clock that only writes move, its readings, sums that stop at the end of time, and forwarding.
 #![tactic(auto)]
 
 pub use clock::Clock;

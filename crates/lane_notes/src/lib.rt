@@ -1,4 +1,4 @@
-//! What lanes note of their calls, and the record that is made of all notes.
+//! What lanes note of their calls, the record that is made of all notes, and what lanes share and leave.
 #![tactic(auto)]
 
 pub use entries::note_receipts;

@@ -1,4 +1,4 @@
-//! One high-resolution timer as a state and the events that step it: what each event needs, what it leaves and what it answers.
+//! One high-resolution timer as a state and the events that step it: what each event needs, what it leaves and what it answers; its state word.
 #![tactic(auto)]
 
 pub use answer::{CancelAnswer, Finished, ForwardAnswer, Rearmed};
