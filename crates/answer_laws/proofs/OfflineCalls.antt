@@ -1,6 +1,6 @@
 -- By the moments of its moves, and by what was then seen, taking a base off line has one answer; and so has taking it on line.
 use Rattle.std.proofs.Common.{◌≡◌, ◌≤◌, ◌<◌, ℕ, List, [], ◌∷◌, ap, sym, ◌∙◌, subst, refl, Bool, true, false, length, length-append, arith, ◌⊎◌, inl, inr}
-use Rattle.std.specs.Prelude.{Option, Some, None, IsSome, ◌+◌, ◌-◌, ◌++◌, nat_le, nat_lt, if◌then◌else◌}
+use Rattle.std.specs.Prelude.{Option, Some, None, IsSome, ◌+◌, ◌++◌, nat_le, nat_lt, if◌then◌else◌}
 use Rattle.ktime.specs.Readings.{ClockReading}
 use Rattle.seq_timer.specs.Contents.{front_of}
 use Rattle.seq_timer.specs.Halves.{running_on}
@@ -202,8 +202,8 @@ module _ {A : Type 0} (put : A → Receipt → A) (o : Opening) (base heir : ℕ
         let p = c.evacuates in
         let q = d.evacuates in
         let moves = moves_once p.timers q.timers c.begins d.begins p.mid q.mid s s p.between q.between begins refl p.moves q.moves at in
-        end_once p.mid q.mid w w' moves.1 e fresh knows _ _ _ _ p.between q.between r r' (ap (λ (l : List ℕ). 0 + length l) moves.0)
-        (ap (λ (l : List ℕ). nat_lt 0 (budget - length l)) moves.0) moves.2 a a' p.last q.last
+        end_once p.mid q.mid w w' moves.1 e fresh knows _ _ _ _ p.between q.between r r' (ap (λ (l : List ℕ). length l) moves.0)
+        (ap (λ (l : List ℕ). nat_lt (length l) budget) moves.0) moves.2 a a' p.last q.last
 
     pub offline_once : (a a' : OfflineAnswer) (c : OfflineFits put o base heir reading v w budget a s r)
         (d : OfflineFits put o base heir reading v w' budget a' s r')

@@ -2,7 +2,8 @@
 use Rattle.std.proofs.Common.{◌≡◌, ℕ, List, [], ◌∷◌, ap, sym, ◌∙◌, subst, refl, length, arith, ◌⊎◌, inl, inr}
 use Rattle.std.specs.Prelude.{◌+◌, ◌++◌, IsSome}
 use Rattle.seq_timer.specs.Calls.{entries_along, step_all}
-use Rattle.pass_names.specs.Passes.{places}
+use Rattle.pass_names.specs.Passes.{Begins, places}
+use Rattle.pass_names.proofs.Passes.{begins_refl, begins_trans}
 use Rattle.seq_timer.specs.Events.{Asked}
 use Rattle.seq_timer.specs.Histories as seq
 use Rattle.seq_timer.specs.Steps.{Needs, Timer, after}
@@ -16,9 +17,10 @@ use Rattle.hr_timers.specs.declared.answer.StartAnswer.{StartAnswer}
 use Rattle.hr_timers.specs.declared.answer.StartAnswer.TheVariants as starts
 use Rattle.hr_timers.specs.Calls.{StartsTimer, start_answer}
 use Rattle.hr_timers.specs.Known.{KnownOfTimers, KnowsTimers, MadeAt, timer_then}
-use Rattle.hr_timers.specs.Ways.{IsSentBy, IsWay, WasOff, asking, start_on}
+use Rattle.hr_timers.specs.Ways.{IsSentBy, IsWay, asking, start_on}
+use Rattle.hr_timers.proofs.Ways.{way_rises}
 use Rattle.hr_timers.proofs.Moments.{timer_own}
-use Rattle.answer_laws.specs.Outcomes.{SameOutcome, SameOwn, StartMoment, unasked}
+use Rattle.answer_laws.specs.Outcomes.{SameOutcome, SameOwn, StartMoment, WasOff, unasked}
 use Rattle.answer_laws.proofs.Outcomes.{made_once, own_same}
 use Rattle.answer_laws.proofs.TimerCalls.{start_once}
 
@@ -32,15 +34,30 @@ own_steps : (o : Opening) (v w : KnownOfTimers) (t : ℕ) (x : List SystemEntry)
 own_steps o v w t x es knows made = subst (λ u. seq.AreSteps u es) (sym (timer_own o x t)) (second_steps (timer_at o.timers t) (entries_of t x) es
     (subst (seq.AreSteps (timer_at o.timers t)) made.own (parts o.bases (length o.timers) (first_system o.timers) w.seen knows.history t)))
 
-module _ (o : Opening) (low high : List SystemEntry) (none : (b h : ℕ) → WasOff o low high b h → ⊥) where
-  no_way : (a b : ℕ) (path : List ℕ) → IsWay o low high a path b → a ≡ b
-  no_way a b [] way = way
-  no_way a b (c ∷ cs) way = absurd (none a c way.0)
+module _ (o : Opening) (low high : List SystemEntry) (t n : ℕ) (none : (b h : ℕ) → WasOff o low high b h → ⊥) where
+  no_way : (from : List SystemEntry) (a b : ℕ) (path : List ℕ) (at : List SystemEntry) → Begins low from → Begins at high → IsWay o from a path b at
+      → (path ≡ []) × (a ≡ b)
+  no_way from a b [] at down up way = (refl, way.0)
+  no_way from a b (c ∷ cs) at down up way =
+      let x = way.0 in
+      absurd (none a c (record {
+        at = x;
+        from = begins_trans down way.1.from;
+        to = begins_trans (way_rises o x c cs b at way.2) up;
+        off = way.1.stood;
+      }))
 
-  straight : (asked last : ℕ) (sent : List ℕ) → IsSentBy o low high asked sent last → (asked ≡ last) × ((sent ≡ []) ⊎ (sent ≡ last ∷ []))
-  straight asked last [] s = (no_way asked last s.0 s.1, inl refl)
-  straight asked last (b ∷ []) s = (no_way asked b s.0.0 s.0.1 ∙ s.1, inr (ap (λ z. z ∷ []) s.1))
-  straight asked last (b ∷ c ∷ cs) s = absurd (none b c s.1.0)
+  straight : (asked last : ℕ) (sent : List ℕ) → IsSentBy o high t low n asked sent last → (asked ≡ last) × ((sent ≡ []) ⊎ (sent ≡ last ∷ []))
+  straight asked last [] s = ((no_way low asked last s.path s.at (begins_refl low) s.seen s.way).1, inl refl)
+  straight asked last (b ∷ []) s =
+      ((no_way low asked b s.0.path s.0.at (begins_refl low) s.0.seen s.0.way).1 ∙ s.1, inr (ap (λ z. z ∷ []) s.1))
+  straight asked last (b ∷ c ∷ cs) s =
+      let f = s.1.0 in
+      let first = way_rises o low asked s.0.path b s.0.at s.0.way in
+      absurd (not_both c (sym s.1.1 ∙ (no_way s.0.at b c f.path f.at first f.seen f.way).0))
+    where
+      not_both : (c : ℕ) → c ∷ [] ≡ [] → ⊥
+      not_both c wrong = cc
 
 -- a timer isn't both started where it is and sent there
 not_both_ways : (t u : Timer) (asked : Asked) (b c : ℕ) → t ≡ u → b ≡ c → Needs t (events.Start (asking asked b)) → Needs u (events.Out c) → ⊥
@@ -78,10 +95,10 @@ module _ (o : Opening) (v w w' : KnownOfTimers) (t : ℕ) (asked : Asked) (knows
   plain_start_once (starts.Started x g b s p) (starts.Started x' g' b' s' p') c d e = by_way way.1 way'.1
     where
       way : (asked.base ≡ c.last) × ((c.sent ≡ []) ⊎ (c.sent ≡ c.last ∷ []))
-      way = straight o v.seen w.seen none asked.base c.last c.sent c.on_way
+      way = straight o v.seen w.seen t (timer_then o c.at t).stamp none asked.base c.last c.sent c.on_way
 
       way' : (asked.base ≡ d.last) × ((d.sent ≡ []) ⊎ (d.sent ≡ d.last ∷ []))
-      way' = straight o v.seen w'.seen none' asked.base d.last d.sent d.on_way
+      way' = straight o v.seen w'.seen t (timer_then o d.at t).stamp none' asked.base d.last d.sent d.on_way
 
       last : c.last ≡ d.last
       last = sym way.0 ∙ way'.0

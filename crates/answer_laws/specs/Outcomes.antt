@@ -1,5 +1,6 @@
 -- What two passes of timers have in common after one call, where one may have seen more of what others did; and the moment of each call.
-use Rattle.std.specs.Prelude.{ℕ, ◌≡◌, Bool, true, false, List}
+use Rattle.std.specs.Prelude.{ℕ, ◌≡◌, Bool, true, false, List, Some}
+use Rattle.pass_names.specs.Passes.{Begins}
 use Rattle.ktime.specs.Readings.{ClockReading}
 use Rattle.seq_timer.specs.Events.{Asked}
 use Rattle.seq_timer.specs.Systems.{entries_of}
@@ -14,6 +15,7 @@ use Rattle.hr_timers.specs.declared.answer.StartAnswer.{StartAnswer}
 use Rattle.hr_timers.specs.declared.answer.StartAnswer.TheVariants as starts
 use Rattle.hr_timers.specs.Calls.{ClaimFits, NowFits, StartsTimer}
 use Rattle.hr_timers.specs.Known.{KnownOfTimers, PassOf}
+use Rattle.hr_timers.specs.Ways.{standing_then}
 
 -- two passes have one name, the same places of their own and the same claims
 pub record SameOwn (w w' : KnownOfTimers) : Type 0 where
@@ -25,6 +27,13 @@ pub record SameOwn (w w' : KnownOfTimers) : Type 0 where
 pub record SameOutcome (w w' : KnownOfTimers) (t : ℕ) : Type 0 where
   pub own : SameOwn w w'
   pub entries : entries_of t w.seen ≡ entries_of t w'.seen
+
+-- at a moment between these two the base was off line with this heir
+pub record WasOff (o : Opening) (low high : List SystemEntry) (base heir : ℕ) : Type 0 where
+  pub at : List SystemEntry
+  pub from : Begins low at
+  pub to : Begins at high
+  pub off : (standing_then o at base).heir ≡ Some heir
 
 -- the moment of a start, the bases that it was sent to, and the one that it asked for last
 pub record StartMoment : Type 0 where

@@ -22,9 +22,8 @@ ghost use Rattle.seq_timer.specs.declared.context.Context as contexts;
 ghost use Rattle.seq_timer.specs.declared.observation.Peek as peek;
 ghost use Rattle.hr_timers.specs.Logged.{StartsLogged};
 ghost use Rattle.hr_timers.specs.Moves.{OfflineFits, OnlineFits, TakesOffline};
-ghost use Rattle.hr_timers.specs.Ways.{WasOff};
 ghost use Rattle.answer_laws.specs.Offline.{offline_at, plain_offline_at};
-ghost use Rattle.answer_laws.specs.Outcomes.{SameOutcome, SameOwn, claim_moment, is_contended, now_moment, start_moment, unasked};
+ghost use Rattle.answer_laws.specs.Outcomes.{SameOutcome, SameOwn, WasOff, claim_moment, is_contended, now_moment, start_moment, unasked};
 
 use hr_timers::ReceiptSink;
 

@@ -179,6 +179,7 @@ module _ (o : Opening) (id : ℕ) (v : BaseView BaseContent) (h : HeldContent Ba
           before = log;
           seen = (home.each_view id v at).seen;
           shifts = λ name b. sym ((home.each_view id v at).first live name b);
+          base = sym (holds log s home at along).whole;
           own = same_own (first_system o.timers) e.timer v.seen log (home.each_view id v at).seen (same_timer log s home at along);
           rest = refl;
           knows = knows_of o _ id v' next (set_there s.views id v v' at) live;

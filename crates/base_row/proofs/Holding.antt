@@ -125,7 +125,7 @@ pub rested : (o : Opening) (h : HeldContent BaseContent) (t : ℕ) (event : Even
     → me.0.opening ≡ o → IsResting me → me.0.held ≡ Some h → EntersAs o h t event me new
     → Rested o h (changed t (timer_seen o me.0 t) event h.content) (Appended o h t event me.0 new.0) new
 rested o h t event me new about resting held told = rests o h _ _ told.before _ _ _ _ me new about resting held told.rest told.knows
-    (record { before = told.before; seen = told.seen; own = told.own; shifts = told.shifts; rest = ap (λ (m : SeatState). m.0) told.rest })
+    (record { before = told.before; seen = told.seen; own = told.own; base = told.base; shifts = told.shifts; rest = ap (λ (m : SeatState). m.0) told.rest })
 
 pub rested_shift : (o : Opening) (h : HeldContent BaseContent) (event : BaseEvent) (me new : SeatState)
     → me.0.opening ≡ o → IsResting me → me.0.held ≡ Some h → EnteredShift o h event me new

@@ -18,15 +18,15 @@ use Rattle.seq_timer.specs.declared.standing.Standing.{Standing}
 use Rattle.seq_timer.specs.declared.system.BaseEntry.{BaseEntry}
 use Rattle.seq_timer.specs.declared.system.SystemEntry.{SystemEntry}
 use Rattle.seq_timer.specs.declared.system.SystemEntry.TheVariants as entries
-use Rattle.seq_timer.specs.Standings.{MayShift, standing_after}
-use Rattle.seq_timer.specs.Systems.{BaseContent, System, first_system, after_shift, shifted, IsClear, system_after}
+use Rattle.seq_timer.specs.Standings.{MayShift, first_standing, standing_after, standing_after_all}
+use Rattle.seq_timer.specs.Systems.{BaseContent, HasHeirOnLine, System, first_system, after_shift, shifted, shifts_of, IsClear, system_after}
 use Rattle.base_row.specs.declared.view.HeldContent.{HeldContent}
 use Rattle.base_row.specs.declared.view.Opening.{Opening}
 use Rattle.base_row.specs.declared.view.BaseView.{BaseView}
-use Rattle.base_row.specs.Rules.{base_place, standing_number, number_of, has, Claim, Carry}
+use Rattle.base_row.specs.Rules.{base_place, base_seen, standing_number, number_of, has, Claim, Carry}
 use Rattle.base_row.specs.Rules.{runs, HeldHolds, RowHolds, HasOneHistory}
 use Rattle.base_row.specs.Plays.{SeatState, having_shifted, MayEnterShift, EnteredShift, ShiftsBy}
-use Rattle.seq_timer.proofs.Systems.{after_entries-append, steps_push, base_shift, base_unshifted, standing_shifted, timers_shift}
+use Rattle.seq_timer.proofs.Systems.{after_entries-append, after_entries-shifts_of, steps_push, base_shift, base_unshifted, standing_shifted, timers_shift}
 use Rattle.base_row.proofs.Frames.{some_same}
 use Rattle.base_row.proofs.Adding.{added}
 use Rattle.base_row.proofs.Knowing.{knows_of}
@@ -36,7 +36,8 @@ stamp_after s (shifts.Offline heir) = refl
 stamp_after s shifts.Online = refl
 
 module _ (o : Opening) (id : ℕ) (v : BaseView BaseContent) (h : HeldContent BaseContent) (event : BaseEvent) (live : v.id.live ≡ true)
-    (may : MayEnterShift v h event) (reach : (t : ℕ) → t < length o.timers → 0 < (timer_at o.timers t).terms.reach) where
+    (may : MayEnterShift v h event) (reach : (t : ℕ) → t < length o.timers → 0 < (timer_at o.timers t).terms.reach)
+    (heir : HasHeirOnLine (base_seen o v) event) where
   abbrev c : BaseEntry
   c = record { base = h.base; event = event }
 
@@ -72,6 +73,14 @@ module _ (o : Opening) (id : ℕ) (v : BaseView BaseContent) (h : HeldContent Ba
     timers_same : (t : ℕ) → w'.timers t ≡ w.timers t
     timers_same t = ap (λ (x : System). x.timers t) went ∙ timers_shift w c t
 
+    -- the first pass has seen all that happened to bases
+    heir_now : (e : BaseEvent) → HasHeirOnLine (base_seen o v) e → HasHeirOnLine w.bases e
+    heir_now (shifts.Offline to) on =
+        let shown = after_entries-shifts_of (first_system o.timers) to in
+        ap (λ (x : Standing). x.heir) (shown log ∙ (ap (λ es. standing_after_all first_standing es) (sym ((home.each_view id v at).first live may.first to))
+        ∙ sym (shown v.seen))) ∙ on
+    heir_now shifts.Online on = tt
+
     place_in : place < length o.timers + o.bases
     place_in = omega (arith, holds.within)
 
@@ -86,6 +95,7 @@ module _ (o : Opening) (id : ℕ) (v : BaseView BaseContent) (h : HeldContent Ba
           within = holds.within;
           may = subst (λ (b : BaseContent). MayShift h.base b.standing event) holds.whole may.may;
           clear = subst (λ (b : BaseContent). IsClear b event) holds.whole may.clear;
+          heir = heir_now event heir;
           reach = λ t inside. subst (λ (k : Terms). 0 < k.reach) (sym (terms_now o.timers log t)) (reach t inside);
         }))
         new_base bases_else
@@ -140,7 +150,8 @@ pub shifts_by : (o : Opening) (id : ℕ) (v : BaseView BaseContent) (h : HeldCon
 shifts_by o id v h event opening live may slots slot s kept many at small =
     let reach : (t : ℕ) → t < length o.timers → 0 < (timer_at o.timers t).terms.reach =
     subst (λ (q : Opening). (t : ℕ) → t < length q.timers → 0 < (timer_at q.timers t).terms.reach) opening may.reach in
-    let r = shifts_word o id v h event live may reach slots slot s kept many at small in (
+    let heir = subst (λ (q : Opening). HasHeirOnLine (base_seen q v) event) opening may.heir in
+    let r = shifts_word o id v h event live may reach heir slots slot s kept many at small in (
       r.0,
       r.1,
       r.2,

@@ -11,7 +11,7 @@ use Rattle.seq_timer.specs.declared.standing.BaseEvent.{BaseEvent}
 use Rattle.seq_timer.specs.Steps.{Timer, HasRoom, reply_to}
 use Rattle.seq_timer.specs.Tables.{timer_at}
 use Rattle.seq_timer.specs.Histories as seq
-use Rattle.seq_timer.specs.Systems.{BaseContent, IsFresh, IsOn, changed, entries_of, openings, shifts_of}
+use Rattle.seq_timer.specs.Systems.{BaseContent, IsFresh, IsOn, changed, entries_of, openings, shifts_of, system_after}
 use Rattle.base_row.specs.declared.log.Noted.TheVariants as noteds
 use Rattle.base_row.specs.declared.log.Receipt.{Receipt}
 use Rattle.base_row.specs.declared.view.Claimed.{Claimed}
@@ -55,11 +55,12 @@ pub record MayAppend (o : Opening) (v : BaseView BaseContent) (h : HeldContent B
   pub may : MayEnter o v h (entry_in o v t event)
   pub own : OwnNeeds v t (timer_seen o v t) event
 
--- a pass has made this entry
+-- a pass has made this entry, right behind these: of the timer it had seen them all, and the base was as the pass held it
 pub record Appended (o : Opening) (h : HeldContent BaseContent) (t : ℕ) (event : Event) (v w : BaseView BaseContent) : Type 0 where
   pub before : List SystemEntry
   pub seen : Begins v.seen before
   pub own : entries_of t before ≡ entries_of t v.seen
+  pub base : (system_after o.timers before).bases h.base ≡ h.content
   pub shifts : v.id.name ≡ [] → (b : ℕ) → shifts_of b before ≡ shifts_of b v.seen
   pub rest : w ≡ having_entered before (entry_in o v t event) (timer_seen o v t) h (claims_with_event t (timer_seen o v t) event v.claims)
       (carry_after t (timer_seen o v t) event v.carry) v

@@ -22,7 +22,7 @@ use Rattle.base_row.specs.declared.view.Claimed.{Claimed}
 use Rattle.base_row.specs.declared.view.HeldContent.{HeldContent}
 use Rattle.base_row.specs.declared.view.Opening.{Opening}
 use Rattle.base_row.specs.declared.view.BaseView.{BaseView}
-use Rattle.seq_timer.specs.Systems.{BaseContent, first_system, IsSystemStep, AreSystemSteps, IsClear, changed, entries_of, rises_of, shifted, shifts_of, IsOn, system_after}
+use Rattle.seq_timer.specs.Systems.{BaseContent, first_system, IsSystemStep, AreSystemSteps, HasHeirOnLine, IsClear, changed, entries_of, rises_of, shifted, shifts_of, IsOn, system_after}
 use Rattle.base_row.specs.Rules.{base_place, is_base_claim, carried_in, number_of, standing_number, runs, takes_at, base_seen, timer_seen, has, Place, Shift, Claim}
 use Rattle.pass_names.specs.declared.PassId.{PassId}
 
@@ -311,6 +311,7 @@ pub record MayEnterShift (v : BaseView BaseContent) (h : HeldContent BaseContent
   pub first : v.id.name ≡ []
   pub may : MayShift h.base h.content.standing event
   pub clear : IsClear h.content event
+  pub heir : HasHeirOnLine (base_seen v.opening v) event
   pub reach : (t : ℕ) → t < length v.opening.timers → 0 < (timer_at v.opening.timers t).terms.reach
 
 module _ (o : Opening) where
@@ -327,6 +328,7 @@ module _ (o : Opening) where
     pub before : List SystemEntry
     pub seen : Begins me.0.seen before
     pub own : entries_of e.timer before ≡ entries_of e.timer me.0.seen
+    pub base : (system_after o.timers before).bases h.base ≡ h.content
     pub shifts : me.0.id.name ≡ [] → (b : ℕ) → shifts_of b before ≡ shifts_of b me.0.seen
     pub rest : new ≡ (having_entered before e (timer_seen o me.0 e.timer) h claims carry me.0, me.1)
     pub knows : KnowsBases o new.0

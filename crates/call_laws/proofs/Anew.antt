@@ -25,12 +25,12 @@ use Rattle.run_history.specs.Fits.{FitsCall}
 use Rattle.run_history.specs.ObjectCalls.{ArmsAs, cancels}
 use Rattle.run_history.specs.Receipts.{PlacedEntry}
 use Rattle.run_history.specs.Runs.{Ending, IsJoined, moves_spans, signal_spans, witness_of}
-use Rattle.run_history.specs.Truths.{WasOffLine}
+use Rattle.run_history.specs.Truths.{sight_of}
 use Rattle.run_history.specs.Witnesses.{timer_along}
 use Rattle.run_history.proofs.Kept.{IsKept}
 use Rattle.run_history.proofs.ObjectsMade.{FoundIdle, IsAnew, anew_actions}
 use Rattle.run_history.proofs.OthersMade.{plain}
-use Rattle.run_history.proofs.Reached.{as_wider, was_wider}
+use Rattle.run_history.proofs.Reached.{as_wider, sight_wider}
 use Rattle.lane_notes.specs.Objects.{arm_noted}
 use Rattle.lane_notes.specs.Called.{LaneOf, LeavesSignals, ReadsClock, lane_caller, with_done}
 use Rattle.lane_notes.specs.Worlds.{WorldOf}
@@ -79,10 +79,10 @@ module _ {s : Script} {x : WorldOf} {l : LaneOf} (m : LaneOf) {of : Call} (next 
         (turn_place m next anew.enters anew.turn part after) (length m.pass.timers.known.seen) timer may disarmed.0 (arm_noted anew.arm) part.start
         (length anew.enters.commits.adds.before)
     is_anew =
-        let off = WasOffLine (witness_of s e) (length begin.seen) (length w.seen) in
+        let off = sight_of (witness_of s e) (length begin.seen) (length w.seen) in
         record {
-          arms = as_wider off (WasOffLine (witness_of s e) (turn_place m next anew.enters anew.turn part after) (length m.pass.timers.known.seen))
-              (was_wider (witness_of s e) (turn_found m next anew.enters anew.turn part after) (begins_length anew.turn.ends.looks.seen)) s.limit timer may
+          arms = as_wider off (sight_of (witness_of s e) (turn_place m next anew.enters anew.turn part after) (length m.pass.timers.known.seen))
+              (sight_wider (witness_of s e) (turn_found m next anew.enters anew.turn part after) (begins_length anew.turn.ends.looks.seen)) s.limit timer may
               reading.stamp (base_of (kind_of s timer)) (arm_noted anew.arm) part.start
               (subst (λ b. ArmsAs off s.limit timer may reading.stamp b (arm_noted anew.arm) part.start) (declared_base s x timer next.world)
               (part.arms e joined (goes_before anew.turn.ends.looks.seen follows.timers)));

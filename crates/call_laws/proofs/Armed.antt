@@ -15,7 +15,7 @@ use Rattle.seq_timer.specs.Calls.{asked_for, entries_along, step_all}
 use Rattle.base_row.specs.declared.log.Receipt.{Receipt}
 use Rattle.hr_timers.specs.Calls.{start_entries, StartsTimer}
 use Rattle.hr_timers.specs.Known.{KnownOfTimers, MadeAt, timer_then}
-use Rattle.hr_timers.specs.Ways.{start_on, WasOff}
+use Rattle.hr_timers.specs.Ways.{start_on}
 use Rattle.hr_timers.specs.declared.answer.StartAnswer.TheVariants as starts
 use Rattle.hr_timers.specs.declared.answer.StartAnswer.{StartAnswer}
 use Rattle.hr_timers.proofs.Moments.{along, timer_after}
@@ -31,21 +31,21 @@ use Rattle.script_text.specs.Declarations.{kind_of, without_slack}
 use Rattle.run_history.specs.ObjectCalls.{ArmsAs}
 use Rattle.record_text.specs.declared.record.Armed.TheVariants as armings
 use Rattle.run_history.specs.Objects.{object_armed_after}
-use Rattle.run_history.specs.Starts.{arming_actions}
+use Rattle.run_history.specs.Starts.{arming_actions, Sight}
 use Rattle.script_text.specs.declared.script.Script.{Script}
 use Rattle.lane_notes.specs.Objects.{arm_noted}
 use Rattle.run_history.specs.Witnesses.{Witness}
 use Rattle.run_history.specs.Receipts.{PlacedEntry}
 use Rattle.run_history.specs.Promises.{RunGoesOn}
 use Rattle.run_history.specs.Runs.{witness_of, Ending, IsJoined}
-use Rattle.run_history.specs.Truths.{IsTrueStart, WasOffLine}
-use Rattle.run_history.proofs.Reached.{was_wider}
+use Rattle.run_history.specs.Truths.{IsTrueStart, sight_of}
+use Rattle.run_history.proofs.Reached.{arming_wider, sight_wider}
 use Rattle.lane_notes.proofs.Kept.{IsNextCall}
 use Rattle.lane_notes.proofs.SeenMore.{begins_same}
 use Rattle.run_history.proofs.Stamped.{HaveReadings}
 use Rattle.call_laws.proofs.Parts.{IsPart, part_at, part_none}
 use Rattle.call_laws.proofs.Entering.{looks_made}
-use Rattle.call_laws.proofs.SeenOff.{sent_seen, was_seen}
+use Rattle.call_laws.proofs.SeenOff.{sent_seen}
 use Rattle.call_laws.proofs.Starts.{arming_of, is_arming, limit_within, start_reads}
 use Rattle.pass_names.proofs.Passes.{begins_length}
 use Rattle.std.proofs.Common.{Option, None}
@@ -82,12 +82,12 @@ IsArmedSo (arms.Unarmed stamp) s = (s.stamp ≡ stamp) × Holds s observations.S
 abbrev pub ArmsIn : Script → KnownOfTimers → KnownOfTimers → ℕ → Option Wanted → ℕ → ClockReading → Arm → List Action → Type 0
 ArmsIn s begin w t wanted base reading arm start =
     (e : Ending) → IsJoined s e → RunGoesOn w.seen e
-    → ArmsAs (WasOffLine (witness_of s e) (length begin.seen) (length w.seen)) s.limit t wanted reading.stamp base (arm_noted arm) start
+    → ArmsAs (sight_of (witness_of s e) (length begin.seen) (length w.seen)) s.limit t wanted reading.stamp base (arm_noted arm) start
 
 -- no start was made
-none_made : (Reached : ℕ → ℕ → Type 0) (limit t stamp base : ℕ) (wanted : Option Wanted) → ArmsAs Reached limit t wanted stamp base armings.None []
-none_made Reached limit t stamp base None = (refl, refl)
-none_made Reached limit t stamp base (Some wanted) = refl
+none_made : (sight : Sight) (limit t stamp base : ℕ) (wanted : Option Wanted) → ArmsAs sight limit t wanted stamp base armings.None []
+none_made sight limit t stamp base None = (refl, refl)
+none_made sight limit t stamp base (Some wanted) = refl
 
 -- a call wants this start at most: that one, or none
 abbrev pub WantsAtMost : Option Wanted → Option Wanted → Type 0
@@ -172,14 +172,13 @@ module _ {s : Script} {x : WorldOf} {l : LaneOf} {call : Call} (next : IsNextCal
       let entered = entries_so t request reading u c.sent c.last in
       started (arming_actions t request reading.stamp arming) _ (subst HasNoTurns (sym entered)
       (entered_turns t (timer_then o c.at t).stamp (entries_along u events))) adds (λ e joined goes.
-      let Reached = WasOffLine (witness_of s e) (length begin.seen) (length w.seen) in
-      let off : (b heir : ℕ) → WasOff o v.seen w.seen b heir → Reached b heir =
-      λ b heir was. was_wider (witness_of s e) (begins_length before.1.enters.seen) (omega arith) b heir
-      (was_seen s o next.world.timers e joined v.seen w.seen goes b heir was) in (
+      let later = sight_of (witness_of s e) (length v.seen) (length w.seen) in
+      let sight = sight_of (witness_of s e) (length begin.seen) (length w.seen) in (
         arming,
         refl,
         number,
-        is_arming Reached s.limit base u asked c.sent c.last few (sent_seen o v.seen w.seen Reached off base c.sent c.last c.on_way),
+        arming_wider later sight (sight_wider (witness_of s e) (begins_length before.1.enters.seen) (omega arith))
+            (is_arming later t s.limit base u asked c.sent c.last few (sent_seen s o next.world.timers e joined v.seen w.seen goes t u base c.sent c.last c.on_way)),
       ))
       (part_of next t reading c.made (λ clock has. start_reads t request reading u c.sent c.last clock has) entered)
       (ap (λ (y : Timer). y.stamp) (timer_after o v w t c.at (entries_along u events) c.made ∙ along u events) ∙ stamp)

@@ -24,8 +24,7 @@ use Rattle.seq_timer.specs.declared.answer.ForwardAnswer.TheVariants as forwards
 use Rattle.base_row.specs.declared.view.Opening.{Opening}
 use Rattle.hr_timers.specs.Calls.{Forwards, StartsTimer}
 use Rattle.hr_timers.specs.Known.{KnownOfTimers, MadeAt, timer_then}
-use Rattle.hr_timers.specs.Ways as ways
-use Rattle.hr_timers.specs.Ways.{asking, start_on}
+use Rattle.hr_timers.specs.Ways.{IsSentBy, asking, start_on}
 use Rattle.hr_timers.specs.declared.answer.StartAnswer.{StartAnswer}
 use Rattle.hr_timers.specs.declared.answer.StartAnswer.TheVariants as starts
 use Rattle.hr_timers.specs.declared.numbers.ClaimNumbers.{ClaimNumbers}
@@ -47,7 +46,7 @@ use Rattle.script_text.specs.declared.script.Kind.TheVariants as kinds
 use Rattle.script_text.specs.declared.script.Script.{Script}
 use Rattle.lane_notes.specs.Entries.{look_noted}
 use Rattle.run_history.specs.Deeds.{IsBody}
-use Rattle.run_history.specs.Truths.{WasOffLine}
+use Rattle.run_history.specs.Truths.{sight_of}
 use Rattle.run_history.specs.Receipts.{count_owned}
 use Rattle.run_history.specs.Promises.{RunGoesOn}
 use Rattle.run_history.specs.Runs.{witness_of, Ending, IsJoined}
@@ -60,7 +59,7 @@ use Rattle.call_laws.proofs.Parts.{BodyKept, ClockHas, IsClaimed, fired_of, part
 use Rattle.timer_objects.specs.QueuedFirings.{QueuedFiring}
 use Rattle.call_laws.proofs.Signals.{turns_none}
 use Rattle.call_laws.proofs.Entering.{looks_made}
-use Rattle.call_laws.proofs.SeenOff.{sent_seen, was_seen}
+use Rattle.call_laws.proofs.SeenOff.{sent_seen}
 use Rattle.call_laws.proofs.Starts.{arming_of, is_arming, limit_within}
 
 -- ---- timers by themselves
@@ -76,7 +75,7 @@ module _ (s : Script) (o : Opening) (is : o ≡ opening_for s) (some : 1 ≤ s.l
   -- the function's actions are those of the timer's callback
   abbrev Does : List Action → Type 0
   Does body = (e : Ending) → IsJoined s e → RunGoesOn w.seen e → (finish : ℕ) (restarted : Restarted)
-      → IsBody (WasOffLine (witness_of s e) (length v.seen) (length w.seen)) s.limit (kind_of s c.timer) reading.stamp
+      → IsBody (sight_of (witness_of s e) (length v.seen) (length w.seen)) s.limit (kind_of s c.timer) reading.stamp
       (fired_of c body finish (asks restart) restarted)
 
   -- a callback that looked at its timer and made no entry
@@ -183,17 +182,18 @@ module _ (s : Script) (o : Opening) (is : o ≡ opening_for s) (some : 1 ≤ s.l
           let made : MadeAt v w c.timer f.at (entries_along u (events.Start (asking asks_for last) ∷ [])) =
           subst (λ b. MadeAt v w c.timer f.at (entries_along u (start_on asks_for [] b))) same_last
           (subst (λ bs. MadeAt v w c.timer f.at (entries_along u (start_on asks_for bs f.last))) unsent f.made) in
-          let way : ways.IsSentBy o v.seen w.seen asked [] last =
-          subst (λ b. ways.IsSentBy o v.seen w.seen asked [] b) same_last (subst (λ bs. ways.IsSentBy o v.seen w.seen asked bs f.last) unsent f.on_way) in
+          let way : IsSentBy o w.seen c.timer v.seen u.stamp asked [] last =
+          subst (λ b. IsSentBy o w.seen c.timer v.seen u.stamp asked [] b) same_last
+          (subst (λ bs. IsSentBy o w.seen c.timer v.seen u.stamp asked bs f.last) unsent f.on_way) in
           let few : u.stamp < s.limit = omega (arith, f.fits.1, (limit_within s o is some f.at c.timer)) in
           entered_kept made (λ clock has. ap (λ r. events.Start (asked_for modes.Rel ns 0 last r)) has) logs
           (λ e joined goes finish restarted.
-          let Reached = WasOffLine (witness_of s e) (length v.seen) (length w.seen) in rw kind (
+          let sight = sight_of (witness_of s e) (length v.seen) (length w.seen) in rw kind (
             inl (
               arming_of u asks_for [] last,
               refl,
-              is_arming Reached s.limit asked u asks_for [] last few
-                  (sent_seen o v.seen w.seen Reached (was_seen s o is e joined v.seen w.seen goes) asked [] last way),
+              is_arming sight c.timer s.limit asked u asks_for [] last few
+                  (sent_seen s o is e joined v.seen w.seen goes c.timer u asked [] last way),
             ),
             ap asks run.1,
           ))

@@ -3,7 +3,7 @@ use Rattle.std.proofs.lemmas.Bool.{cases_lt}
 use Rattle.std.proofs.Common.{⊎_elim}
 use Rattle.std.proofs.Common.{ne_eqb}
 use Rattle.call_laws.proofs.Parts.{part_as}
-use Rattle.hr_timers.specs.Moves.{IsFront}
+use Rattle.hr_timers.specs.Moves.{IsFront, IsNextOf}
 use Rattle.call_laws.proofs.Noted.{entered_on, notes_of}
 use Rattle.call_laws.proofs.Stays.{system_stays, timer_stays}
 use Rattle.call_laws.proofs.Parts.{part_logged}
@@ -26,13 +26,14 @@ use Rattle.record_text.specs.declared.record.Entry.{Entry}
 use Rattle.seq_timer.specs.Steps.{Timer, after, opening, placement_of, reply_to}
 use Rattle.seq_timer.specs.Calls.{asked_for, step_all}
 use Rattle.seq_timer.specs.Contents.{front_of}
-use Rattle.seq_timer.specs.Systems.{AreSystemSteps, System, after_one, entries_of, first_system, openings}
+use Rattle.seq_timer.specs.Systems.{AreSystemSteps, System, after_entry, after_one, entries_of, first_system, openings, system_after}
 use Rattle.seq_timer.specs.Tables.{is_armed_on, no_declared, no_timer, runs_on, timer_at}
 use Rattle.seq_timer.specs.declared.event.EventBy.TheVariants as events
 use Rattle.seq_timer.specs.declared.system.SystemEntry.{SystemEntry}
 use Rattle.seq_timer.specs.declared.system.SystemEntry.TheVariants as entries
 use Rattle.seq_timer.proofs.Agreement.{all_fresh}
-use Rattle.seq_timer.proofs.Systems.{entries_of-append}
+use Rattle.seq_timer.proofs.Limits.{stamp-after}
+use Rattle.seq_timer.proofs.Systems.{after_entries-append, entries_of-append, timer_here}
 use Rattle.base_row.specs.Logs.{LogOf, kept, receipts_of}
 use Rattle.base_row.specs.declared.log.Receipt.{Receipt}
 use Rattle.pass_names.proofs.Passes.{begins_length}
@@ -44,12 +45,12 @@ use Rattle.script_text.specs.Declarations.{declared_of, declareds_of, terms_of}
 use Rattle.script_text.specs.declared.script.Call.{Call}
 use Rattle.script_text.specs.declared.script.Script.{Script}
 use Rattle.run_history.specs.Deeds.{KeepsExpiries, evacuates}
-use Rattle.run_history.specs.Truths.{WasNextOff, WasFront}
+use Rattle.run_history.specs.Truths.{LeftInTurn, WasNextOff}
 use Rattle.run_history.specs.Histories.{history_of, lines_of_timer, timer_after}
 use Rattle.run_history.specs.Promises.{RunGoesOn}
 use Rattle.run_history.specs.Receipts.{PlacedEntry}
 use Rattle.run_history.specs.Runs.{Ending, IsJoined, witness_of}
-use Rattle.run_history.specs.Witnesses.{Evacuation, TimersList, Witness}
+use Rattle.run_history.specs.Witnesses.{Evacuation, TimersList, Witness, timer_along}
 use Rattle.run_history.proofs.OwnHistories.{entries_on, history_shown, own_entry}
 use Rattle.lane_notes.specs.Called.{LaneOf}
 use Rattle.lane_notes.specs.Worlds.{WorldOf}
@@ -136,20 +137,22 @@ front_seen next e joined seen goes base t front =
     (front.0, ap (λ (u : System). front_of (u.bases base).content) (system_stays next.world.timers joined seen goes) ∙ front.1)
 
 -- law: what was so between two moments was so between two that are further apart
-pub front_wider : (w : Witness) (base : ℕ) {low first last high : ℕ} → low ≤ first → last ≤ high → (ys : List Evacuation)
-    → AllByRecursion (WasFront w first last base) ys → AllByRecursion (WasFront w low high base) ys
-front_wider w base le more [] all = tt
-front_wider w base le more (y ∷ ys) all = (
-  record {
-    at = all.0.at;
-    from = omega (arith, le, all.0.from);
-    to = omega (arith, all.0.to, more);
-    stamp = all.0.stamp;
-    idle = all.0.idle;
-    front = all.0.front;
-  },
-  front_wider w base le more ys all.1,
-)
+pub left_wider : (w : Witness) (base : ℕ) {low first last high : ℕ} → low ≤ first → last ≤ high → (ys : List Evacuation)
+    → AllByRecursion (LeftInTurn w first last base) ys → AllByRecursion (LeftInTurn w low high base) ys
+left_wider w base le more [] all = tt
+left_wider w base le more (y ∷ ys) all =
+    let l = all.0 in (
+      record {
+        at = l.at;
+        from = omega (arith, le, l.from);
+        to = omega (arith, l.to, more);
+        stamp = l.stamp;
+        next = l.next;
+        idle = l.idle;
+        front = l.front;
+      },
+      left_wider w base le more ys all.1,
+    )
 
 module _ {s : Script} {x : WorldOf} {l : LaneOf} {call : Call} (next : IsNextCall s x l call) (base heir : ℕ) (reading : ClockReading) (p : ObjectsPass) where
   -- these timers were moved in turn, as a part of a call, the receipts in the log
@@ -162,7 +165,21 @@ module _ {s : Script} {x : WorldOf} {l : LaneOf} {call : Call} (next : IsNextCal
     pub part : IsPart s (ClockHas reading) l.label v p w p (flat_map (evacuates heir reading.stamp) moved) notes (notes_of l.label log [])
     pub keeps : (e : Ending) → IsJoined s e → RunGoesOn w.seen e
         → AllByRecursion (λ y. KeepsExpiries base (timer_after s e.run y.timer y.before) y) moved
-    pub turns : (e : Ending) → IsJoined s e → RunGoesOn w.seen e → AllByRecursion (WasFront (witness_of s e) (length v.seen) (length w.seen) base) moved
+    pub turns : (e : Ending) → IsJoined s e → RunGoesOn w.seen e → AllByRecursion (LeftInTurn (witness_of s e) (length v.seen) (length w.seen) base) moved
+
+  -- a timer whose entry is the next in the run has one more entry behind it
+  behind_it : (t : ℕ) (at : List SystemEntry) {seen : List SystemEntry} → IsNextOf t at seen → (e : Ending) → IsJoined s e → RunGoesOn seen e
+      → (timer_along (witness_of s e) (length at + 1) t).stamp ≡ (timer_then x.timers.about at t).stamp + 1
+  behind_it t at is e joined goes =
+      let o = x.timers.about in
+      let y : List SystemEntry = at ++ entries.Timer is.0 ∷ [] in
+      let w = system_after o.timers at in
+      let stays = timer_stays next.world.timers joined y (goes_before is.2 goes) t in
+      let longer : length at + 1 ≡ length y = sym (length-append at (entries.Timer is.0 ∷ [])) in
+      let more : timer_then o y t ≡ after (timer_then o at t) is.0.event =
+      ap (λ (u : System). u.timers t) (after_entries-append (first_system o.timers) at (entries.Timer is.0 ∷ []))
+      ∙ subst (λ k. (after_entry w is.0).timers k ≡ after (w.timers k) is.0.event) is.1 (timer_here w is.0) in
+      ap (λ n. (timer_along (witness_of s e) n t).stamp) longer ∙ (ap (λ (u : Timer). u.stamp) (stays ∙ more) ∙ (stamp-after (timer_then o at t) is.0.event).0)
 
   -- law: one timer
   one_moved : {v w : KnownOfTimers} (t : ℕ) (old new : LogOf Receipt) → MovesTimer kept x.timers.about base heir reading v w t old new
@@ -190,6 +207,7 @@ module _ {s : Script} {x : WorldOf} {l : LaneOf} {call : Call} (next : IsNextCal
                 from = begins_length moves.made.from;
                 to = begins_length moves.made.seen;
                 stamp = ap (λ (z : Timer). z.stamp) (timer_stays next.world.timers joined moves.at on t);
+                next = behind_it t moves.at moves.next e joined goes;
                 idle = λ u. ap (runs_on base) (timer_stays next.world.timers joined moves.at on u) ∙ moves.idle u;
                 front = front_seen next e joined moves.at on base t moves.front;
               },
@@ -223,7 +241,7 @@ module _ {s : Script} {x : WorldOf} {l : LaneOf} {call : Call} (next : IsNextCal
         keeps = λ e joined goes. All-append _ one.moved rest.moved
             (one.keeps e joined (goes_before rest.part.enters.seen goes)) (rest.keeps e joined goes);
         turns = λ e joined goes. All-append _ one.moved rest.moved
-            (front_wider (witness_of s e) base (omega arith) (begins_length rest.part.enters.seen) one.moved
+            (left_wider (witness_of s e) base (omega arith) (begins_length rest.part.enters.seen) one.moved
             (one.turns e joined (goes_before rest.part.enters.seen goes)))
-            (front_wider (witness_of s e) base (begins_length one.part.enters.seen) (omega arith) rest.moved (rest.turns e joined goes));
+            (left_wider (witness_of s e) base (begins_length one.part.enters.seen) (omega arith) rest.moved (rest.turns e joined goes));
       }

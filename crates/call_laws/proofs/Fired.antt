@@ -46,13 +46,13 @@ use Rattle.script_text.specs.declared.script.Kind.{Kind}
 use Rattle.script_text.specs.declared.script.Script.{Script}
 use Rattle.lane_notes.specs.Entries.{entry_notes, look_notes, entry_note, look_note}
 use Rattle.run_history.specs.Deeds.{fires}
-use Rattle.run_history.specs.Truths.{WasOffLine}
+use Rattle.run_history.specs.Truths.{sight_of}
 use Rattle.run_history.specs.Witnesses.{Fired, OfTimer, TimersList}
 use Rattle.run_history.specs.Receipts.{PlacedEntry}
 use Rattle.run_history.specs.Runs.{witness_of, Ending, IsJoined}
 use Rattle.run_history.proofs.Expires.{claim_of, finish_of, HaveRun, holds_wider, run_hears, run_push}
 use Rattle.run_history.proofs.Known.{made_goes_on}
-use Rattle.run_history.proofs.Reached.{body_wider, was_wider}
+use Rattle.run_history.proofs.Reached.{body_wider, sight_wider}
 use Rattle.lane_notes.specs.Called.{claimed_in}
 use Rattle.lane_notes.proofs.SeenMore.{count_begins, goes_before, begins_same}
 use Rattle.lane_notes.specs.Worlds.{callback_of, HasQueue, IsWorldOf, WorldOf}
@@ -172,18 +172,18 @@ module _ (s : Script) (x : WorldOf) (is : IsWorldOf s x) (queue : HasQueue x.obj
           (subst (λ cb. RunsCallback o v w c reading h.log.receipts h'.log.receipts cb restart) its run.0)
       by_kind (kinds.Posix asked) same =
           let run = by_over (kinds.Posix asked) same in
-          trigger_kept s h.objects.now limit some label c reading claim restart w h h' run.2 run.3 (λ Reached f its. rw same its) run.4
+          trigger_kept s h.objects.now limit some label c reading claim restart w h h' run.2 run.3 (λ sight f its. rw same its) run.4
           (λ number entry. rw same refl) run.0
       by_kind (kinds.Fd asked) same =
           let run = by_over (kinds.Fd asked) same in
-          trigger_kept s h.objects.now limit some label c reading claim restart w h h' run.2 run.3 (λ Reached f its. rw same its) run.4
+          trigger_kept s h.objects.now limit some label c reading claim restart w h h' run.2 run.3 (λ sight f its. rw same its) run.4
           (λ number entry. rw same refl) run.0
       by_kind (kinds.Queued asked) same =
           let run = by_over (kinds.Queued asked) same in
           queued_kept s h.objects.now limit some label c reading claim restart w h h' run.2 run.3 asked same (over (kinds.Queued asked) same) room run.0
       by_kind (kinds.Sleeper asked) same =
           let run = by_over (kinds.Sleeper asked) same in
-          trigger_kept s h.objects.now limit some label c reading claim restart w h h' run.2 run.3 (λ Reached f its. rw same its) run.4
+          trigger_kept s h.objects.now limit some label c reading claim restart w h h' run.2 run.3 (λ sight f its. rw same its) run.4
           (λ number entry. rw same refl) run.0
 
   -- a callback ran, with its claim and its finish, in every run that goes on from there
@@ -216,8 +216,8 @@ module _ (s : Script) (x : WorldOf) (is : IsWorldOf s x) (queue : HasQueue x.obj
           finish_made = made_goes_on e.order k'.seen goes.0 (length w.seen) (length k'.seen) (finish.0 ∷ []) goes.1 finish.1.made;
           finish_is = finish.2;
           own = own;
-          kind = body_wider (WasOffLine (witness_of s e) (length v.seen) (length w.seen)) (WasOffLine (witness_of s e) (length k.seen) (length k'.seen))
-              (was_wider (witness_of s e) (begins_length claim.entered.1.seen) (begins_length finish.1.seen)) s.limit (kind_of s c.timer) reading.stamp
+          kind = body_wider (sight_of (witness_of s e) (length v.seen) (length w.seen)) (sight_of (witness_of s e) (length k.seen) (length k'.seen))
+              (sight_wider (witness_of s e) (begins_length claim.entered.1.seen) (begins_length finish.1.seen)) s.limit (kind_of s c.timer) reading.stamp
               (fired_of c b.body number (asks restart) restarted) ran.0;
           holds = holds_wider (witness_of s e) (length (turns_of h), length (turns_of h')) (low, length (turns_of h')) (length w.seen) b.body under
               (omega arith) ran.1;

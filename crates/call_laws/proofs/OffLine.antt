@@ -13,7 +13,7 @@ use Rattle.call_laws.proofs.Sights.{keeps_sight}
 use Rattle.call_laws.proofs.Stays.{standing_stays, timer_stays}
 use Rattle.lane_notes.specs.Notes.{both_noted}
 use Rattle.lane_notes.proofs.PartLists.{both_noted-assoc}
-use Rattle.std.proofs.Common.{◌≡◌, ◌≤◌, ◌<◌, ℕ, ◌+◌, ◌-◌, nat_lt, List, [], ◌∷◌, ◌++◌, length, arith, refl, sym, ap, ◌∙◌, subst, inl, inr, ⊎_elim}
+use Rattle.std.proofs.Common.{◌≡◌, ◌≤◌, ◌<◌, ℕ, ◌+◌, nat_lt, List, [], ◌∷◌, ◌++◌, length, arith, refl, sym, ap, ◌∙◌, subst, inl, inr, ⊎_elim}
 use Rattle.std.specs.Prelude.{IsSome, flat_map}
 use Rattle.std.proofs.lemmas.Bool.{ltb-true}
 use Rattle.ktime.specs.Readings.{ClockReading}
@@ -49,7 +49,7 @@ use Rattle.run_history.specs.Actions.{Shifted}
 use Rattle.run_history.specs.Receipts.{PlacedEntry}
 use Rattle.run_history.specs.Calls.{Does, AnswerHolds}
 use Rattle.run_history.specs.Deeds.{evacuates}
-use Rattle.run_history.specs.Truths.{MayGo, RanNone, WasOffLine}
+use Rattle.run_history.specs.Truths.{MayGo, RanNone, sight_of}
 use Rattle.run_history.specs.Runs.{Ending, IsJoined, witness_of}
 use Rattle.run_history.specs.Promises.{RunGoesOn}
 use Rattle.run_history.specs.Witnesses.{Evacuation, Trace, standing_along, timer_along}
@@ -60,7 +60,7 @@ use Rattle.call_laws.proofs.Signals.{pushed-append, turns_alone}
 use Rattle.lane_notes.specs.Called.{CallsOffline, CallsOnline, LaneOf, LeavesSignals, ReadsClock, offline_told, online_told, with_done, with_offline_told, with_online_told}
 use Rattle.lane_notes.specs.Worlds.{WorldOf}
 use Rattle.call_laws.proofs.CallKept.{LooksAtClock, clock_left, opened_timers, reading_goes_on}
-use Rattle.call_laws.proofs.Evacuated.{all_moved, armed_there, front_seen, front_wider}
+use Rattle.call_laws.proofs.Evacuated.{all_moved, armed_there, front_seen, left_wider}
 use Rattle.lane_notes.proofs.Kept.{Follows, IsNextCall, KeepsCall}
 use Rattle.call_laws.proofs.PartKept.{keeps_part}
 use Rattle.call_laws.proofs.Parts.{ClockHas, IsPart, part_none, part_then}
@@ -122,7 +122,7 @@ module _ {s : Script} {x : WorldOf} {l : LaneOf} (m : LaneOf) {base heir budget 
   -- what it did is what its answer says
   abbrev DoesSo : Answer → Type 0
   DoesSo a = length off.moved ≡ length g.evacuates.timers → (e : Ending) → let w = witness_of s e in
-      Does (WasOffLine w (length l.pass.timers.known.seen) (length m.pass.timers.known.seen)) s reading.stamp (calls.Offline base heir budget) a []
+      Does (sight_of w (length l.pass.timers.known.seen) (length m.pass.timers.known.seen)) s reading.stamp (calls.Offline base heir budget) a []
       off.moved (trace_of a).actions
 
   -- the base might go off line when the call began
@@ -185,7 +185,7 @@ module _ {s : Script} {x : WorldOf} {l : LaneOf} (m : LaneOf) {base heir budget 
       let goes = goes_before last.enters.seen follows.timers in
       offline_made base heir budget off.moved a kept low (does off.many e) (
         off.keeps e joined goes,
-        front_wider (witness_of s e) base
+        left_wider (witness_of s e) base
             (begins_length g.looks.seen) (begins_length last.enters.seen) off.moved (off.turns e joined goes),
       ) (holds e follows joined (might e joined (goes_before g.looks.seen (goes_before off.part.enters.seen goes)))))
 
@@ -210,7 +210,7 @@ module _ {s : Script} {x : WorldOf} {l : LaneOf} (m : LaneOf) {base heir budget 
 -- ---- off line
 
 -- how many more may be moved
-none_more : (budget count : ℕ) → nat_lt 0 (budget - count) ≡ false → budget ≤ count
+none_more : (budget count : ℕ) → nat_lt count budget ≡ false → budget ≤ count
 none_more budget count none = grind (arith, nat_tests)
 
 -- law: a lane keeps a call that takes a base off line
@@ -280,7 +280,7 @@ keeps_offline {s = s} {x = x} {l = l} {m = m} {base = base} {heir = heir} {budge
         ended_by_look m next c.reading c.reads c.objects c.signals c.empty fits (answers.OfflineSpent n t stamp) refl end.1.0.looks end.1.0.sink notes refl
         (λ many e. (
           record { counted = omega (arith, end.0, many); done = refl },
-          omega (arith, end.0, ltb-true 0 (budget - length fits.evacuates.timers) end.1.2),
+          omega (arith, end.0, ltb-true (length fits.evacuates.timers) budget end.1.2),
         ))
         (λ e follows joined may.
         let terms = ap (λ (u : Timer). u.terms) (ap (λ ts. timer_at ts t) (opened_timers next)

@@ -62,7 +62,7 @@ use Rattle.script_text.specs.Declarations.{kind_of}
 use Rattle.script_text.specs.declared.script.Script.{Script}
 use Rattle.lane_notes.specs.Entries.{look_noted}
 use Rattle.run_history.specs.Deeds.{IsBody}
-use Rattle.run_history.specs.Truths.{WasOffLine}
+use Rattle.run_history.specs.Truths.{sight_of}
 use Rattle.run_history.specs.Witnesses.{Fired, OfTimer, Shown, TimersList}
 use Rattle.run_history.specs.Promises as promises
 use Rattle.run_history.specs.Runs.{witness_of, Ending, IsJoined}
@@ -346,7 +346,7 @@ pub record BodyKept (s : Script) (label : Label) {base : ℕ} {c : ClaimNumbers}
   pub turned : List (ℕ × Turn)
   pub turns : TurnsPart s h.signal_pass.now.knows h'.signal_pass.now.knows (pushed_in s body) turned
   pub ran : (e : Ending) → IsJoined s e → promises.RunGoesOn w.seen e → promises.GoesOnSignals (turns_of h') e → (finish : ℕ) (restarted : Restarted)
-      → IsBody (WasOffLine (witness_of s e) (length v.seen) (length w.seen)) s.limit (kind_of s c.timer) reading.stamp
+      → IsBody (sight_of (witness_of s e) (length v.seen) (length w.seen)) s.limit (kind_of s c.timer) reading.stamp
       (fired_of c body finish (asks restart) restarted)
       × ReplyHolds (witness_of s e) (length (turns_of h), length (turns_of h')) (length w.seen) body
 

@@ -1,5 +1,5 @@
 -- Calls on objects that may arm their timer again, as their lanes keep them: an acceptance, a read, and a gettime of either kind.
-use Rattle.run_history.proofs.Reached.{arms_wider, was_wider}
+use Rattle.run_history.proofs.Reached.{arms_wider, sight_wider}
 use Rattle.lane_notes.proofs.SeenMore.{goes_before}
 use Rattle.std.proofs.Common.{◌≡◌, ◌≤◌, ℕ, Some, option_map, List, [], length, refl, sym, ap, subst}
 use Rattle.ktime.specs.Readings.{ClockReading}
@@ -46,7 +46,7 @@ use Rattle.run_history.specs.Actions.{Action}
 use Rattle.run_history.specs.Fits.{FitsCall}
 use Rattle.run_history.specs.Receipts.{PlacedEntry}
 use Rattle.run_history.specs.Runs.{witness_of, Ending, IsJoined, moves_spans, signal_spans}
-use Rattle.run_history.specs.Truths.{WasOffLine}
+use Rattle.run_history.specs.Truths.{sight_of}
 use Rattle.run_history.proofs.Kept.{IsKept}
 use Rattle.run_history.proofs.ObjectsMade.{IsRearmed, rearming_actions}
 use Rattle.run_history.proofs.OthersMade.{plain, turning}
@@ -100,11 +100,11 @@ module _ {s : Script} {x : WorldOf} {l : LaneOf} (m : LaneOf) {call : Call}
   rearmed {e = e} follows joined = record {
     ns = part.ns;
     timely = part.timely;
-    arms = arms_wider (WasOffLine (witness_of s e) (length made.begun.seen) (length made.worked.seen))
-        (WasOffLine (witness_of s e) (turn_place m next made.enters made.turn part.does (begins_refl made.begun.seen)) (length m.pass.timers.known.seen))
-        (was_wider (witness_of s e) (turn_found m next made.enters made.turn part.does (begins_refl made.begun.seen))
+    arms = arms_wider (sight_of (witness_of s e) (length made.begun.seen) (length made.worked.seen))
+        (sight_of (witness_of s e) (turn_place m next made.enters made.turn part.does (begins_refl made.begun.seen)) (length m.pass.timers.known.seen))
+        (sight_wider (witness_of s e) (turn_found m next made.enters made.turn part.does (begins_refl made.begun.seen))
         (begins_length made.turn.ends.looks.seen)) s.limit timer modes.Keep part.ns reading.stamp
-        (base_of (kind_of s timer)) (arm_noted made.arm) part.does.start (subst (λ b. Arms (WasOffLine (witness_of s e) (length made.begun.seen) (length made.worked.seen)) s.limit timer
+        (base_of (kind_of s timer)) (arm_noted made.arm) part.does.start (subst (λ b. Arms (sight_of (witness_of s e) (length made.begun.seen) (length made.worked.seen)) s.limit timer
         modes.Keep part.ns reading.stamp b (arm_noted made.arm) part.does.start) (declared_base s x timer next.world)
         (part.does.arms e joined (goes_before made.turn.ends.looks.seen follows.timers)));
     ends = length made.worked.seen;

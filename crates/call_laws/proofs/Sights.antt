@@ -12,7 +12,7 @@ use Rattle.record_text.specs.declared.record.Answer.{Answer}
 use Rattle.script_text.specs.declared.script.Call.{Call}
 use Rattle.script_text.specs.declared.script.Script.{Script}
 use Rattle.run_history.specs.Calls.{Does, AnswerHolds}
-use Rattle.run_history.specs.Truths.{Saw, SawFull, WasOffLine}
+use Rattle.run_history.specs.Truths.{Saw, SawFull, sight_of}
 use Rattle.run_history.specs.Witnesses.{Trace}
 use Rattle.run_history.specs.Promises.{HasLog}
 use Rattle.run_history.specs.Runs.{witness_of, Ending, IsJoined}
@@ -99,7 +99,7 @@ IsToldSo s l m call a e =
 abbrev pub DoesNothing : Script → LaneOf → Call → Answer → Type 0
 DoesNothing s m call a =
     (e : Ending) → let last = length m.pass.timers.known.seen in
-    Does (WasOffLine (witness_of s e) last last) s (length (writes m.pass.clock.knows)) call a [] [] []
+    Does (sight_of (witness_of s e) last last) s (length (writes m.pass.clock.knows)) call a [] [] []
 
 -- law: the same where it is so in every such run
 pub keeps_sight : {s : Script} {x : WorldOf} {l m : LaneOf} {call : Call} (next : IsNextCall s x l call) (a : Answer) → popped_by a ≡ []

@@ -3,7 +3,7 @@ use Rattle.lane_notes.specs.Worlds.{opening_for}
 use Rattle.base_row.proofs.Placed.{terms_now}
 use Rattle.call_laws.proofs.Noted.{entered_on}
 use Rattle.run_history.specs.Actions.{Entered}
-use Rattle.std.proofs.Common.{◌≡◌, ◌≤◌, ◌<◌, ℕ, ◌+◌, is_some, List, [], ◌∷◌, map, arith, refl, sym, ap, ◌∙◌, subst, zero, suc}
+use Rattle.std.proofs.Common.{◌≡◌, ◌≤◌, ◌<◌, ℕ, ◌+◌, is_some, List, [], ◌∷◌, arith, refl, sym, ap, ◌∙◌, zero, suc}
 use Rattle.ktime.specs.Readings.{ClockReading}
 use Rattle.seq_timer.specs.Calls.{entries_along, step_all}
 use Rattle.seq_timer.specs.Events.{Asked, Event}
@@ -26,7 +26,7 @@ use Rattle.record_text.specs.declared.record.Answer.TheVariants as answers
 use Rattle.record_text.specs.declared.record.ClockLine.{ClockLine}
 use Rattle.script_text.specs.declared.script.StartRequest.{StartRequest}
 use Rattle.run_history.specs.Histories.{reading_at}
-use Rattle.run_history.specs.Starts.{Arming, arming_actions, first_number, IsArming, IsJustBefore, IsSentByHeirs, SentTo, was_armed_before}
+use Rattle.run_history.specs.Starts.{Arming, arming_actions, first_number, IsArming, IsJustBefore, IsSentByHeirs, SentTo, was_armed_before, Sight}
 use Rattle.run_history.proofs.Stamped.{HaveReadings}
 use Rattle.lane_notes.specs.Called.{asked_in, start_told}
 
@@ -67,11 +67,6 @@ arming_of s asked sent last = record {
   was_armed = is_some (sent_on s sent).armed;
 }
 
--- law: the bases of its Outs
-pub outs_bases : (s : Timer) (sent : List ℕ) → map (λ (out : SentTo). out.base) (outs_of s sent) ≡ sent
-outs_bases s [] = refl
-outs_bases s (b ∷ bs) = ap (λ xs. b ∷ xs) (outs_bases (after s (events.Out b)) bs)
-
 -- its first entry is the timer's next
 outs_first : (s : Timer) (sent : List ℕ) → first_number (outs_of s sent) ((sent_on s sent).stamp + 1) ≡ s.stamp + 1
 outs_first s [] = refl
@@ -91,13 +86,10 @@ stepped s [] e = refl
 stepped s (b ∷ bs) e = stepped (after s (events.Out b)) bs e
 
 -- law: a start is made as it is asked for, by a way that its bases have, where the timer's history isn't full
-pub is_arming : (Reached : ℕ → ℕ → Type 0) (limit base : ℕ) (s : Timer) (asked : Asked) (sent : List ℕ) (last : ℕ) → s.stamp < limit
-    → IsSentByHeirs Reached base sent last → IsArming Reached limit base (arming_of s asked sent last)
-is_arming Reached limit base s asked sent last few way = record {
-  below = omega (arith, few, outs_first s sent);
-  next = outs_next s sent;
-  way = subst (λ bs. IsSentByHeirs Reached base bs last) (sym (outs_bases s sent)) way;
-}
+pub is_arming : (sight : Sight) (timer limit base : ℕ) (s : Timer) (asked : Asked) (sent : List ℕ) (last : ℕ) → s.stamp < limit
+    → IsSentByHeirs sight timer base (outs_of s sent) ((sent_on s sent).stamp + 1) last → IsArming sight timer limit base (arming_of s asked sent last)
+is_arming sight timer limit base s asked sent last few way =
+    record { below = omega (arith, few, outs_first s sent); next = outs_next s sent; way = way }
 
 -- ---- its entries and its answer
 

@@ -23,7 +23,7 @@ use Rattle.run_history.specs.Starts.{arming_actions, was_armed_before}
 use Rattle.script_text.specs.declared.script.Call.TheVariants as calls
 use Rattle.script_text.specs.declared.script.Script.{Script}
 use Rattle.run_history.specs.Runs.{witness_of}
-use Rattle.run_history.specs.Truths.{WasOffLine}
+use Rattle.run_history.specs.Truths.{sight_of}
 use Rattle.run_history.proofs.OthersMade.{cancelled_made, plain, started_made}
 use Rattle.lane_notes.specs.Called.{asked_in, CallsCancel, CallsStart, cancel_told, LaneOf, start_told, with_done}
 use Rattle.lane_notes.proofs.Kept.{IsNextCall, KeepsCall}
@@ -33,7 +33,7 @@ use Rattle.call_laws.proofs.Sights.{keeps_entered, keeps_sight, looks_at, notes_
 use Rattle.call_laws.proofs.Stays.{saw_quiet, timer_quiet}
 use Rattle.seq_timer.specs.Steps.{Timer}
 use Rattle.std.proofs.Common.{ap, ◌∙◌}
-use Rattle.call_laws.proofs.SeenOff.{sent_seen, was_seen}
+use Rattle.call_laws.proofs.SeenOff.{sent_seen}
 use Rattle.call_laws.proofs.Starts.{arming_of, is_arming, limit_within, start_reads}
 
 -- ---- cancel
@@ -97,6 +97,6 @@ keeps_start {s = s} {x = x} {l = l} {m = m} {timer = timer} {request = request} 
         (plain reading.stamp (length v) (length w) (arming_actions timer request reading.stamp arming)) c.made
         (λ clock has. start_reads timer request reading u c.sent c.last clock has) (reading_goes_on l.pass m.pass reading called.reads)
         (clock_left called.reads.same) called.objects called.signals notes (entries_so timer request reading u c.sent c.last) refl called.reads.count refl refl
-        (λ its e follows joined has kept low. let Reached = WasOffLine (witness_of s e) (length v) (length w) in
-        started_made timer request arming kept low (is_arming Reached s.limit request.base u (asked_in request reading) c.sent c.last few
-        (sent_seen x.timers.about v w Reached (was_seen s x.timers.about next.world.timers e joined v w follows.timers) request.base c.sent c.last c.on_way))))
+        (λ its e follows joined has kept low. let sight = sight_of (witness_of s e) (length v) (length w) in
+        started_made timer request arming kept low (is_arming sight timer s.limit request.base u (asked_in request reading) c.sent c.last few
+        (sent_seen s x.timers.about next.world.timers e joined v w follows.timers timer u request.base c.sent c.last c.on_way))))

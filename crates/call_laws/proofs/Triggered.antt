@@ -24,6 +24,7 @@ use Rattle.timer_setting.specs.declared.object_call.ObjectCall.{ObjectCall}
 use Rattle.timer_setting.specs.declared.object_call.ObjectReply.{ObjectReply}
 use Rattle.record_text.specs.declared.record.Label.{Label}
 use Rattle.record_text.specs.declared.record.ObjectEntry.TheVariants as object_entries
+use Rattle.run_history.specs.Starts.{Sight}
 use Rattle.run_history.specs.Actions.{Began, Made, Skipped}
 use Rattle.run_history.specs.Histories.{reading_at}
 use Rattle.script_text.specs.Declarations.{kind_of}
@@ -47,7 +48,7 @@ use Rattle.call_laws.proofs.Signals.{pushed_none, TurnsPart, turns_looked, turns
 use Rattle.pass_names.proofs.Passes.{begins_length}
 use Rattle.run_history.specs.Promises as promises
 use Rattle.run_history.specs.Runs.{Ending, IsJoined, witness_of}
-use Rattle.run_history.specs.Truths.{WasOffLine}
+use Rattle.run_history.specs.Truths.{sight_of}
 use Rattle.run_history.specs.Actions.{Action}
 use Rattle.run_history.proofs.Expires.{ReplyHolds}
 use Rattle.seq_timer.specs.declared.event.Restarted.{Restarted}
@@ -106,7 +107,7 @@ module _ (s : Script) (x : ObjectsOf) (limit : x.limit ≡ s.limit) (some : 1 �
   -- what the function did is what its timer declares, and what it was told holds
   abbrev RanSo : List Action → Type 0
   RanSo body = (e : Ending) → IsJoined s e → promises.RunGoesOn w.seen e → promises.GoesOnSignals (turns_of h') e → (finish : ℕ) (restarted : Restarted)
-      → IsBody (WasOffLine (witness_of s e) (length v.seen) (length w.seen)) s.limit (kind_of s c.timer) reading.stamp
+      → IsBody (sight_of (witness_of s e) (length v.seen) (length w.seen)) s.limit (kind_of s c.timer) reading.stamp
       (fired_of c body finish (asks restart) restarted)
       × ReplyHolds (witness_of s e) (length (turns_of h), length (turns_of h')) (length w.seen) body
 
@@ -148,7 +149,7 @@ module _ (s : Script) (x : ObjectsOf) (limit : x.limit ≡ s.limit) (some : 1 �
 
   -- a trigger that a full history refused
   refused_body : SkipsTrigger x p q h.object_log.receipts h'.object_log.receipts v w c.timer call → h'.signal_pass.now.knows ≡ h.signal_pass.now.knows
-      → ((Reached : ℕ → ℕ → Type 0) (f : Fired) → IsTrigger reading.stamp f → IsBody Reached s.limit (kind_of s c.timer) reading.stamp f)
+      → ((sight : Sight) (f : Fired) → IsTrigger reading.stamp f → IsBody sight s.limit (kind_of s c.timer) reading.stamp f)
       → BodyKept s label claim restart w h h'
   refused_body t same_signals is_body =
       let many = length (seen_of q c.timer) in
@@ -184,7 +185,7 @@ module _ (s : Script) (x : ObjectsOf) (limit : x.limit ≡ s.limit) (some : 1 �
       }
 
   -- law: what the claim of an object's timer does that sends no signals
-  pub trigger_kept : ((Reached : ℕ → ℕ → Type 0) (f : Fired) → IsTrigger reading.stamp f → IsBody Reached s.limit (kind_of s c.timer) reading.stamp f)
+  pub trigger_kept : ((sight : Sight) (f : Fired) → IsTrigger reading.stamp f → IsBody sight s.limit (kind_of s c.timer) reading.stamp f)
       → h'.signal_pass.now ≡ h.signal_pass.now → ((number : ℕ) (entry : ObjectEntry) → pushed_with (kind_of s c.timer) c.timer number entry ≡ [])
       → Triggers x p q h.object_log.receipts h'.object_log.receipts v w c call → BodyKept s label claim restart w h h'
   trigger_kept is_body same quiet triggers =
@@ -204,8 +205,8 @@ module _ (s : Script) (x : ObjectsOf) (limit : x.limit ≡ s.limit) (some : 1 �
 
   module _ (asked : ℕ) (kind : kind_of s c.timer ≡ kinds.Queued asked) (declared : (decl_at x c.timer).kind ≡ over.Queued)
       (room : h.signal_pass.now.knows.room ≡ most_signals) where
-    is_queued : (Reached : ℕ → ℕ → Type 0) (f : Fired) → IsQueuedTrigger reading.stamp f → IsBody Reached s.limit (kind_of s c.timer) reading.stamp f
-    is_queued Reached f is = subst (λ k. IsBody Reached s.limit k reading.stamp f) (sym kind) is
+    is_queued : (sight : Sight) (f : Fired) → IsQueuedTrigger reading.stamp f → IsBody sight s.limit (kind_of s c.timer) reading.stamp f
+    is_queued sight f is = subst (λ k. IsBody sight s.limit k reading.stamp f) (sym kind) is
 
     -- the signal of an expiry, where it counts
     sent_turns : (number : ℕ) (counted : Bool) → IsPushedBy counted h.signal_pass.now.knows h'.signal_pass.now.knows c.timer number
@@ -253,4 +254,4 @@ module _ (s : Script) (x : ObjectsOf) (limit : x.limit ≡ s.limit) (some : 1 �
         reading → BodyKept s label claim restart w h h'
     queued_kept fires =
         ⊎_elim sends_kept
-        (λ more. ⊎_elim overflows_kept (λ its. refused_body its.skips its.none (λ Reached f is. is_queued Reached f (inl is))) more) fires
+        (λ more. ⊎_elim overflows_kept (λ its. refused_body its.skips its.none (λ sight f is. is_queued sight f (inl is))) more) fires

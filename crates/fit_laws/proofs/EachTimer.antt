@@ -37,13 +37,12 @@ use Rattle.run_history.specs.Witnesses.{Witness, Move, OfTimer, Shown, labels, o
 use Rattle.fit_laws.specs.EachTimer.{HasTimers, FitsTimers, IsOwnPoint, TookNextDue, WasRefused, WasSo, WasTold}
 use Rattle.run_history.specs.Fits.{Fits, FitsCall, FitsIn, FitsLane, Seen, unseen}
 use Rattle.run_history.specs.Traces.{all_entered, own_moves}
-use Rattle.run_history.specs.Calls.{AnswerHolds, call_row}
-use Rattle.run_history.specs.Truths.{AreTrue, IsMoment, IsTrue, RefusedBefore, Saw, SawRefusal, WasOffLine}
+use Rattle.run_history.specs.Calls.{AnswerHolds}
+use Rattle.run_history.specs.Truths.{AreTrue, IsMoment, IsTrue, RefusedBefore, Saw, SawRefusal, sight_of}
 use Rattle.run_history.proofs.Actions.{all_entered-append}
 use Rattle.run_history.proofs.Labels.{same_label}
 use Rattle.run_history.proofs.Lists.{all_at, at_map, each_drop, each_take}
 use Rattle.fit_laws.proofs.OwnParts.{count_moves}
-use Rattle.run_history.proofs.Reached.{did_wider}
 use Rattle.fit_laws.proofs.OwnPoints.{before_there, declared_then, entered_then, labels_each, legal_each, order_each, point_then, same_then, saw_then, seen, stamp_then, turn_at}
 
 -- a function runs on a base
@@ -305,8 +304,8 @@ module _ (w : Witness) (f : FitsIn w) where
         fired = t.fired;
         actions = t.actions;
         moved = t.moved;
-        does = did_wider (WasOffLine w t.first t.last) (λ base heir. Unit {0})
-            (λ base heir was. tt) w.script t.at (call_row w.script t.at call answer).did t.fired t.moved t.actions fits.does;
+        sight = sight_of w t.first t.last;
+        does = fits.does;
         keeps = fits.keeps;
         reading = fits.reading;
         entered = λ u. entered_then w f.history f.timers c t.actions u fits.traced.moves;

@@ -38,7 +38,7 @@ use Rattle.script_text.proofs.Lists.{All-append}
 use Rattle.script_text.proofs.VersionOne.{version_one_is_hard}
 use Rattle.record_text.proofs.Lists.{All-back, All-front}
 use Rattle.record_text.specs.declared.version.Version.TheVariants as versions
-use Rattle.run_history.specs.Starts.{Arming, SentTo, arming_actions, moves}
+use Rattle.run_history.specs.Starts.{Arming, SentTo, arming_actions, moves, Sight}
 use Rattle.script_text.specs.declared.script.Call.{Call}
 use Rattle.script_text.specs.declared.script.Call.TheVariants as calls
 use Rattle.script_text.specs.declared.script.Callback.TheVariants as callbacks
@@ -161,8 +161,8 @@ row_none s reading call (answers.Idle stamp) none = tt
 row_none s reading call answer none = tt
 
 -- what the calls of a script did, by what they saw of bases off line
-module _ (Reached : ℕ → ℕ → Type 0) (s : Script) where
-  arms_none : (timer ns reading base : ℕ) (mode : Mode) (arm : Armed) (start : List Action) → Arms Reached s.limit timer mode ns reading base arm start
+module _ (sight : Sight) (s : Script) where
+  arms_none : (timer ns reading base : ℕ) (mode : Mode) (arm : Armed) (start : List Action) → Arms sight s.limit timer mode ns reading base arm start
       → AllNone start
   arms_none timer ns reading base mode armings.None start is = subst AllNone (sym is) tt
   arms_none timer ns reading base mode (armings.Generation generation) start is =
@@ -170,12 +170,12 @@ module _ (Reached : ℕ → ℕ → Type 0) (s : Script) where
   arms_none timer ns reading base mode armings.Unarmed start is = subst AllNone (sym is) tt
 
   as_none : (timer : ℕ) (wanted : Option Wanted) (reading base : ℕ) (arm : Armed) (start : List Action)
-      → ArmsAs Reached s.limit timer wanted reading base arm start → AllNone start
+      → ArmsAs sight s.limit timer wanted reading base arm start → AllNone start
   as_none timer None reading base arm start is = subst AllNone (sym is.1) tt
   as_none timer (Some wanted) reading base arm start is = arms_none timer wanted.ns reading base wanted.mode arm start is
 
   anew_made_none : {kind : Kind} {timer : ℕ} {wanted : Option Wanted} {reading : ℕ} {entry : Armed → ObjectEntry} {actions : List Action}
-      → MakesAnew Reached s.limit kind timer wanted reading entry actions → AllNone actions
+      → MakesAnew sight s.limit kind timer wanted reading entry actions → AllNone actions
   anew_made_none {timer = timer} {wanted = wanted} makes =
       subst AllNone (sym makes.done) (
         tt,
@@ -188,7 +188,7 @@ module _ (Reached : ℕ → ℕ → Type 0) (s : Script) where
       cancelled (Some c) = (tt, tt)
 
   rearming_made_none : {kind : Kind} {timer reading : ℕ} {entry : Armed → ObjectEntry} {actions : List Action}
-      → MakesRearming Reached s.limit kind timer reading entry actions
+      → MakesRearming sight s.limit kind timer reading entry actions
       → AllNone actions
   rearming_made_none makes =
       subst AllNone (sym makes.done) (tt, none-append makes.start _ (arms_none _ _ _ _ _ makes.arm makes.start makes.arms) (tt, tt))
@@ -199,7 +199,7 @@ module _ (Reached : ℕ → ℕ → Type 0) (s : Script) where
       ⊎_elim (λ trigger. subst AllNone (sym trigger.2) (tt, (tt, tt))) (λ skipped. subst AllNone (sym skipped.1) (tt, tt)) is.0
 
   -- a callback that starts its timer asks for no slack
-  body_none : (kind : Kind) (reading : ℕ) (f : Fired) → IsBody Reached s.limit kind reading f → AllNone f.body
+  body_none : (kind : Kind) (reading : ℕ) (f : Fired) → IsBody sight s.limit kind reading f → AllNone f.body
   body_none (kinds.Raw context callbacks.Once) reading f is = nothing_none f.body is.0
   body_none (kinds.Raw context (callbacks.Every interval)) reading f is =
       ⊎_elim (λ forward. subst AllNone (sym forward.2) (tt, tt))
@@ -214,7 +214,7 @@ module _ (Reached : ℕ → ℕ → Type 0) (s : Script) where
       ⊎_elim (trigger_none reading f) (λ full. subst AllNone (sym full.0.1) (tt, (tt, tt))) is
   body_none (kinds.Sleeper base) reading f is = trigger_none reading f is
 
-  fired_none : (base reading : ℕ) (fired : List Fired) → AllByRecursion (λ f. IsBody Reached s.limit (kind_of s f.timer) reading f) fired
+  fired_none : (base reading : ℕ) (fired : List Fired) → AllByRecursion (λ f. IsBody sight s.limit (kind_of s f.timer) reading f) fired
       → AllNone (flat_map (fires base reading) fired)
   fired_none base reading [] bodies = tt
   fired_none base reading (f ∷ fired) bodies =
@@ -222,11 +222,11 @@ module _ (Reached : ℕ → ℕ → Type 0) (s : Script) where
       (fired_none base reading fired bodies.1)
 
   run_none : {context : Context} {reading base : ℕ} {fired : List Fired} {shown : ℕ} {timers : List ℕ} {actions : List Action}
-      → IsExpiryRun Reached s context reading base fired shown timers actions → AllNone actions
+      → IsExpiryRun sight s context reading base fired shown timers actions → AllNone actions
   run_none {reading = reading} {base = base} {fired = fired} run = subst AllNone (sym run.done) (fired_none base reading fired run.bodies)
 
   did_none : (reading : ℕ) (did : Deed) (fired : List Fired) (moved : List Evacuation) (actions : List Action) → DeedAsksNone did
-      → Did Reached s reading did fired moved actions → AllNone actions
+      → Did sight s reading did fired moved actions → AllNone actions
   did_none reading Never fired moved actions none did = absurd did
   did_none reading Nothing fired moved actions none did = nothing_none actions did
   did_none reading (Starts timer request generation on was_armed) fired moved actions none did =
@@ -276,7 +276,7 @@ timer_none s r has none t =
         let a = item_at (answers_of r c.lane) c.call (subst (λ n. c.call < n) (sym (has.answered c.lane)) is) in
         let fits : FitsTimers s r c p.0.call a.0 = has.calls c.lane c.call p.0 a.0 p.1 a.1 in
         subst (λ xs. AllByRecursion (λ (x : ℕ × Entry). AsksNone x.1) xs) (sym (fits.entered t))
-        (entered_none t fits.actions (did_none (λ base heir. Unit {0}) s fits.at (call_row s fits.at p.0.call a.0).did fits.fired fits.moved fits.actions
+        (entered_none t fits.actions (did_none fits.sight s fits.at (call_row s fits.at p.0.call a.0).did fits.fired fits.moved fits.actions
         (row_none s fits.at p.0.call a.0 (none c.lane c.call p.0 p.1)) fits.does))
 
 -- law: the record of a script whose calls ask for no slack has none

@@ -31,7 +31,7 @@ use Rattle.run_history.specs.Objects.{lines_of_object, object_labels}
 use Rattle.run_history.specs.Order.{CallInRound, calls_of, is_before, is_label, IsLabel, StandsWithin}
 use Rattle.run_history.specs.Signals.{SendsSignals, most_signals, SignalMove, popped_by, pushed_in, pushed_with, signal_labels, turns_in, waiting_at}
 use Rattle.run_history.specs.Calls.{AnswerHolds, Does}
-use Rattle.run_history.specs.Truths.{IsTrueEntry, SawWaiting, WasOffLine}
+use Rattle.run_history.specs.Truths.{IsTrueEntry, SawWaiting, sight_of}
 use Rattle.run_history.specs.Witnesses.{Evacuation, Fired, Witness, witness_with}
 use Rattle.run_history.proofs.Items.{Among, RiseIn, own_rises, stands_own}
 use Rattle.run_history.proofs.Labels.{label_itself, same_label}
@@ -590,7 +590,7 @@ module _ (w : Witness) (f : FitsIn w) where
 
 -- a call that was told that no signal waits found none
 none_told : (w : Witness) (c : Label) (first last at : ℕ) (call : Call) (fired : List Fired) (moved : List Evacuation) (actions : List Action)
-    → Does (WasOffLine w first last) w.script at call answers.NoneQueued fired moved actions
+    → Does (sight_of w first last) w.script at call answers.NoneQueued fired moved actions
     → AnswerHolds w first last c at actions call answers.NoneQueued → SawWaiting w c 0
 none_told w c first last at calls.Sigwait fired moved actions does holds = holds
 none_told w c first last at call fired moved actions does holds = absurd does

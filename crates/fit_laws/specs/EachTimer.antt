@@ -18,6 +18,7 @@ use Rattle.record_text.specs.declared.record.RunRecord.{RunRecord}
 use Rattle.script_text.specs.declared.script.Call.{Call}
 use Rattle.script_text.specs.declared.script.Call.TheVariants as calls
 use Rattle.script_text.specs.declared.script.Script.{Script}
+use Rattle.run_history.specs.Starts.{Sight}
 use Rattle.run_history.specs.Actions.{Action, Entered, entered, Looked, looked, own, own_looks}
 use Rattle.run_history.specs.Told.{observed}
 use Rattle.run_history.specs.Histories.{answers_of, clock_labels, history_of, lines_of_timer, reading_at, timer_after, timer_labels}
@@ -94,7 +95,8 @@ pub record FitsTimers (s : Script) (r : RunRecord) (c : Label) (call : Call) (an
   pub moved : List Evacuation
   pub actions : List Action
   -- whether a base was off line isn't a matter of the timers alone
-  pub does : Does (λ base heir. Unit {0}) s at call answer fired moved actions
+  pub sight : Sight
+  pub does : Does sight s at call answer fired moved actions
   pub keeps : AllKeepExpiries s r call moved
   pub reading : IsPoint s c 0 at (clock_labels r)
   pub entered : (t : ℕ) → own (λ line. line.label) (λ line. line.entry) c 1 (lines_of_timer r t) ≡ entered t actions

@@ -1,6 +1,6 @@
 -- A timer that is sent from base to base, and started on one that is on line.
 use Rattle.std.proofs.Common.{◌≡◌, ℕ, ◌+◌, ◌<◌, ◌≤◌, ◌^◌, List, [], ◌∷◌, refl, ap, sym, ◌∙◌, subst, arith}
-use Rattle.std.specs.Prelude.{IfSome, Option, Some, length}
+use Rattle.std.specs.Prelude.{IfSome, Option, Some, None, length}
 use Rattle.seq_timer.specs.Tables.{timer_at}
 use Rattle.hr_timers.proofs.Keeping.{terms_kept}
 use Rattle.std.proofs.lemmas.Bool.Decides.{nat_tests}
@@ -10,7 +10,7 @@ use Rattle.seq_timer.specs.Calls.{entries_along, step_all}
 use Rattle.seq_timer.specs.Events.{Asked, Event}
 use Rattle.seq_timer.specs.Histories as seq
 use Rattle.seq_timer.specs.Steps.{Timer, after}
-use Rattle.seq_timer.specs.Systems.{BaseContent, entries_of}
+use Rattle.seq_timer.specs.Systems.{AreSystemSteps, BaseContent, entries_of, first_system}
 use Rattle.seq_timer.specs.declared.context.Terms.{Terms}
 use Rattle.seq_timer.specs.declared.event.EventBy.TheVariants as events
 use Rattle.seq_timer.specs.declared.system.SystemEntry.{SystemEntry}
@@ -25,9 +25,10 @@ use Rattle.hr_timers.specs.Calls.{entry_by}
 use Rattle.hr_timers.specs.Known.{AddsBehind, OnlySeesMore, timer_then}
 use Rattle.hr_timers.specs.Logged.{IsLogged}
 use Rattle.hr_timers.specs.Moves.{Arrives, StartsBy, arrival_of}
-use Rattle.hr_timers.specs.Ways.{asking, last_of, most_to_arrive, standing_then, start_on}
+use Rattle.hr_timers.specs.Ways.{IsSentOn, asking, last_of, most_to_arrive, standing_then, start_on}
 use Rattle.hr_timers.proofs.Making.{adds_both, looks_on}
-use Rattle.hr_timers.proofs.Ways.{sent_from, way_wider}
+use Rattle.hr_timers.proofs.Moments.{stamp_rises}
+use Rattle.hr_timers.proofs.Ways.{finds_here, heir_found, sent_from}
 
 -- ---- room
 
@@ -66,7 +67,8 @@ module _ {A : Type 0} (put : A → Receipt → A) (o : Opening) where
       let by : List Event = start_on asked r.outs last in record {
         outs = r.outs;
         falls = r.falls;
-        way = way_wider o u.seen v.seen w.seen w.seen looks.seen (begins_refl w.seen) asked.base r.outs last r.way;
+        way = λ low before on. subst (λ (x : Timer). IsSentOn o w.seen t low x.stamp asked.base r.outs last) same
+            (r.way low (begins_trans before looks.seen) on);
         told = subst (λ (x : Timer). a ≡ arrival_of (step_all x by) r.outs last) same r.told;
         adds = subst (λ (x : Timer). AddsBehind u w t (entries_along x by)) same
             (looks_extends entries_of (rows.known_of u) (rows.known_of v) (rows.known_of w) t _ (looks_on u v looks) steady r.adds);
@@ -79,7 +81,7 @@ module _ {A : Type 0} (put : A → Receipt → A) (o : Opening) where
       → AddsBehind v w t (entry_by (rows.timer_seen o v t) (events.Start asked) ∷ [])
       → IsLogged put o t v.seen (entry_by (rows.timer_seen o v t) (events.Start asked) ∷ []) s s' → Arrives put o v w t asked a s s'
   arrives_here v w t asked a s s' told adds logged =
-      record { outs = []; falls = tt; way = refl; told = told; adds = adds; logged = logged }
+      record { outs = []; falls = tt; way = λ low before on. refl; told = told; adds = adds; logged = logged }
 
   module _ (v w x : BaseView BaseContent) (t : ℕ) (asked : Asked) (to : ℕ) (a a' : Arrival) (s s' s'' : A)
       (sent : rows.timer_seen o w t ≡ after (rows.timer_seen o v t) (events.Out to))
@@ -106,14 +108,24 @@ module _ {A : Type 0} (put : A → Receipt → A) (o : Opening) where
         (subst (λ (y : Timer). IsLogged put o t w.seen (entries_along y by) s' s'') sent r.logged)
 
     -- the timer is sent on, from a base that is off line to its heir, and goes on from there
-    pub arrives_on : to < asked.base → (standing_then o v.seen asked.base).heir ≡ Some to → Arrives put o v x t asked a' s s''
-    arrives_on down off = record {
+    pub arrives_on : AreSystemSteps o.bases (length o.timers) (first_system o.timers) v.seen → to < asked.base
+        → (standing_then o v.seen asked.base).heir ≡ Some to → Arrives put o v x t asked a' s s''
+    arrives_on steps down off = record {
       outs = to ∷ r.outs;
       falls = (down, r.falls);
-      way = (
-        record { at = v.seen; from = begins_refl v.seen; to = begins_trans adds.seen r.adds.seen; off = off },
-        way_wider o v.seen w.seen x.seen x.seen adds.seen (begins_refl x.seen) to r.outs last r.way,
-      );
+      way = λ low before on.
+          let found = heir_found o low v.seen steps before asked.base to on off in (
+            record {
+              path = to ∷ [];
+              at = found.0;
+              way = found.1;
+              seen = begins_trans found.2 (begins_trans adds.seen r.adds.seen);
+              few = stamp_rises o found.0 v.seen t found.2;
+            },
+            refl,
+            subst (λ n. IsSentOn o x.seen t found.0 n to r.outs last) (ap (λ (y : Timer). y.stamp) sent)
+                (r.way found.0 (begins_trans found.2 adds.seen) found.1.2.1.stood),
+          );
       told = told_sent;
       adds = adds_sent;
       logged = logged_sent;
@@ -124,7 +136,18 @@ module _ {A : Type 0} (put : A → Receipt → A) (o : Opening) where
     starts_moved here = record {
       sent = to ∷ r.outs;
       last = last;
-      on_way = (([], here), way_wider o v.seen w.seen x.seen x.seen adds.seen (begins_refl x.seen) to r.outs last r.way, r.falls);
+      on_way = λ low before on.
+          let same : (standing_then o low to).heir ≡ None = ap (λ b. (standing_then o low b).heir) (sym here) ∙ on in (
+            record {
+              path = [];
+              at = low;
+              way = (here, record { from = begins_refl low; stood = on });
+              seen = begins_trans before (begins_trans adds.seen r.adds.seen);
+              few = stamp_rises o low v.seen t before;
+            },
+            subst (λ n. IsSentOn o x.seen t low n to r.outs last) (ap (λ (y : Timer). y.stamp) sent) (r.way low (begins_trans before adds.seen) same),
+            r.falls,
+          );
       told = told_sent;
       adds = adds_sent;
       logged = logged_sent;
@@ -135,17 +158,34 @@ module _ {A : Type 0} (put : A → Receipt → A) (o : Opening) where
       → a ≡ arrival_of (after (rows.timer_seen o v t) (events.Start asked)) [] asked.base
       → AddsBehind v w t (entry_by (rows.timer_seen o v t) (events.Start asked) ∷ [])
       → IsLogged put o t v.seen (entry_by (rows.timer_seen o v t) (events.Start asked) ∷ []) s s' → StartsBy put o v w t asked a s s'
-  starts_here v w t asked a s s' told adds logged =
-      record { sent = []; last = asked.base; on_way = ([], refl); told = told; adds = adds; logged = logged }
+  starts_here v w t asked a s s' told adds logged = record {
+    sent = [];
+    last = asked.base;
+    on_way = λ low before on. finds_here o w.seen t low (rows.timer_seen o v t).stamp asked.base (begins_trans before adds.seen)
+        (stamp_rises o low v.seen t before) on;
+    told = told;
+    adds = adds;
+    logged = logged;
+  }
 
   -- the heir is asked for in place of a base that is off line
   pub starts_heir : (v w : BaseView BaseContent) (t : ℕ) (asked : Asked) (heir : ℕ) (a : Arrival) (s s' : A)
-      → (standing_then o v.seen asked.base).heir ≡ Some heir → StartsBy put o v w t (asking asked heir) a s s' → StartsBy put o v w t asked a s s'
-  starts_heir v w t asked heir a s s' off r = record {
+      → AreSystemSteps o.bases (length o.timers) (first_system o.timers) v.seen → (standing_then o v.seen asked.base).heir ≡ Some heir
+      → StartsBy put o v w t (asking asked heir) a s s' → StartsBy put o v w t asked a s s'
+  starts_heir v w t asked heir a s s' steps off r = record {
     sent = r.sent;
     last = r.last;
-    on_way = sent_from o v.seen w.seen asked.base (heir ∷ []) heir r.sent r.last
-        (record { at = v.seen; from = begins_refl v.seen; to = r.adds.seen; off = off }, refl) r.on_way;
+    on_way = λ low before on.
+        let found = heir_found o low v.seen steps before asked.base heir on off in
+        sent_from o w.seen t low (rows.timer_seen o v t).stamp asked.base heir
+        (record {
+          path = heir ∷ [];
+          at = found.0;
+          way = found.1;
+          seen = begins_trans found.2 r.adds.seen;
+          few = stamp_rises o found.0 v.seen t found.2;
+        })
+        r.sent r.last (r.on_way found.0 found.2 found.1.2.1.stood);
     told = r.told;
     adds = r.adds;
     logged = r.logged;

@@ -13,7 +13,7 @@ use Rattle.seq_timer.specs.declared.answer.CancelAnswer.{CancelAnswer}
 use Rattle.seq_timer.specs.declared.answer.CancelAnswer.TheVariants as cancels
 use Rattle.seq_timer.specs.declared.event.EventBy.TheVariants as events
 use Rattle.seq_timer.specs.declared.event.Reply.TheVariants as replies
-use Rattle.seq_timer.specs.Systems.{BaseContent}
+use Rattle.seq_timer.specs.Systems.{BaseContent, entries_of}
 use Rattle.base_row.specs.declared.log.Receipt.{Receipt}
 use Rattle.base_row.specs.declared.view.Claimed.{Claimed}
 use Rattle.base_row.specs.declared.view.Opening.{Opening}
@@ -28,10 +28,14 @@ use Rattle.hr_timers.specs.declared.numbers.ClaimNumbers.{ClaimNumbers}
 use Rattle.hr_timers.specs.Known.{AddsBehind, KnownOfTimers, OnlySeesMore, MadeAt, claimed_as, count_of, timer_then}
 use Rattle.hr_timers.specs.Calls.{StartFits, entry_by, start_entries}
 use Rattle.hr_timers.specs.Ways.{IsWay, asking, most_to_start}
+use Rattle.hr_timers.specs.Moves.{seen_by}
 use Rattle.hr_timers.proofs.Arriving.{arrive_least, arrive_some}
 use Rattle.hr_timers.proofs.Keeping.{terms_kept}
-use Rattle.hr_timers.proofs.Ways.{sent_from, sent_wider, way_wider}
-use Rattle.pass_names.proofs.Passes.{begins_refl, begins_trans}
+use Rattle.hr_timers.proofs.Moments.{stamp_rises}
+use Rattle.hr_timers.proofs.Ways.{sent_from, way_rises}
+use Rattle.pass_names.proofs.Passes.{begins_trans}
+use Rattle.pass_names.specs.Passes.{Begins, places}
+use Rattle.seq_timer.specs.declared.system.SystemEntry.{SystemEntry}
 use Rattle.hr_timers.specs.Logged.{CancelsLogged, ClaimsLogged, ForwardsLogged, HasRoomToStart, IsLogged, StartsLogged}
 use Rattle.hr_timers.proofs.Making.{looks_refl, made_before, made_then}
 use Rattle.hr_timers.proofs.Standing.{claim_runs}
@@ -63,20 +67,28 @@ room_to_start o u v t room base low fresh knows within looks below (inr one) =
 module _ {A : Type 0} (put : A → Receipt → A) (o : Opening) where
   -- ---- looks before a call
 
-  -- and the way from the base that is asked for to the one that is asked for then
-  pub starts_before : (u v : BaseView BaseContent) (w : KnownOfTimers) (t : ℕ) (asked : Asked) (base : ℕ) (path : List ℕ) (a : StartAnswer) (s s' : A)
-      → OnlySeesMore u v → IsWay o u.seen v.seen asked.base path base
-      → StartsLogged put o (rows.known_of v) w t (asking asked base) a s s' → StartsLogged put o (rows.known_of u) w t asked a s s'
-  starts_before u v w t asked base path a s s' looks way c =
-      let r = c.starts in record {
+  -- the base that is asked for was found on line by then, or another that is asked for then in its place
+  pub starts_before : (u v : BaseView BaseContent) (w : KnownOfTimers) (t : ℕ) (asked : Asked) (base : ℕ) (path : List ℕ) (x : List SystemEntry)
+      (a : StartAnswer) (s s' : A) → OnlySeesMore u v → IsWay o u.seen asked.base path base x → Begins x v.seen
+      → StartsLogged put o (seen_by v x) w t (asking asked base) a s s' → StartsLogged put o (rows.known_of u) w t asked a s s'
+  starts_before u v w t asked base path x a s s' looks way early c =
+      let r = c.starts in
+      let from : Begins x r.at = r.made.from in
+      record {
         starts = record {
           at = r.at;
           sent = r.sent;
           last = r.last;
-          on_way = sent_from o u.seen w.seen asked.base path base r.sent r.last
-              (way_wider o u.seen u.seen v.seen w.seen (begins_refl u.seen) (begins_trans r.made.from r.made.seen) asked.base path base way)
-              (sent_wider o u.seen v.seen w.seen w.seen looks.seen (begins_refl w.seen) base r.sent r.last r.on_way);
-          made = made_before u v w t r.at _ looks (subst (λ es. MadeAt (rows.known_of v) w t r.at es) (entries_same (timer_then o r.at t) r.sent r.last a) r.made);
+          on_way = sent_from o w.seen t u.seen (timer_then o r.at t).stamp asked.base base
+              (record { path = path; at = x; way = way; seen = begins_trans from r.made.seen; few = stamp_rises o x r.at t from })
+              r.sent r.last r.on_way;
+          made = record {
+            from = begins_trans (way_rises o u.seen asked.base path base x way) from;
+            seen = r.made.seen;
+            own = r.made.own ∙ ap (λ es. entries_of t r.at ++ es) (entries_same (timer_then o r.at t) r.sent r.last a);
+            mine = r.made.mine ∙ (λ i. looks.mine i ++ places t (length (entries_of t r.at)) (entries_same (timer_then o r.at t) r.sent r.last a i));
+            id = r.made.id ∙ looks.id;
+          };
           fits = fits_same (timer_then o r.at t) r.sent r.last a r.fits;
           claims = r.claims ∙ looks.claims;
         };

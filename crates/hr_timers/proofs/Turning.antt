@@ -1,12 +1,23 @@
 -- Turns of taking a base off line.
-use Rattle.std.proofs.Common.{◌≡◌, ℕ, ◌+◌, ◌-◌, ◌<◌, ◌≤◌, List, [], ◌∷◌, length, refl, ap, sym, ◌∙◌, subst, true, false, inl, inr, arith}
+use Rattle.std.proofs.Common.{◌≡◌, ℕ, ◌+◌, ◌<◌, ◌≤◌, List, [], ◌∷◌, ◌++◌, length, refl, ap, sym, ◌∙◌, subst, true, false, inl, inr, arith}
 use Rattle.std.specs.Prelude.{Bool, Option, Some, None, is_some, ◌&&◌, nat_eq, nat_lt, if◌then◌else◌}
 use Rattle.std.proofs.lemmas.Bool.{true≢false}
 use Rattle.std.proofs.lemmas.Bool.Decides.{nat_tests}
 use Rattle.ktime.specs.Readings.{ClockReading}
 use Rattle.seq_timer.specs.Halves.{running_on}
 use Rattle.seq_timer.specs.Steps.{Timer, Needs}
-use Rattle.seq_timer.specs.Systems.{BaseContent}
+use Rattle.pass_names.specs.Passes.{Begins, places}
+use Rattle.pass_names.proofs.Passes.{begins_more, begins_trans}
+use Rattle.seq_timer.specs.Halves.{generation_in}
+use Rattle.seq_timer.specs.Histories as seq
+use Rattle.seq_timer.specs.Systems.{AreSystemSteps, BaseContent, entries_of, first_system, system_after}
+use Rattle.seq_timer.specs.declared.system.SystemEntry.{SystemEntry}
+use Rattle.seq_timer.specs.declared.system.SystemEntry.TheVariants as entries
+use Rattle.seq_timer.proofs.Agreement.{agrees}
+use Rattle.seq_timer.proofs.Systems.{steps_part}
+use Rattle.base_row.specs.Logs.{all_pushed, receipts_of}
+use Rattle.base_row.proofs.Placed.{none_runs}
+use Rattle.hr_timers.proofs.Moments.{timer_own}
 use Rattle.seq_timer.specs.Tables.{in_context, is_armed_on, is_context, no_timer, runs_on, timer_at}
 use Rattle.seq_timer.specs.declared.context.Context.{Context}
 use Rattle.seq_timer.specs.declared.context.Terms.{Terms}
@@ -16,7 +27,7 @@ use Rattle.base_row.specs.declared.view.BaseView.{BaseView}
 use Rattle.base_row.specs.declared.view.Opening.{Opening}
 use Rattle.base_row.specs.Calls as rows
 use Rattle.base_row.specs.Plays.{Steady}
-use Rattle.hr_timers.specs.Known.{AddsBehind, KnownOfTimers, OnlySeesMore}
+use Rattle.hr_timers.specs.Known.{AddsBehind, KnownOfTimers, OnlySeesMore, timer_then}
 use Rattle.hr_timers.specs.Logged.{IsLogged}
 use Rattle.pass_names.specs.SharedHistory.{LooksOn}
 use Rattle.hr_timers.specs.declared.answer.OfflineAnswer.{OfflineAnswer}
@@ -25,7 +36,7 @@ use Rattle.hr_timers.specs.declared.answer.OnlineAnswer.{OnlineAnswer}
 use Rattle.hr_timers.specs.declared.answer.OnlineAnswer.TheVariants as ons
 use Rattle.hr_timers.specs.declared.evacuating.Turn.{Turn}
 use Rattle.hr_timers.specs.declared.evacuating.Turn.TheVariants as turns
-use Rattle.hr_timers.specs.Moves.{AreMoved, EndFits, Evacuates, GoesOffline, IsFront, IsSamePass, RunsFirst, RunsFirstIn, KeepsBases, MayGoOffline, MovesTimer, OfflineFits, OnlineFits, OnlyLooks, RunsNone, TakesOffline}
+use Rattle.hr_timers.specs.Moves.{AreMoved, EndFits, Evacuates, GoesOffline, IsFront, IsSamePass, RunsFirst, RunsFirstIn, KeepsBases, MayGoOffline, MovesTimer, OfflineFits, OnlineFits, OnlyLooks, RunsNone, StandsBehind, TakesOffline}
 use Rattle.hr_timers.specs.Moves.{TurnFits, evacuations_end, move_entries}
 use Rattle.seq_timer.specs.Contents.{Content, front_of, running_in}
 use Rattle.seq_timer.specs.declared.context.Context.TheVariants as contexts
@@ -72,11 +83,6 @@ left_first o w c base t g idle busy (inr soft) = (
   runs_in_any base g contexts.Soft (rows.timer_seen o w t) (busy contexts.Soft t g soft.1),
   inr (idle contexts.Hard soft.0, busy contexts.Soft t g soft.1),
 )
-
--- a base that a pass holds has what is held
-pub front_held : (o : Opening) (v : BaseView BaseContent) (h : HeldContent BaseContent) (base : ℕ) → KnowsBases o v
-    → v.held ≡ Some h → h.base ≡ base → rows.base_seen o v base ≡ h.content
-front_held o v h base knows held at = subst (λ b. rows.base_seen o v b ≡ h.content) at (sym (knows.held h held).1.0)
 
 -- the timer at its front is the next to be moved
 pub front_left : (o : Opening) (w : BaseView BaseContent) (base t : ℕ) (b : BaseContent) → rows.base_seen o w base ≡ b
@@ -125,6 +131,26 @@ may_turn o v h t heir x is armed idle down few reach room =
     (subst (λ (k : Terms). 0 < k.reach) (sym (terms_kept o v t)) reach)
     (subst (λ (y : Timer). y.stamp < y.terms.limit + y.terms.reach) is room))
 
+-- where a base has no running function after a history of fresh timers, none runs there
+pub idle_then : (o : Opening) (x : List SystemEntry) (base : ℕ) → rows.AreFresh o.timers → AreSystemSteps o.bases (length o.timers) (first_system o.timers) x
+    → ((c : Context) → running_in c ((system_after o.timers x).bases base).content ≡ None) → RunsNone o x base
+idle_then o x base fresh steps none t =
+    let u = timer_then o x t in
+    let c = u.declared.context in
+    subst (λ (y : Timer). runs_on base y ≡ false) (seen_own u) (none_runs (in_context c (timer_then o x) t).running
+    (nat_eq (in_context c (timer_then o x) t).base base)
+    (sym ((((agrees o.bases o.timers x fresh.each steps).contents base).each c).running t) ∙ ap (generation_in t) (none c)))
+
+-- a beginning of a history of timers is one
+steps_begin : (o : Opening) (x y : List SystemEntry) → Begins x y → AreSystemSteps o.bases (length o.timers) (first_system o.timers) y
+    → AreSystemSteps o.bases (length o.timers) (first_system o.timers) x
+steps_begin o x y begins steps = steps_part o.bases (length o.timers) (first_system o.timers) x begins.rest
+    (subst (AreSystemSteps o.bases (length o.timers) (first_system o.timers)) begins.whole steps)
+
+-- a timer is what its own entries make it
+timer_by : (o : Opening) (x y : List SystemEntry) (t : ℕ) → entries_of t x ≡ entries_of t y → timer_then o x t ≡ timer_then o y t
+timer_by o x y t same = timer_own o x t ∙ (ap (seq.after_all (timer_at o.timers t)) same ∙ sym (timer_own o y t))
+
 -- and after it was let go
 pub left_idle : (o : Opening) (w : BaseView BaseContent) (base : ℕ)
     → ((x : Context) (t : ℕ) → runs_on base (in_context x (rows.timer_seen o w) t) ≡ false) → RunsNone o w.seen base
@@ -137,25 +163,42 @@ pub spent_then : (o : Opening) (v : BaseView BaseContent) (t n : ℕ) → (rows.
 spent_then o v t n most = subst (λ (k : Terms). k.limit + k.reach ≤ n) (terms_kept o v t) most
 
 module _ {A : Type 0} (put : A → Receipt → A) (o : Opening) (base heir : ℕ) (reading : ClockReading) where
-  -- a timer was moved, after looks
-  pub moves_after : (u v w : BaseView BaseContent) (t : ℕ) (x : Timer) (s s' : A) → OnlySeesMore u v → Steady u v → x ≡ rows.timer_seen o v t
-      → RunsNone o v.seen base → is_armed_on base (rows.timer_seen o v t) ≡ true → IsFront o v.seen base t → AddsBehind v w t (move_entries x heir reading)
-      → KeepsBases (rows.known_of v) (rows.known_of w) → w.claims ≡ v.claims → IsLogged put o t v.seen (move_entries x heir reading) s s'
+  -- a timer was moved, after looks: it was so at the place of its Out as it was when its base was locked
+  pub moves_after : (u v w : BaseView BaseContent) (t : ℕ) (x : Timer) (h : HeldContent BaseContent) (s s' : A) → OnlySeesMore u v → Steady u v
+      → x ≡ rows.timer_seen o v t → rows.AreFresh o.timers → KnowsBases o w → h.base ≡ base
+      → ((y : Context) → running_in y h.content.content ≡ None) → is_armed_on base (rows.timer_seen o v t) ≡ true
+      → (expires : ℕ) × (front_of h.content.content ≡ Some (expires, t)) → AddsBehind v w t (move_entries x heir reading)
+      → StandsBehind o (rows.known_of v) (rows.known_of w) t h → KeepsBases (rows.known_of v) (rows.known_of w) → w.claims ≡ v.claims
+      → IsLogged put o t v.seen (move_entries x heir reading) s s'
       → MovesTimer put o base heir reading (rows.known_of u) (rows.known_of w) t s s'
-  moves_after u v w t x s s' looks steady is idle armed front adds keeps claims logged = record {
-    at = v.seen;
-    idle = idle;
-    armed = armed;
-    front = front;
-    made = made_then u v w t _ looks (subst (λ (y : Timer). AddsBehind v w t (move_entries y heir reading)) is adds);
-    keeps = keeps_trans u v w steady.shifts keeps looks.id;
-    claims = claims ∙ looks.claims;
-    logged = subst (λ (y : Timer). IsLogged put o t v.seen (move_entries y heir reading) s s') is logged;
-  }
+  moves_after u v w t x h s s' looks steady is fresh knows here idle armed front adds place keeps claims logged =
+      let at = place.at in
+      let same : timer_then o at t ≡ rows.timer_seen o v t = timer_by o at v.seen t place.own in
+      let now : x ≡ timer_then o at t = is ∙ sym same in
+      let content = subst (λ b. (system_after o.timers at).bases b ≡ h.content) here place.base in
+      let seen = begins_trans (begins_more at (entries.Timer place.next.0 ∷ [])) place.next.2 in
+      record {
+        at = at;
+        next = place.next;
+        idle = idle_then o at base fresh (steps_begin o at w.seen seen knows.allowed)
+            (λ y. ap (λ (b : BaseContent). running_in y b.content) content ∙ idle y);
+        armed = ap (is_armed_on base) same ∙ armed;
+        front = (front.0, ap (λ (b : BaseContent). front_of b.content) content ∙ front.1);
+        made = record {
+          from = begins_trans looks.seen place.from;
+          seen = seen;
+          own = adds.own ∙ (λ i. sym place.own i ++ move_entries (now i) heir reading);
+          mine = adds.mine ∙ (λ i. looks.mine i ++ places t (length (sym place.own i)) (move_entries (now i) heir reading));
+          id = adds.id ∙ looks.id;
+        };
+        keeps = keeps_trans u v w steady.shifts keeps looks.id;
+        claims = claims ∙ looks.claims;
+        logged = logged ∙ (λ i. all_pushed put s (receipts_of t (sym same i).stamp (move_entries (now i) heir reading)));
+      }
 
   -- the whole call, where the base might go off line
   pub goes_offline : (v x w : KnownOfTimers) (budget : ℕ) (a : OfflineAnswer) (s s' : A) → MayGoOffline o base heir v → LooksOn v x → KeepsBases v x
-      → Evacuates put o base heir reading x w budget 0 a s s' → OfflineFits put o base heir reading v w budget a s s'
+      → Evacuates put o base heir reading x w budget a s s' → OfflineFits put o base heir reading v w budget a s s'
   goes_offline v x w budget (offs.Busy n t g) s s' may looks keeps told = record { may = may; begins = x; looks = looks; keeps = keeps; evacuates = told }
   goes_offline v x w budget (offs.Offline n stamp) s s' may looks keeps told =
       record { may = may; begins = x; looks = looks; keeps = keeps; evacuates = told }
@@ -165,6 +208,14 @@ module _ {A : Type 0} (put : A → Receipt → A) (o : Opening) (base heir : ℕ
   goes_offline v x w budget (offs.AlreadyOffline n) s s' may looks keeps told = absurd told.last
   goes_offline v x w budget (offs.HeirOffline n) s s' may looks keeps told = absurd told.last
   goes_offline v x w budget (offs.BaseSpent n) s s' may looks keeps told = absurd told.last
+
+  -- one more timer was moved
+  pub moved_then : (v : KnownOfTimers) (ts : List ℕ) (x w : KnownOfTimers) (t : ℕ) (s r s' : A) → AreMoved put o base heir reading v ts x s r
+      → MovesTimer put o base heir reading x w t r s' → AreMoved put o base heir reading v (ts ++ t ∷ []) w s s'
+  moved_then v [] x w t s r s' moves more =
+      (w, s', subst (λ k. MovesTimer put o base heir reading k w t s s') moves.0 (subst (λ k. MovesTimer put o base heir reading x w t k s') moves.1 more),
+      (refl, refl))
+  moved_then v (u ∷ us) x w t s r s' moves more = (moves.0, moves.1, moves.2, moved_then moves.0 us x w t moves.1 r s' moves.3 more)
 
 -- ---- the pass stays the same
 
@@ -194,7 +245,7 @@ module _ {A : Type 0} (put : A → Receipt → A) (o : Opening) (base heir : ℕ
   same_goes v w budget a s s' r =
       let e = r.evacuates in
       same_after v r.begins w (same_looks v r.begins r.looks) (same_after r.begins e.mid w (same_moves r.begins e.timers e.mid s e.between e.moves)
-      (same_end e.mid w (nat_lt 0 (budget - length e.timers)) (0 + length e.timers) a e.between s' e.last))
+      (same_end e.mid w (nat_lt (length e.timers) budget) (length e.timers) a e.between s' e.last))
 
   pub same_offline : (v w : KnownOfTimers) (budget : ℕ) (a : OfflineAnswer) (s s' : A) → OfflineFits put o base heir reading v w budget a s s'
       → IsSamePass v w
@@ -229,7 +280,7 @@ module _ {A : Type 0} (put : A → Receipt → A) (o : Opening) (base heir : ℕ
   forget_turn v w goes_on (turns.Moved t) s s' f = (forget_move v w t s s' f.0, f.1)
     where
       forget_move : (v w : KnownOfTimers) (t : ℕ) (s s' : A) → MovesTimer put o base heir reading v w t s s' → MovesTimer none o base heir reading v w t tt tt
-      forget_move v w t s s' m = record { at = m.at; idle = m.idle; armed = m.armed; front = m.front; made = m.made; keeps = m.keeps; claims = m.claims; logged = refl }
+      forget_move v w t s s' m = record { at = m.at; next = m.next; idle = m.idle; armed = m.armed; front = m.front; made = m.made; keeps = m.keeps; claims = m.claims; logged = refl }
 
   forget_moves : (v : KnownOfTimers) (ts : List ℕ) (w : KnownOfTimers) (s s' : A) → AreMoved put o base heir reading v ts w s s'
       → AreMoved none o base heir reading v ts w tt tt
@@ -260,7 +311,7 @@ module _ {A : Type 0} (put : A → Receipt → A) (o : Opening) (base heir : ℕ
           between = tt;
           moves = forget_moves r.begins e.timers e.mid s e.between e.moves;
           few = e.few;
-          last = forget_end e.mid w (nat_lt 0 (budget - length e.timers)) (0 + length e.timers) a e.between s' e.last;
+          last = forget_end e.mid w (nat_lt (length e.timers) budget) (length e.timers) a e.between s' e.last;
         };
       }
 

@@ -69,7 +69,7 @@ pub record StartsTimer (o : Opening) (v w : KnownOfTimers) (t : ℕ) (asked : As
   -- the bases that the timer was sent to in turn, and the one that the start asked for last
   pub sent : List ℕ
   pub last : ℕ
-  pub on_way : IsSentBy o v.seen w.seen asked.base sent last
+  pub on_way : IsSentBy o w.seen t v.seen (timer_then o at t).stamp asked.base sent last
   pub made : MadeAt v w t at (start_entries (timer_then o at t) asked sent last a)
   pub fits : StartFits (timer_then o at t) asked sent last a
   pub claims : w.claims ≡ v.claims

@@ -12,14 +12,17 @@ use Rattle.seq_timer.specs.Histories as seq
 use Rattle.seq_timer.specs.Moves.{move_events}
 use Rattle.seq_timer.specs.Standings.{last_standing}
 use Rattle.seq_timer.specs.Steps.{Timer, placement_of}
-use Rattle.seq_timer.specs.Systems.{BaseContent, shifts_of, system_after}
+use Rattle.seq_timer.specs.Systems.{BaseContent, entries_of, shifts_of, system_after}
 use Rattle.seq_timer.specs.Tables.{IsUnused, in_context, is_armed_on, runs_on, timer_at}
 use Rattle.seq_timer.specs.declared.context.Context.TheVariants as contexts
 use Rattle.seq_timer.specs.declared.standing.BaseEvent.{BaseEvent}
 use Rattle.seq_timer.specs.declared.standing.BaseEvent.TheVariants as shifts
 use Rattle.seq_timer.specs.declared.system.SystemEntry.{SystemEntry}
+use Rattle.seq_timer.specs.declared.system.SystemEntry.TheVariants as entries
+use Rattle.seq_timer.specs.declared.system.TimerEntry.{TimerEntry}
 use Rattle.base_row.specs.declared.log.Receipt.{Receipt}
 use Rattle.base_row.specs.declared.view.BaseView.{BaseView}
+use Rattle.base_row.specs.declared.view.HeldContent.{HeldContent}
 use Rattle.base_row.specs.declared.view.Opening.{Opening}
 use Rattle.base_row.specs.Calls as rows
 use Rattle.base_row.specs.Rules.{base_place}
@@ -32,7 +35,7 @@ use Rattle.hr_timers.specs.declared.evacuating.Turn.TheVariants as turns
 use Rattle.hr_timers.specs.declared.moving.Arrival.{Arrival}
 use Rattle.hr_timers.specs.Known.{AddsBehind, KnownOfTimers, MadeAt, timer_then}
 use Rattle.hr_timers.specs.Logged.{IsLogged}
-use Rattle.hr_timers.specs.Ways.{Falls, IsSentBy, IsWay, bits_of, last_of, standing_then, start_on}
+use Rattle.hr_timers.specs.Ways.{Falls, IsSentBy, IsSentOn, bits_of, last_of, standing_then, start_on}
 
 -- how a start has ended that left its timer so: it sent the timer to these bases in turn, and asked for this one last
 abbrev pub arrival_of : Timer → List ℕ → ℕ → Arrival
@@ -51,6 +54,22 @@ pub record ShiftsBase (o : Opening) (v w : KnownOfTimers) (base : ℕ) (event : 
   pub mine : w.mine ≡ v.mine ++ (base_place (length o.timers) base, length (shifts_of base v.seen) + 1) ∷ []
   pub id : w.id ≡ v.id
   pub claims : w.claims ≡ v.claims
+
+-- the entry that stands right behind these is of this timer
+abbrev pub IsNextOf : ℕ → List SystemEntry → List SystemEntry → Type 0
+IsNextOf t at seen = (e : TimerEntry) × (e.timer ≡ t) × Begins (at ++ entries.Timer e ∷ []) seen
+
+-- what a pass knows, but for what it has seen behind these entries
+abbrev pub seen_by : BaseView BaseContent → List SystemEntry → KnownOfTimers
+seen_by v x = record (rows.known_of v) { seen = x }
+
+-- The next entry stands right behind these, and is of this timer. Of the timer the pass had seen all of them, and the base that it held was as it held it.
+pub record StandsBehind (o : Opening) (v w : KnownOfTimers) (t : ℕ) (h : HeldContent BaseContent) : Type 0 where
+  pub at : List SystemEntry
+  pub from : Begins v.seen at
+  pub own : entries_of t at ≡ entries_of t v.seen
+  pub next : IsNextOf t at w.seen
+  pub base : (system_after o.timers at).bases h.base ≡ h.content
 
 -- the entries of a move of a timer to an heir
 abbrev pub move_entries : Timer → ℕ → ClockReading → List seq.Entry
@@ -98,28 +117,33 @@ pub record OnlyLooks {A : Type 0} (v w : KnownOfTimers) (s s' : A) : Type 0 wher
 
 module _ {A : Type 0} (put : A → Receipt → A) (o : Opening) where
   module _ (v w : BaseView BaseContent) (t : ℕ) (asked : Asked) where
-    -- a timer that a pass carries to the base that was asked for was started there, or on one that it was sent on to
+    -- a timer that a pass carries to the base that was asked for was started there, or on one that it was sent on to, whenever that base was on line before
     pub record Arrives (a : Arrival) (s s' : A) : Type 0 where
       pub outs : List ℕ
       pub falls : Falls asked.base outs
-      pub way : IsWay o v.seen w.seen asked.base outs (last_of asked.base outs)
+      pub way : (low : List SystemEntry) → Begins low v.seen → (standing_then o low asked.base).heir ≡ None
+          → IsSentOn o w.seen t low (rows.timer_seen o v t).stamp asked.base outs (last_of asked.base outs)
       pub told : a ≡ arrival_of (step_all (rows.timer_seen o v t) (start_on asked outs (last_of asked.base outs))) outs (last_of asked.base outs)
       pub adds : AddsBehind v w t (entries_along (rows.timer_seen o v t) (start_on asked outs (last_of asked.base outs)))
       pub logged : IsLogged put o t v.seen (entries_along (rows.timer_seen o v t) (start_on asked outs (last_of asked.base outs))) s s'
 
-    -- a start was made: the timer was sent to these bases in turn, and started on the last, or where it was
+    -- a start was made: the timer was sent to these bases in turn, and started on the last, or where it was; whenever the base that it asked for was on line
+    -- before
     pub record StartsBy (a : Arrival) (s s' : A) : Type 0 where
       pub sent : List ℕ
       pub last : ℕ
-      pub on_way : IsSentBy o v.seen w.seen asked.base sent last
+      pub on_way : (low : List SystemEntry) → Begins low v.seen → (standing_then o low asked.base).heir ≡ None
+          → IsSentBy o w.seen t low (rows.timer_seen o v t).stamp asked.base sent last
       pub told : a ≡ arrival_of (step_all (rows.timer_seen o v t) (start_on asked sent last)) sent last
       pub adds : AddsBehind v w t (entries_along (rows.timer_seen o v t) (start_on asked sent last))
       pub logged : IsLogged put o t v.seen (entries_along (rows.timer_seen o v t) (start_on asked sent last)) s s'
 
   module _ (base heir : ℕ) (reading : ClockReading) where
-    -- a timer that was armed on the base, where no function ran, was moved to the heir; nothing more was seen of any base
+    -- a timer that was armed on the base, where no function ran, was moved to the heir: it was the next to be moved at the place of its own Out; nothing more
+    -- was seen of any base
     pub record MovesTimer (v w : KnownOfTimers) (t : ℕ) (s s' : A) : Type 0 where
       pub at : List SystemEntry
+      pub next : IsNextOf t at w.seen
       pub idle : RunsNone o at base
       pub armed : is_armed_on base (timer_then o at t) ≡ true
       pub front : IsFront o at base t
@@ -156,14 +180,14 @@ module _ {A : Type 0} (put : A → Receipt → A) (o : Opening) where
     EndFits v w goes_on moved (offs.HeirOffline n) s s' = ⊥
     EndFits v w goes_on moved (offs.BaseSpent n) s s' = ⊥
 
-    -- at most so many timers were moved, and then a turn ended it; so many were moved before
-    pub record Evacuates (v w : KnownOfTimers) (left before : ℕ) (a : OfflineAnswer) (s s' : A) : Type 0 where
+    -- at most so many timers were moved, and then a turn ended it
+    pub record Evacuates (v w : KnownOfTimers) (budget : ℕ) (a : OfflineAnswer) (s s' : A) : Type 0 where
       pub timers : List ℕ
       pub mid : KnownOfTimers
       pub between : A
       pub moves : AreMoved v timers mid s between
-      pub few : length timers ≤ left
-      pub last : EndFits mid w (nat_lt 0 (left - length timers)) (before + length timers) a between s'
+      pub few : length timers ≤ budget
+      pub last : EndFits mid w (nat_lt (length timers) budget) (length timers) a between s'
 
     -- the base might go off line, and after looks its timers were moved
     pub record GoesOffline (v w : KnownOfTimers) (budget : ℕ) (a : OfflineAnswer) (s s' : A) : Type 0 where
@@ -171,7 +195,7 @@ module _ {A : Type 0} (put : A → Receipt → A) (o : Opening) where
       pub begins : KnownOfTimers
       pub looks : LooksOn v begins
       pub keeps : KeepsBases v begins
-      pub evacuates : Evacuates begins w budget 0 a s s'
+      pub evacuates : Evacuates begins w budget a s s'
 
     -- what taking a base off line answers, where at most so many timers may be moved
     abbrev pub OfflineFits : KnownOfTimers → KnownOfTimers → ℕ → OfflineAnswer → A → A → Type 0

@@ -1,5 +1,5 @@
--- How a start goes from base to base: it is sent on from bases that are off line, to their heirs.
-use Rattle.std.specs.Prelude.{ℕ, ◌≡◌, ◌+◌, ◌<◌, ◌^◌, nat_lt, List, [], ◌∷◌, Some, if◌then◌else◌}
+-- How a start goes from base to base: it is sent on from bases that are off line, to their heirs, and each base that its entries name was found on line.
+use Rattle.std.specs.Prelude.{ℕ, ◌≡◌, ◌+◌, ◌<◌, ◌≤◌, ◌^◌, nat_lt, List, [], ◌∷◌, Option, Some, None, if◌then◌else◌}
 use Rattle.pass_names.specs.Passes.{Begins}
 use Rattle.seq_timer.specs.Events.{Asked, Event}
 use Rattle.seq_timer.specs.declared.context.Terms.{Terms}
@@ -8,6 +8,7 @@ use Rattle.seq_timer.specs.declared.standing.Standing.{Standing}
 use Rattle.seq_timer.specs.declared.system.SystemEntry.{SystemEntry}
 use Rattle.seq_timer.specs.Systems.{system_after}
 use Rattle.base_row.specs.declared.view.Opening.{Opening}
+use Rattle.hr_timers.specs.Known.{timer_then}
 
 -- the same request for another base
 abbrev pub asking : Asked → ℕ → Asked
@@ -41,22 +42,37 @@ Falls base (b ∷ bs) = (b < base) × Falls b bs
 abbrev pub standing_then : Opening → List SystemEntry → ℕ → Standing
 standing_then o x b = ((system_after o.timers x).bases b).standing
 
--- at a moment between these two the base was off line with this heir
-pub record WasOff (o : Opening) (low high : List SystemEntry) (base heir : ℕ) : Type 0 where
-  pub at : List SystemEntry
+-- at this moment, no earlier than that one, the base had this heir, or was on line
+pub record Stood (o : Opening) (low at : List SystemEntry) (base : ℕ) (heir : Option ℕ) : Type 0 where
   pub from : Begins low at
-  pub to : Begins at high
-  pub off : (standing_then o at base).heir ≡ Some heir
+  pub stood : (standing_then o at base).heir ≡ heir
 
--- from the one base the other is reached by these heirs in turn
-abbrev pub IsWay : Opening → List SystemEntry → List SystemEntry → ℕ → List ℕ → ℕ → Type 0
-IsWay o low high a [] b = a ≡ b
-IsWay o low high a (c ∷ cs) b = WasOff o low high a c × IsWay o low high c cs b
+-- From the one base the other is reached by these heirs in turn: each base was off line with the next as its heir, and the last was on line, at moments that
+-- never go back. The last of them is `at`.
+abbrev pub IsWay : Opening → List SystemEntry → ℕ → List ℕ → ℕ → List SystemEntry → Type 0
+IsWay o low a [] b at = (a ≡ b) × Stood o low at a None
+IsWay o low a (c ∷ cs) b at = (x : List SystemEntry) × Stood o low x a (Some c) × IsWay o x c cs b at
 
--- the bases that a start was sent to, and the one that it asked for last: each is the one that was asked for, or is reached from it by heirs
-abbrev pub IsSentBy : Opening → List SystemEntry → List SystemEntry → ℕ → List ℕ → ℕ → Type 0
-IsSentBy o low high asked [] last = (path : List ℕ) × IsWay o low high asked path last
-IsSentBy o low high asked (b ∷ bs) last = ((path : List ℕ) × IsWay o low high asked path b) × IsWay o low high b bs last × Falls b bs
+-- a call that has seen so much by its end, of a timer
+module _ (o : Opening) (high : List SystemEntry) (t : ℕ) where
+  -- the one base was reached from the other, and found on line, before the timer had more than n entries
+  pub record Finds (low : List SystemEntry) (n a b : ℕ) : Type 0 where
+    pub path : List ℕ
+    pub at : List SystemEntry
+    pub way : IsWay o low a path b at
+    pub seen : Begins at high
+    pub few : (timer_then o at t).stamp ≤ n
+
+  -- from the base to which the timer was sent it was sent on to these in turn, each the heir of the one before; the last was asked for
+  abbrev pub IsSentOn : List SystemEntry → ℕ → ℕ → List ℕ → ℕ → Type 0
+  IsSentOn low n a [] last = a ≡ last
+  IsSentOn low n a (b ∷ bs) last = (f : Finds low n a b) × (f.path ≡ b ∷ []) × IsSentOn f.at (n + 1) b bs last
+
+  -- The bases that a start was sent to, and the one that it asked for last: each was found on line before the entry that names it. The timer had n entries
+  -- before.
+  abbrev pub IsSentBy : List SystemEntry → ℕ → ℕ → List ℕ → ℕ → Type 0
+  IsSentBy low n asked [] last = Finds low n asked last
+  IsSentBy low n asked (b ∷ bs) last = (f : Finds low n asked b) × IsSentOn f.at (n + 1) b bs last × Falls b bs
 
 -- a timer that is on its way to this base gets at most so many entries until it has arrived: a timer with a reach may be sent on to each base below
 abbrev pub most_to_arrive : Terms → ℕ → ℕ

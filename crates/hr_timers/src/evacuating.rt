@@ -5,7 +5,7 @@ ghost use Rattle.seq_timer.specs.Calls.{asked_for};
 ghost use Rattle.seq_timer.specs.Contents.{running_in};
 ghost use Rattle.seq_timer.specs.Standings.{MayShift};
 ghost use Rattle.seq_timer.specs.Steps.{Needs};
-ghost use Rattle.seq_timer.specs.Systems.{IsClear};
+ghost use Rattle.seq_timer.specs.Systems.{HasHeirOnLine, IsClear};
 ghost use Rattle.seq_timer.specs.Tables.{IsUnused};
 ghost use Rattle.seq_timer.specs.declared.context.Context.{Context};
 ghost use Rattle.seq_timer.specs.declared.event.EventBy.TheVariants.{Out, Start};
@@ -14,7 +14,7 @@ ghost use Rattle.base_row.specs.Calls.{IsBasePassOf, base_seen, known_of, timer_
 ghost use Rattle.hr_timers.specs.Calls.{entry_by};
 ghost use Rattle.hr_timers.specs.Known.{AddsBehind, HoldsBase, HoldsTimer, IsAtRest, IsEvacuable, LocksGoOnIn};
 ghost use Rattle.hr_timers.specs.Logged.{IsLogged};
-ghost use Rattle.hr_timers.specs.Moves.{Evacuates, RunsFirstIn, KeepsBases, MayGoOffline, OfflineFits, OnlineFits, ShiftsBase, TurnFits, move_entries};
+ghost use Rattle.hr_timers.specs.Moves.{Evacuates, RunsFirstIn, KeepsBases, MayGoOffline, OfflineFits, OnlineFits, ShiftsBase, StandsBehind, TurnFits, move_entries};
 
 use crate::answer::{OfflineAnswer, OnlineAnswer};
 use crate::moving::{send, settle};
@@ -77,7 +77,7 @@ pub fn go_offline<R: Wait, S: ReceiptSink>(
     if stamp >= LAST_STANDING {
         return OfflineAnswer::BaseSpent { stamp };
     }
-    evacuate(rt, row, pass, sink, base, heir, reading, budget, 0)
+    evacuate(rt, row, pass, sink, base, heir, reading, budget)
 }
 
 /// Takes a base on line again, or says that it is.
@@ -102,7 +102,7 @@ pub fn go_online<R: Wait>(rt: &R, row: &BaseRow, pass: &mut Pass, base: u32) -> 
     OnlineAnswer::AlreadyOnline { stamp }
 }
 
-/// Takes a base off line, turn by turn, moving at most so many timers more.
+/// Takes a base off line, turn by turn, moving at most so many timers.
 fn evacuate<R: Wait, S: ReceiptSink>(
     rt: &R,
     row: &BaseRow,
@@ -111,45 +111,40 @@ fn evacuate<R: Wait, S: ReceiptSink>(
     base: u32,
     heir: u32,
     reading: Reading,
-    left: u32,
-    moved: u32,
+    budget: u32,
 ) -> OfflineAnswer
     requires rest { IsAtRest row.now pass.old }
     requires first { pass.old.knows.id.name ≡ [] }
     requires bases { (base < row.now.about.bases) × (heir < base) × (row.now.about.bases ≤ 64) }
     requires may { MayGoOffline row.now.about base heir (known_of pass.old.knows) }
     requires reach { IsEvacuable row.now.about }
-    requires few { left + moved < 2 ^ 32 }
-    requires room { 2 * left ≤ S.room sink.old }
+    requires room { 2 * budget ≤ S.room sink.old }
     ensures rest { IsAtRest row.now pass.new }
     ensures ends { Evacuates S.pushed row.now.about base heir reading
-        (known_of pass.old.knows) (known_of pass.new.knows) left moved result sink.old sink.new }
+        (known_of pass.old.knows) (known_of pass.new.knows) budget result sink.old sink.new }
     ensures locks { LocksGoOnIn pass.old.knows pass.new.knows }
 {
-    match take_turn(rt, row, pass, sink, base, heir, reading, left > 0) {
-        Turn::Busy { timer, generation } => OfflineAnswer::Busy {
-            moved,
-            timer,
-            generation,
-        },
-        Turn::Off { stamp } => OfflineAnswer::Offline { moved, stamp },
-        Turn::Left { .. } => OfflineAnswer::More { moved },
-        Turn::Spent { timer, stamp } => OfflineAnswer::Spent {
-            moved,
-            timer,
-            stamp,
-        },
-        Turn::Moved { .. } => evacuate(
-            rt,
-            row,
-            pass,
-            sink,
-            base,
-            heir,
-            reading,
-            left - 1,
-            moved + 1,
-        ),
+    let mut moved = 0;
+    loop {
+        match take_turn(rt, row, pass, sink, base, heir, reading, moved < budget) {
+            Turn::Moved { .. } => moved += 1,
+            Turn::Busy { timer, generation } => {
+                return OfflineAnswer::Busy {
+                    moved,
+                    timer,
+                    generation,
+                };
+            }
+            Turn::Off { stamp } => return OfflineAnswer::Offline { moved, stamp },
+            Turn::Left { .. } => return OfflineAnswer::More { moved },
+            Turn::Spent { timer, stamp } => {
+                return OfflineAnswer::Spent {
+                    moved,
+                    timer,
+                    stamp,
+                };
+            }
+        }
     }
 }
 
@@ -201,6 +196,7 @@ fn take_turn<R: Wait, S: ReceiptSink>(
                 return Turn::Spent { timer, stamp };
             }
             move_one(rt, row, pass, sink, held, timer, &state, heir, reading);
+            pass.known();
             Turn::Moved { timer }
         }
     }
@@ -250,6 +246,7 @@ fn move_one<R: Wait, S: ReceiptSink>(
     ensures claims { pass.new.knows.claims ≡ pass.old.knows.claims }
     ensures keeps { KeepsBases (known_of pass.old.knows) (known_of pass.new.knows) }
     ensures adds { AddsBehind pass.old.knows pass.new.knows timer (move_entries state.now heir reading) }
+    ensures place { StandsBehind row.now.about (known_of pass.old.knows) (known_of pass.new.knows) timer held }
     ensures logged { IsLogged S.pushed row.now.about timer pass.old.knows.seen (move_entries state.now heir reading) sink.old sink.new }
     ensures locks { LocksGoOnIn pass.old.knows pass.new.knows }
     ensures room { S.room sink.old ≤ S.room sink.new + 2 }
@@ -312,6 +309,7 @@ fn shift_held(row: &BaseRow, pass: &mut Pass, held: HeldBase, event: BaseEvent)
     requires first { pass.old.knows.id.name ≡ [] }
     requires may { MayShift held.base held.content.standing event }
     requires clear { IsClear held.content event }
+    requires heir { HasHeirOnLine (base_seen row.now.about pass.old.knows) event }
     requires reach { IsEvacuable row.now.about }
     ensures rest { IsAtRest row.now pass.new }
     ensures shifts { ShiftsBase row.now.about (known_of pass.old.knows) (known_of pass.new.knows) held.base event }

@@ -7,7 +7,7 @@ ghost use Rattle.base_row.specs.Plays.{Steady};
 ghost use Rattle.hr_timers.specs.Known.{AddsBehind, HoldsTimer, IsAtRest, LocksGoOnIn, OnlySeesMore};
 ghost use Rattle.hr_timers.specs.Calls.{entry_by};
 ghost use Rattle.hr_timers.specs.Logged.{IsLogged};
-ghost use Rattle.hr_timers.specs.Moves.{Arrives, KeepsBases, StartsBy, arrival_of};
+ghost use Rattle.hr_timers.specs.Moves.{Arrives, KeepsBases, StandsBehind, StartsBy, arrival_of};
 ghost use Rattle.hr_timers.specs.Ways.{IsWay, most_to_arrive, most_to_start};
 
 use crate::asked::one_bit;
@@ -38,7 +38,7 @@ pub fn chase(row: &BaseRow, pass: &mut Pass, base: u32) -> u32
     ensures held { pass.new.knows.held ≡ pass.old.knows.held }
     ensures steady { Steady pass.old.knows pass.new.knows }
     ensures low { result ≤ base }
-    ensures way { (path : List ℕ) × IsWay row.now.about pass.old.knows.seen pass.new.knows.seen base path result }
+    ensures way { (path : List ℕ) × IsWay row.now.about pass.old.knows.seen base path result pass.new.knows.seen }
 {
     let standing = row.load_standing(pass, base);
     match standing.heir {
@@ -96,6 +96,7 @@ pub fn send<S: ReceiptSink>(
     ensures after { result ≡ after (timer_seen row.now.about pass.old.knows timer) (Out to) }
     ensures state { result ≡ timer_seen row.now.about pass.new.knows timer }
     ensures adds { AddsBehind pass.old.knows pass.new.knows timer (entry_by (timer_seen row.now.about pass.old.knows timer) (Out to) ∷ []) }
+    ensures place { StandsBehind row.now.about (known_of pass.old.knows) (known_of pass.new.knows) timer held }
     ensures logged { IsLogged S.pushed row.now.about timer pass.old.knows.seen
         (entry_by (timer_seen row.now.about pass.old.knows timer) (Out to) ∷ []) sink.old sink.new }
     ensures locks { LocksGoOnIn pass.old.knows pass.new.knows }
@@ -132,6 +133,7 @@ fn bring<R: Wait, S: ReceiptSink>(
     ensures room { S.room sink.old ≤ S.room sink.new + most_to_arrive state.now.terms asked.now.base }
 {
     let held = lock(rt, row, pass, asked.base);
+    pass.known();
     let standing = row.standing(pass, &held);
     match standing.heir {
         None => settle(row, pass, sink, held, timer, state, asked),

@@ -1,15 +1,17 @@
 //! Starting a timer: on the base where it is, or by a move to the base that is asked for, and from a base that is off line to its heir.
-ghost use Rattle.std.specs.Prelude.{◌≡◌, ◌<◌, ◌≤◌, ◌+◌, None, [], ◌∷◌, false, is_some, length, if◌then◌else◌};
+ghost use Rattle.std.specs.Prelude.{◌≡◌, ◌<◌, ◌≤◌, ◌+◌, List, None, [], ◌∷◌, false, is_some, length, if◌then◌else◌};
+ghost use Rattle.pass_names.specs.Passes.{Begins};
 ghost use Rattle.seq_timer.specs.Calls.{moves_first};
 ghost use Rattle.seq_timer.specs.declared.event.EventBy.TheVariants.{Start};
 ghost use Rattle.seq_timer.specs.Steps.{after};
+ghost use Rattle.seq_timer.specs.declared.system.SystemEntry.{SystemEntry};
 ghost use Rattle.seq_timer.specs.Tables.{timer_at};
 ghost use Rattle.base_row.specs.Calls.{known_of, timer_seen};
 ghost use Rattle.hr_timers.specs.Known.{AddsBehind, HoldsTimer, IsAtRest, LocksGoOnIn};
 ghost use Rattle.hr_timers.specs.Calls.{entry_by};
 ghost use Rattle.hr_timers.specs.Logged.{HasRoomToStart, IsLogged, StartsLogged};
-ghost use Rattle.hr_timers.specs.Moves.{StartsBy, arrival_of};
-ghost use Rattle.hr_timers.specs.Ways.{most_to_start};
+ghost use Rattle.hr_timers.specs.Moves.{StartsBy, arrival_of, seen_by};
+ghost use Rattle.hr_timers.specs.Ways.{most_to_start, standing_then};
 
 use crate::answer::StartAnswer;
 use crate::asked::moves_first;
@@ -45,7 +47,7 @@ pub fn start<R: Wait, S: ReceiptSink>(
     start_held(rt, row, pass, sink, held, timer, &to)
 }
 
-/// Starts a timer of a held base, and lets the base go.
+/// Starts a timer of a held base, and lets the base go. The base that it asks for was on line at some moment before.
 fn start_held<R: Wait, S: ReceiptSink>(
     rt: &R,
     row: &BaseRow,
@@ -60,7 +62,8 @@ fn start_held<R: Wait, S: ReceiptSink>(
     requires room { (if is_some (timer_seen row.now.about pass.old.knows timer).running then 1
         else most_to_start (timer_seen row.now.about pass.old.knows timer).terms asked.now.base) ≤ S.room sink.old }
     ensures rest { IsAtRest row.now pass.new }
-    ensures starts { StartsLogged S.pushed row.now.about (known_of pass.old.knows) (known_of pass.new.knows) timer asked.now result sink.old sink.new }
+    ensures starts { (low : List SystemEntry) → Begins low pass.old.knows.seen → (standing_then row.now.about low asked.now.base).heir ≡ None
+        → StartsLogged S.pushed row.now.about (seen_by pass.old.knows low) (known_of pass.new.knows) timer asked.now result sink.old sink.new }
     ensures locks { LocksGoOnIn pass.old.knows pass.new.knows }
     ensures room { S.room sink.old ≤ S.room sink.new + most_to_start (timer_seen row.now.about pass.old.knows timer).terms asked.now.base }
 {
@@ -102,6 +105,7 @@ fn enter_start<R: Wait, S: ReceiptSink>(
     ensures locks { LocksGoOnIn pass.old.knows pass.new.knows }
     ensures room { S.room sink.old ≤ S.room sink.new + most_to_start (timer_seen row.now.about pass.old.knows timer).terms asked.now.base }
 {
+    pass.known();
     let standing = row.standing(pass, &held);
     match standing.heir {
         Some(heir) if held.base() == asked.base => {

@@ -10,7 +10,7 @@ use Rattle.seq_timer.specs.Systems.{after_entry, changed}
 use Rattle.seq_timer.specs.Tables.{runs_on}
 use Rattle.run_history.specs.Actions.{Entered}
 use Rattle.run_history.specs.Deeds.{evacuates}
-use Rattle.run_history.specs.Truths.{RanNone, WasFront}
+use Rattle.run_history.specs.Truths.{RanNone, LeftInTurn}
 use Rattle.run_history.specs.Fits.{Fits}
 use Rattle.run_history.specs.Histories.{timer_after}
 use Rattle.run_history.specs.Witnesses.{Evacuation, TimersList, Trace, Witness, witness_with}
@@ -21,7 +21,7 @@ use Rattle.run_cases.specs.Wrong.{running_moved_record}
 use Rattle.run_cases.proofs.Calls.{right, right_moving}
 use Rattle.run_cases.proofs.Small.{fits_by}
 use Rattle.run_cases.proofs.Tests.{le, lt}
-use Rattle.run_cases.proofs.Witnesses.{armed_as, did, done_by, fired, none_along, none_then, ran, step, two, witness_along}
+use Rattle.run_cases.proofs.Witnesses.{on_line, armed_as, did, done_by, fired, none_along, none_then, ran, step, two, witness_along}
 
 -- ---- the timer is moved before the function began
 
@@ -72,7 +72,7 @@ busy_fits = fits_by busy_witness (record {
         refl,
         refl,
         refl,
-        record { below = le refl; next = (refl, tt); way = (([], refl), refl, tt) },
+        record { below = le refl; next = (refl, tt); way = (on_line refl refl refl refl, refl, tt) },
       ) (refl, tt) tt)
       (two (right refl refl refl (refl, (refl, tt)) (refl, (refl, tt)) (refl, (refl, tt)) (
         record (armed_as 2 1 50 50) { outs = record { base = 1; number = 1; was_armed = false } ∷ [] },
@@ -80,7 +80,7 @@ busy_fits = fits_by busy_witness (record {
         refl,
         refl,
         refl,
-        record { below = le refl; next = (refl, tt); way = (([], refl), refl, tt) },
+        record { below = le refl; next = (refl, tt); way = (on_line refl refl refl refl, refl, tt) },
       ) (refl, tt) tt)
       (two (right refl refl refl (refl, (refl, tt)) (refl, (refl, tt)) (refl, (refl, tt)) refl (refl, tt) (record { stamp = refl; holds = refl }))
       (two (right_moving refl refl refl (refl, (refl, tt)) (refl, (refl, tt)) (refl, (refl, tt)) (record { counted = refl; done = refl }, le refl) (
@@ -91,6 +91,7 @@ busy_fits = fits_by busy_witness (record {
             from = le refl;
             to = le refl;
             stamp = refl;
+            next = refl;
             idle = none_along busy_witness 4 (runs_on 1) refl refl (refl, (refl, tt));
             front = (50, refl);
           },
@@ -111,7 +112,7 @@ busy_fits = fits_by busy_witness (record {
 -- ---- it is moved while the function runs
 
 -- a call that moved one timer off a base did so at a moment at which no function ran there
-one_moved : (w : Witness) (first last base : ℕ) (moved : List Evacuation) → 1 ≡ length moved → AllByRecursion (WasFront w first last base) moved
+one_moved : (w : Witness) (first last base : ℕ) (moved : List Evacuation) → 1 ≡ length moved → AllByRecursion (LeftInTurn w first last base) moved
     → (n : ℕ) × (first ≤ n) × (n ≤ last) × RanNone w base n
 one_moved w first last base [] one turns = absurd (cc)
 one_moved w first last base (e ∷ moved) one turns = (turns.0.at, turns.0.from, turns.0.to, turns.0.idle)

@@ -14,7 +14,7 @@ use Rattle.run_history.specs.Objects.{lines_of_object}
 use Rattle.run_history.specs.Order.{CallInRound}
 use Rattle.run_history.specs.Calls.{Does, AnswerHolds}
 use Rattle.run_history.specs.Deeds.{AllKeepExpiries, AllMoved}
-use Rattle.run_history.specs.Truths.{AreTrue, WasFront, WasOffLine}
+use Rattle.run_history.specs.Truths.{AreTrue, LeftInTurn, sight_of}
 use Rattle.run_history.specs.Witnesses.{Witness, labels, writes_along}
 use Rattle.run_history.specs.Fits.{FitsLane, HasRead, ReadsInTurn, Seen}
 use Rattle.run_history.specs.Traces.{all_entered, HasTraced, own_moves}
@@ -59,10 +59,10 @@ seen_then w c before = record { clock = clock_then w c; moves = (w.traces c).las
 -- what else makes a call fit
 pub record IsRight (w : Witness) (c : Label) (call : Call) (answer : Answer) : Type 0 where
   pub traced : HasTraced w c (w.traces c).actions
-  pub does : Does (WasOffLine w (w.traces c).first (w.traces c).last) w.script (w.traces c).at call answer (w.traces c).fired (w.traces c).moved
+  pub does : Does (sight_of w (w.traces c).first (w.traces c).last) w.script (w.traces c).at call answer (w.traces c).fired (w.traces c).moved
       (w.traces c).actions
   pub keeps : AllKeepExpiries w.script w.run call (w.traces c).moved
-  pub turns : AllMoved (WasFront w (w.traces c).first (w.traces c).last) call (w.traces c).moved
+  pub turns : AllMoved (LeftInTurn w (w.traces c).first (w.traces c).last) call (w.traces c).moved
   pub truth : AreTrue w c (w.traces c).first [] (w.traces c).actions (w.traces c).last
   pub holds : AnswerHolds w (w.traces c).first (w.traces c).last c (w.traces c).at (w.traces c).actions call answer
 
@@ -154,8 +154,8 @@ pub right_moving : {w : Witness} {c : Label} {call : Call} {answer : Answer} →
     → Along (λ t. own_looks c 1 (lines_of_timer w.run t) ≡ looked t (w.traces c).actions) 0 w.run.timers
     → Along (λ i. own (λ line. line.label) (λ line. line.entry) c 1 (lines_of_object w.run i) ≡ made i (w.traces c).actions) 0 w.run.objects
     → Along (λ i. own_skips c 1 (lines_of_object w.run i) ≡ skipped i (w.traces c).actions) 0 w.run.objects
-    → Does (WasOffLine w (w.traces c).first (w.traces c).last) w.script (w.traces c).at call answer (w.traces c).fired (w.traces c).moved (w.traces c).actions
-    → AllKeepExpiries w.script w.run call (w.traces c).moved × AllMoved (WasFront w (w.traces c).first (w.traces c).last) call (w.traces c).moved
+    → Does (sight_of w (w.traces c).first (w.traces c).last) w.script (w.traces c).at call answer (w.traces c).fired (w.traces c).moved (w.traces c).actions
+    → AllKeepExpiries w.script w.run call (w.traces c).moved × AllMoved (LeftInTurn w (w.traces c).first (w.traces c).last) call (w.traces c).moved
     → (are_timed w c (w.traces c).first [] (w.traces c).actions (w.traces c).last ≡ true) × AreTold w c [] (w.traces c).actions
     → AnswerHolds w (w.traces c).first (w.traces c).last c (w.traces c).at (w.traces c).actions call answer
     → IsRight w c call answer
@@ -190,7 +190,7 @@ pub right : {w : Witness} {c : Label} {call : Call} {answer : Answer} → (nat_e
     → Along (λ t. own_looks c 1 (lines_of_timer w.run t) ≡ looked t (w.traces c).actions) 0 w.run.timers
     → Along (λ i. own (λ line. line.label) (λ line. line.entry) c 1 (lines_of_object w.run i) ≡ made i (w.traces c).actions) 0 w.run.objects
     → Along (λ i. own_skips c 1 (lines_of_object w.run i) ≡ skipped i (w.traces c).actions) 0 w.run.objects
-    → Does (WasOffLine w (w.traces c).first (w.traces c).last) w.script (w.traces c).at call answer (w.traces c).fired (w.traces c).moved (w.traces c).actions
+    → Does (sight_of w (w.traces c).first (w.traces c).last) w.script (w.traces c).at call answer (w.traces c).fired (w.traces c).moved (w.traces c).actions
     → (are_timed w c (w.traces c).first [] (w.traces c).actions (w.traces c).last ≡ true) × AreTold w c [] (w.traces c).actions
     → AnswerHolds w (w.traces c).first (w.traces c).last c (w.traces c).at (w.traces c).actions call answer
     → IsRight w c call answer
@@ -202,5 +202,5 @@ right {w} {c} {call} {answer} said clock moves looks objects skips does truth se
     truth seen
   where
     none : (w.traces c).moved ≡ []
-        → AllKeepExpiries w.script w.run call (w.traces c).moved × AllMoved (WasFront w (w.traces c).first (w.traces c).last) call (w.traces c).moved
+        → AllKeepExpiries w.script w.run call (w.traces c).moved × AllMoved (LeftInTurn w (w.traces c).first (w.traces c).last) call (w.traces c).moved
     none is = (subst (AllMoved _ call) (sym is) (none_moved _ call), subst (AllMoved _ call) (sym is) (none_moved _ call))

@@ -10,6 +10,7 @@ use Rattle.record_text.specs.declared.record.ObjectEntry.TheVariants as object_e
 use Rattle.record_text.specs.declared.record.ObjectEntry.{ObjectEntry}
 use Rattle.script_text.specs.Declarations.{kind_of}
 use Rattle.script_text.specs.declared.script.Script.{Script}
+use Rattle.run_history.specs.Starts.{Sight}
 use Rattle.run_history.specs.Actions.{Action, also, Entered, entered, made, Skipped}
 use Rattle.run_history.specs.Deeds.{IsBody, IsExpiryRun, IsTrigger, fires}
 use Rattle.run_history.specs.Truths.{AreTrue}
@@ -30,10 +31,10 @@ pub record IsOne (base reading : ℕ) (fired : List Fired) (actions : List Actio
   pub done : actions ≡ Entered one.timer one.claim (claim_of base reading one) ∷ (one.body ++ Entered one.timer one.finish (finish_of one) ∷ [])
   pub trigger : IsTrigger reading one
 
-module _ {Reached : ℕ → ℕ → Type 0} {s : Script} {x : Context} {reading base shown : ℕ} {actions : List Action} where
+module _ {sight : Sight} {s : Script} {x : Context} {reading base shown : ℕ} {actions : List Action} where
   -- law: a run that claimed timer 0 alone, which is an object's, has one callback
-  pub fired_one : (fired : List Fired) → IsExpiryRun Reached s x reading base fired shown (0 ∷ []) actions
-      → ((f : Fired) → IsBody Reached s.limit (kind_of s 0) reading f → IsTrigger reading f) → IsOne base reading fired actions
+  pub fired_one : (fired : List Fired) → IsExpiryRun sight s x reading base fired shown (0 ∷ []) actions
+      → ((f : Fired) → IsBody sight s.limit (kind_of s 0) reading f → IsTrigger reading f) → IsOne base reading fired actions
   fired_one [] run is_object = absurd (let none = run.claimed in cc)
   fired_one (f ∷ g ∷ fs) run is_object = absurd (let many = run.claimed in cc)
   fired_one (f ∷ []) run is_object =
@@ -42,7 +43,7 @@ module _ {Reached : ℕ → ℕ → Type 0} {s : Script} {x : Context} {reading 
         one = f;
         timer = sym timer;
         done = run.done ∙ append-nil (fires base reading f);
-        trigger = is_object f (subst (λ t. IsBody Reached s.limit (kind_of s t) reading f) (sym timer) run.bodies.0);
+        trigger = is_object f (subst (λ t. IsBody sight s.limit (kind_of s t) reading f) (sym timer) run.bodies.0);
       }
 
 module _ {base reading : ℕ} {fired : List Fired} {actions : List Action} (o : IsOne base reading fired actions) where

@@ -20,7 +20,7 @@ use Rattle.run_history.specs.Histories.{answers_of}
 use Rattle.run_cases.specs.Fitting.{accept_entry, accepted_record, accepted_script, beside, beside_script, cancelled_record, expired_lines, idle_record, idle_script, kept_start, late_record, moved_record, moved_script, moved_start, rearming_start, none_entry, running_record, set_entry, told_record, told_script, trigger_entry}
 use Rattle.run_cases.specs.Lines.{at, start, cancel_entry, out_entry}
 use Rattle.run_cases.proofs.Calls.{are_placed, IsRight, right}
-use Rattle.run_cases.proofs.Witnesses.{set_anew, armed_as, armed_by, did, done_by, fired, ran, stays, step, three, turn_of, two, witness_along, witness_by}
+use Rattle.run_cases.proofs.Witnesses.{on_line, set_anew, armed_as, armed_by, did, done_by, fired, ran, stays, step, three, turn_of, two, witness_along, witness_by}
 use Rattle.run_cases.proofs.Small.{fits_by}
 use Rattle.run_cases.proofs.Tests.{le, lt, point_passes}
 
@@ -48,7 +48,7 @@ idle_fits = fits_by idle_witness (record {
   object_histories = (refl, tt);
   placed = (refl, tt);
   calls = two (
-      two (right refl refl refl (refl, tt) (refl, tt) (refl, tt) (armed_by 1 100, refl, refl, refl, refl, stays refl refl refl) (refl, tt) tt)
+      two (right refl refl refl (refl, tt) (refl, tt) (refl, tt) (armed_by 1 100, refl, refl, refl, refl, stays refl refl refl refl refl refl) (refl, tt) tt)
       (two (right refl refl refl (refl, tt) (refl, tt) (refl, tt) refl (refl, tt) tt)
       (two (right refl refl refl (refl, tt) (refl, tt) (refl, tt)
       (record { one_reading = refl; claimed = refl; done = refl; contexts = (refl, tt); bodies = ((refl, refl), tt) }, lt refl)
@@ -87,7 +87,7 @@ told_fits = fits_by told_witness (record {
   object_histories = (refl, tt);
   placed = (refl, tt);
   calls = two (
-      two (right refl refl refl (refl, tt) (refl, tt) (refl, tt) (armed_by 1 0, refl, refl, refl, refl, stays refl refl refl) (refl, tt) tt)
+      two (right refl refl refl (refl, tt) (refl, tt) (refl, tt) (armed_by 1 0, refl, refl, refl, refl, stays refl refl refl refl refl refl) (refl, tt) tt)
       (two (right refl refl refl (refl, tt) (refl, tt) (refl, tt)
       (record { one_reading = refl; claimed = refl; done = refl; contexts = (refl, tt); bodies = (((2, refl), refl), tt) }, refl)
       (refl, ((record { stamp = refl; holds = refl }, tt), tt)) tt) tt)
@@ -119,7 +119,7 @@ moved_fits = fits_by moved_witness (record {
   object_histories = (refl, tt);
   placed = (refl, tt);
   calls = two (
-      two (right refl refl refl (refl, tt) (refl, tt) (refl, tt) (armed_by 1 0, refl, refl, refl, refl, stays refl refl refl) (refl, tt) tt)
+      two (right refl refl refl (refl, tt) (refl, tt) (refl, tt) (armed_by 1 0, refl, refl, refl, refl, stays refl refl refl refl refl refl) (refl, tt) tt)
       (two (right refl refl refl (refl, tt) (refl, tt) (refl, tt) (
         record {
           one_reading = refl;
@@ -132,7 +132,7 @@ moved_fits = fits_by moved_witness (record {
                 record
                     (armed_by 3 50) { asked = 1 },
                 refl,
-                stays refl refl refl,
+                stays refl refl refl refl refl refl,
               ),
               refl,
             ),
@@ -149,7 +149,7 @@ moved_fits = fits_by moved_witness (record {
         refl,
         refl,
         refl,
-        record { below = le refl; next = (refl, tt); way = (([], refl), refl, tt) },
+        record { below = le refl; next = (refl, tt); way = (on_line refl refl refl refl, refl, tt) },
       ) (refl, tt) tt) tt)))
       ) tt;
 })
@@ -180,7 +180,7 @@ cancelled_fits = fits_by cancelled_witness (record {
   object_histories = (refl, tt);
   placed = (refl, (refl, tt));
   calls = two (
-      two (right refl refl refl (refl, tt) (refl, tt) (refl, tt) (armed_by 1 0, refl, refl, refl, refl, stays refl refl refl) (refl, tt) tt)
+      two (right refl refl refl (refl, tt) (refl, tt) (refl, tt) (armed_by 1 0, refl, refl, refl, refl, stays refl refl refl refl refl refl) (refl, tt) tt)
       (two (right refl refl refl (refl, tt) (refl, tt) (refl, tt) (2, refl) (refl, tt) tt) tt)
       ) (two (
       two (right refl refl refl (refl, tt) (refl, tt) (refl, tt)
@@ -211,7 +211,7 @@ expired_fits told moment placed cancel = fits_by (expired_witness told moment) (
   object_histories = (refl, tt);
   placed = (placed, (refl, tt));
   calls = two (
-      two (right refl refl refl (refl, tt) (refl, tt) (refl, tt) (armed_by 1 0, refl, refl, refl, refl, stays refl refl refl) (refl, tt) tt)
+      two (right refl refl refl (refl, tt) (refl, tt) (refl, tt) (armed_by 1 0, refl, refl, refl, refl, stays refl refl refl refl refl refl) (refl, tt) tt)
       (two cancel tt)
       ) (two (
       two (right refl refl refl (refl, tt) (refl, tt) (refl, tt)
@@ -264,7 +264,7 @@ accepted_fits = fits_by accepted_witness (record {
   placed = (refl, tt);
   calls = two (
       two (right refl refl refl (refl, tt) (refl, tt) (refl, tt) (set_anew 0 1 (record { known = refl; good_value = lt refl; good_interval = lt refl })
-      (armed_by 1 100, refl, refl, stays refl refl refl)) (refl, ((refl, (refl, refl, λ e. refl)), tt))
+      (armed_by 1 100, refl, refl, stays refl refl refl refl refl refl)) (refl, ((refl, (refl, refl, λ e. refl)), tt))
       (1, le refl, le refl, point_passes _ _ _ _ _ refl, record { armed = refl; running = refl; moving = refl }))
       (two (right refl refl refl (refl, tt) (refl, tt) (refl, tt) refl (refl, tt) tt)
       (two (right refl refl refl (refl, tt) (refl, tt) (refl, tt)
@@ -277,7 +277,7 @@ accepted_fits = fits_by accepted_witness (record {
         start = Entered 0 4 rearming_start ∷ [];
         stamp = 2;
         timely = le refl;
-        arms = (armed_by 4 140, refl, refl, stays refl refl refl);
+        arms = (armed_by 4 140, refl, refl, stays refl refl refl refl refl refl);
         done = refl;
       }) (refl, ((refl, (refl, refl, λ e. refl)), tt)) tt)
       (two (right refl refl refl (refl, tt) (refl, tt) (refl, tt)

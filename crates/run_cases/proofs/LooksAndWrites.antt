@@ -38,7 +38,7 @@ awaited_fits = fits_by awaited_witness (record {
   object_histories = (refl, tt);
   placed = (refl, (refl, tt));
   calls = two (
-      two (right refl refl refl (refl, tt) (refl, tt) (refl, tt) (armed_by 1 10, refl, refl, refl, refl, stays refl refl refl) (refl, tt) tt)
+      two (right refl refl refl (refl, tt) (refl, tt) (refl, tt) (armed_by 1 10, refl, refl, refl, refl, stays refl refl refl refl refl refl) (refl, tt) tt)
       (two (right refl refl refl (refl, tt) (refl, tt) (refl, tt)
       (record { one_reading = refl; claimed = refl; done = refl; contexts = (refl, tt); bodies = ((refl, refl), tt) }, lt refl)
       (refl, tt) (done_by awaited_witness contexts.Hard 1 0 4 refl refl (refl, tt) (λ clock. (refl, tt)))) tt)
@@ -70,7 +70,7 @@ started_fits = fits_by started_witness (record {
   object_histories = (refl, tt);
   placed = (refl, (refl, tt));
   calls = two (
-      two (right refl refl refl (refl, tt) (refl, tt) (refl, tt) (armed_by 1 10, refl, refl, refl, refl, stays refl refl refl) (refl, tt) tt) tt
+      two (right refl refl refl (refl, tt) (refl, tt) (refl, tt) (armed_by 1 10, refl, refl, refl, refl, stays refl refl refl refl refl refl) (refl, tt) tt) tt
       ) (two (
       two (right refl refl refl (refl, tt) (refl, tt) (refl, tt) refl (refl, tt) (record { stamp = refl; holds = refl }))
       (two (right refl refl refl (refl, tt) (refl, tt) (refl, tt) refl (refl, tt) tt) tt)
@@ -101,7 +101,7 @@ nothing_fits = fits_by nothing_witness (record {
   placed = (refl, (refl, tt));
   calls = two (
       two (right refl refl refl (refl, tt) (refl, tt) (refl, tt) refl (refl, tt) tt)
-      (two (right refl refl refl (refl, tt) (refl, tt) (refl, tt) (armed_by 1 5, refl, refl, refl, refl, stays refl refl refl) (refl, tt) tt) tt)
+      (two (right refl refl refl (refl, tt) (refl, tt) (refl, tt) (armed_by 1 5, refl, refl, refl, refl, stays refl refl refl refl refl refl) (refl, tt) tt) tt)
       ) (two (
       two (right refl refl refl (refl, tt) (refl, tt) (refl, tt) refl (refl, tt) (record { stamp = refl; holds = refl }))
       (two (right refl refl refl (refl, tt) (refl, tt) (refl, tt)

@@ -4,7 +4,7 @@ use Rattle.std.specs.List.{AllByRecursion}
 use Rattle.seq_timer.specs.Systems.{after_entry, after_shift, changed, shifted}
 use Rattle.record_text.specs.declared.record.Label.{Label}
 use Rattle.run_history.specs.Deeds.{evacuates}
-use Rattle.run_history.specs.Truths.{WasNextOff, WasFront}
+use Rattle.run_history.specs.Truths.{LeftInTurn, WasNextOff}
 use Rattle.run_history.specs.Signals.{SignalMove}
 use Rattle.run_history.specs.Fits.{Fits}
 use Rattle.run_history.specs.Traces.{all_entered}
@@ -52,7 +52,7 @@ module _ (signals : List SignalMove) (traces : Label → Trace) where
 
   -- so the call moved no timer alone
   none_alone : (reading first last : ℕ) (moved : List Evacuation) (out start : ℕ × Shown) → 1 ≡ length moved → out.0 ≡ 3 → timer_in out.1 ≡ 0
-      → out ∷ start ∷ [] ≡ all_entered (flat_map (evacuates 0 reading) moved ++ []) → AllByRecursion (WasFront w first last 1) moved → ⊥
+      → out ∷ start ∷ [] ≡ all_entered (flat_map (evacuates 0 reading) moved ++ []) → AllByRecursion (LeftInTurn w first last 1) moved → ⊥
   none_alone reading first last [] out start one third own same turns = omega (arith, one)
   none_alone reading first last (e ∷ f ∷ moved) out start one third own same turns = omega (arith, one)
   none_alone reading first last (e ∷ []) out start one third own same turns =

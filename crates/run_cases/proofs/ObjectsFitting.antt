@@ -19,6 +19,7 @@ use Rattle.record_text.specs.declared.record.Answer.TheVariants as answers
 use Rattle.script_text.specs.declared.script.Call.TheVariants as calls
 use Rattle.script_text.specs.declared.script.Kind.TheVariants as kinds
 use Rattle.script_text.specs.declared.script.LaneCall.{LaneCall}
+use Rattle.run_history.specs.Starts.{Sight}
 use Rattle.run_history.specs.Actions.{Entered, Skipped, Wrote}
 use Rattle.run_history.specs.Fits.{Fits}
 use Rattle.run_history.specs.ObjectCalls.{AreValidFor, MakesAnew, MakesRearming}
@@ -33,13 +34,13 @@ use Rattle.run_cases.proofs.Witnesses.{set_anew, armed_by, did, done_by, fired, 
 -- ---- calls that make an entry of an object
 
 -- one that starts no timer
-none_armed : {Reached : ℕ → ℕ → Type 0} {limit timer reading : ℕ} {kind : Kind} {entry : Armed → ObjectEntry} (stamp : ℕ)
-    → MakesRearming Reached limit kind timer reading entry (turn_of timer stamp [] (entry armings.None))
+none_armed : {sight : Sight} {limit timer reading : ℕ} {kind : Kind} {entry : Armed → ObjectEntry} (stamp : ℕ)
+    → MakesRearming sight limit kind timer reading entry (turn_of timer stamp [] (entry armings.None))
 none_armed stamp = record { arm = armings.None; ns = 0; start = []; stamp = stamp; timely = le refl; arms = refl; done = refl }
 
 -- a settime that disarms an object, and was the first
-disarmed : {Reached : ℕ → ℕ → Type 0} {limit timer : ℕ}
-    → MakesAnew Reached limit (kinds.Fd 0) timer (Some (record { mode = modes.Rel; ns = 0 })) 0 (λ arm. object_entries.Settime 0 0 0 0 arm (settings.Old 0 0))
+disarmed : {sight : Sight} {limit timer : ℕ}
+    → MakesAnew sight limit (kinds.Fd 0) timer (Some (record { mode = modes.Rel; ns = 0 })) 0 (λ arm. object_entries.Settime 0 0 0 0 arm (settings.Old 0 0))
     (turn_of timer 0 [] disarmed_entry)
     × AreValidFor (kinds.Fd 0) 0 (record { sec = 0; nsec = 0 }) (record { sec = 0; nsec = 0 })
 disarmed = (
@@ -75,7 +76,7 @@ unreadable_fits = fits_by unreadable_witness (record {
   calls = two (
       two (right refl refl refl (refl, tt) (refl, tt) (refl, tt) refl (refl, tt) tt)
       (two (right refl refl refl (refl, tt) (refl, tt) (refl, tt) (set_anew 0 1 (record { known = refl; good_value = lt refl; good_interval = lt refl })
-      (armed_by 1 5, refl, refl, stays refl refl refl)) (refl, ((refl, (refl, refl, λ e. refl)), tt))
+      (armed_by 1 5, refl, refl, stays refl refl refl refl refl refl)) (refl, ((refl, (refl, refl, λ e. refl)), tt))
       (2, le refl, le refl, point_passes _ _ _ _ _ refl, record { armed = refl; running = refl; moving = refl }))
       (two (right refl refl refl (refl, tt) (refl, tt) (refl, tt)
       (record { one_reading = refl; claimed = refl; done = refl; contexts = (refl, tt); bodies = ((inl (1, true, refl), refl), tt) }, lt refl)
@@ -185,7 +186,7 @@ skipped_fits = fits_by skipped_witness (record {
   calls = two (
       two (right refl refl refl (refl, tt) (refl, tt) (refl, tt) refl (refl, tt) tt)
       (two (right refl refl refl (refl, tt) (refl, tt) (refl, tt) (set_anew 0 1 (record { known = refl; good_value = lt refl; good_interval = lt refl })
-      (armed_by 1 5, refl, refl, stays refl refl refl)) (refl, ((refl, (refl, refl, λ e. refl)), tt))
+      (armed_by 1 5, refl, refl, stays refl refl refl refl refl refl)) (refl, ((refl, (refl, refl, λ e. refl)), tt))
       (2, le refl, le refl, point_passes _ _ _ _ _ refl, record { armed = refl; running = refl; moving = refl }))
       (two (right refl refl refl (refl, tt) (refl, tt) (refl, tt)
       (record { one_reading = refl; claimed = refl; done = refl; contexts = (refl, tt); bodies = ((inr (2, refl), refl), tt) }, lt refl)
@@ -232,13 +233,13 @@ two_expiries_fit = fits_by two_expiries_witness (record {
   calls = two (
       two (right refl refl refl (refl, tt) (refl, tt) (refl, tt) refl (refl, tt) tt)
       (two (right refl refl refl (refl, tt) (refl, tt) (refl, tt) (set_anew 0 1 (record { known = refl; good_value = lt refl; good_interval = lt refl })
-      (armed_by 1 5, refl, refl, stays refl refl refl)) (refl, ((refl, (refl, refl, λ e. refl)), tt))
+      (armed_by 1 5, refl, refl, stays refl refl refl refl refl refl)) (refl, ((refl, (refl, refl, λ e. refl)), tt))
       (2, le refl, le refl, point_passes _ _ _ _ _ refl, record { armed = refl; running = refl; moving = refl }))
       (two (right refl refl refl (refl, tt) (refl, tt) (refl, tt)
       (record { one_reading = refl; claimed = refl; done = refl; contexts = (refl, tt); bodies = ((inl (1, true, refl), refl), tt) }, lt refl)
       (refl, (tt, tt)) (done_by two_expiries_witness contexts.Hard 1 0 8 refl refl (refl, tt) (λ clock. (refl, tt))))
       (two (right refl refl refl (refl, tt) (refl, tt) (refl, tt) (set_anew 2 4 (record { known = refl; good_value = lt refl; good_interval = lt refl })
-      (armed_by 4 6, refl, refl, stays refl refl refl)) (refl, ((refl, (refl, refl, λ e. refl)), tt))
+      (armed_by 4 6, refl, refl, stays refl refl refl refl refl refl)) (refl, ((refl, (refl, refl, λ e. refl)), tt))
       (9, le refl, le refl, point_passes _ _ _ _ _ refl, record { armed = refl; running = refl; moving = refl }))
       (two (right refl refl refl (refl, tt) (refl, tt) (refl, tt)
       (record { one_reading = refl; claimed = refl; done = refl; contexts = (refl, tt); bodies = ((inl (4, true, refl), refl), tt) }, lt refl)
@@ -275,7 +276,7 @@ canceled_fits = fits_by canceled_witness (record {
   placed = (refl, (refl, tt));
   calls = two (
       two (right refl refl refl (refl, tt) (refl, tt) (refl, tt) (set_anew 0 1 (record { known = refl; good_value = lt refl; good_interval = lt refl })
-      (record (armed_by 1 50) { placement = record { base = 0; clock = clocks.Realtime; soft = 50; expires = 50 } }, refl, refl, stays refl refl refl)) (refl, ((refl, (refl, refl, λ e. refl)), tt))
+      (record (armed_by 1 50) { placement = record { base = 0; clock = clocks.Realtime; soft = 50; expires = 50 } }, refl, refl, stays refl refl refl refl refl refl)) (refl, ((refl, (refl, refl, λ e. refl)), tt))
       (1, le refl, le refl, point_passes _ _ _ _ _ refl, record { armed = refl; running = refl; moving = refl }))
       (two (right refl refl refl (refl, tt) (refl, tt) (refl, tt)
       (none_armed 1, le refl) (refl, (tt, tt)) tt) tt)
@@ -299,7 +300,7 @@ set_right : (looks : List LaneCall) (told : List Answer) (times : List Trace) �
 unfolding after_entry changed passed
 set_right looks told times =
     right refl refl refl (refl, tt) (refl, tt) (refl, tt) (set_anew 0 1 (record { known = refl; good_value = lt refl; good_interval = lt refl })
-    (armed_by 1 50, refl, refl, stays refl refl refl)) (refl, ((refl, (refl, refl, λ e. refl)), tt))
+    (armed_by 1 50, refl, refl, stays refl refl refl refl refl refl)) (refl, ((refl, (refl, refl, λ e. refl)), tt))
     (1, le refl, le refl, point_passes _ _ _ _ _ refl, record { armed = refl; running = refl; moving = refl })
 
 -- ---- a lane looks how an object is set, and then at its timer, beside another lane's settime

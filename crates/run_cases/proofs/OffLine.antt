@@ -27,7 +27,7 @@ use Rattle.run_cases.proofs.Calls.{right, right_moving}
 use Rattle.run_cases.proofs.Orders.{in_one_order_of}
 use Rattle.run_cases.proofs.Small.{fits_by}
 use Rattle.run_cases.proofs.Tests.{le, lt}
-use Rattle.run_cases.proofs.Witnesses.{armed_as, did, moves_by, none_along, step, two, witness_along}
+use Rattle.run_cases.proofs.Witnesses.{on_line, armed_as, did, moves_by, none_along, step, two, witness_along}
 
 -- ---- a base is taken off line, which moves its timer to the heir; a start that asks for the base goes there; and the base is on line again
 
@@ -78,9 +78,9 @@ heir_fits = fits_by heir_witness (record {
   objects = (refl, tt);
   history = two (step refl (refl, (λ e. omega (arith, e)), refl) refl (lt refl)) (two (step refl (inr refl, inl (lt refl)) refl tt)
       (two (step refl (refl, (λ e. omega (arith, e)), refl) refl (lt refl)) (two (step refl (inr refl, inl (lt refl)) refl tt)
-      (two (record { within = lt refl; may = (refl, lt refl, lt refl); clear = refl; reach = of_one _ (lt refl) })
+      (two (record { within = lt refl; may = (refl, lt refl, lt refl); clear = refl; heir = refl; reach = of_one _ (lt refl) })
       (two (step refl (inr refl, inl (lt refl)) refl tt)
-      (two (record { within = lt refl; may = refl; clear = tt; reach = of_one _ (lt refl) }) tt))))));
+      (two (record { within = lt refl; may = refl; clear = tt; heir = tt; reach = of_one _ (lt refl) }) tt))))));
   object_histories = (refl, tt);
   placed = (refl, tt);
   calls = two (
@@ -90,7 +90,7 @@ heir_fits = fits_by heir_witness (record {
         refl,
         refl,
         refl,
-        record { below = le refl; next = (refl, tt); way = (([], refl), refl, tt) },
+        record { below = le refl; next = (refl, tt); way = (on_line refl refl refl refl, refl, tt) },
       ) (refl, tt) tt)
       (two (right_moving refl refl refl (refl, tt) (refl, tt) (refl, tt) (record { counted = refl; done = refl }, le refl) (
         (record { armed = refl; soft = refl; slack = refl }, tt),
@@ -100,6 +100,7 @@ heir_fits = fits_by heir_witness (record {
             from = le refl;
             to = le refl;
             stamp = refl;
+            next = refl;
             idle = none_along heir_witness 2 (runs_on 1) refl refl (refl, tt);
             front = (100, refl);
           },
@@ -119,7 +120,11 @@ heir_fits = fits_by heir_witness (record {
         refl,
         refl,
         refl,
-        record { below = le refl; next = tt; way = (0 ∷ [], ((5, le refl, le refl, refl), refl)) },
+        record {
+          below = le refl;
+          next = tt;
+          way = record { path = 0 ∷ []; at = 5; way = (5, le refl, refl, (refl, le refl, refl)); no_later = le refl; before = lt refl };
+        },
       ) (refl, tt) tt)
       (two (right refl refl refl (refl, tt) (refl, tt) (refl, tt) refl (refl, tt) tt) tt)))
       ) tt;

@@ -37,7 +37,7 @@ refused_fits = fits_by refused_witness (record {
   bases = (refl, (refl, (refl, tt)));
   clock = refl;
   objects = tt;
-  history = two (record { within = lt refl; may = (refl, lt refl, lt refl); clear = refl; reach = λ t less. absurd (omega (arith, less)) }) tt;
+  history = two (record { within = lt refl; may = (refl, lt refl, lt refl); clear = refl; heir = refl; reach = λ t less. absurd (omega (arith, less)) }) tt;
   object_histories = tt;
   placed = (refl, tt);
   calls = two (

@@ -26,7 +26,7 @@ use Rattle.run_history.specs.Histories.{timer_labels}
 use Rattle.run_history.specs.ObjectCalls.{Arms, cancels, nanoseconds_of}
 use Rattle.run_history.specs.Objects.{lines_of_object}
 use Rattle.run_history.specs.Order.{is_label, made_by}
-use Rattle.run_history.specs.Starts.{SentTo, arming_actions}
+use Rattle.run_history.specs.Starts.{SentTo, arming_actions, Sight}
 use Rattle.run_history.specs.Traces.{all_entered, own_moves}
 use Rattle.run_history.specs.Truths.{DisarmedFirst, WasIdle}
 use Rattle.run_history.specs.Witnesses.{IsOneHistory, Move, OfRise, Shown, TimersList, Witness, timer_along, turns_along}
@@ -72,13 +72,13 @@ module _ {w : Witness} {c : Label} {i stamp : ℕ} (turn : TakesTurn w c i stamp
 -- ---- what a settime found
 
 -- by a settime's start, for these times on this base
-module _ (Reached : ℕ → ℕ → Type 0) (limit ns reading base : ℕ) (mode : Mode) (w : Witness) (c : Label) (t first last stamp number : ℕ)
+module _ (sight : Sight) (limit ns reading base : ℕ) (mode : Mode) (w : Witness) (c : Label) (t first last stamp number : ℕ)
     (entry : ObjectEntry) where
   abbrev begun : Action
   begun = Began t stamp
 
   -- what began with a start, or with none, had found the timer idle
-  idle_before : (arm : Armed) (start : List Action) → Arms Reached limit t mode ns reading base arm start
+  idle_before : (arm : Armed) (start : List Action) → Arms sight limit t mode ns reading base arm start
       → DisarmedFirst w c first last t (begun ∷ (start ++ Made t number entry ∷ [])) → WasIdle w c first last t (begun ∷ [])
   idle_before armings.None start arms is = subst (λ ds. DisarmedFirst w c first last t (begun ∷ (ds ++ Made t number entry ∷ []))) arms is
   idle_before armings.Unarmed start arms is = subst (λ ds. DisarmedFirst w c first last t (begun ∷ (ds ++ Made t number entry ∷ []))) arms is
@@ -92,7 +92,7 @@ module _ (Reached : ℕ → ℕ → Type 0) (limit ns reading base : ℕ) (mode 
 
   -- and so had a settime of whose entries of the timer the first is no cancel
   idle_uncancelled : (arm : Armed) (start : List Action) (cancel : Option (ℕ × ℕ)) (one : ℕ × Entry) (more : List (ℕ × Entry))
-      → (one.1.event ≡ events.Cancel → ⊥) → Arms Reached limit t mode ns reading base arm start
+      → (one.1.event ≡ events.Cancel → ⊥) → Arms sight limit t mode ns reading base arm start
       → one ∷ more ≡ entered t (begun ∷ (cancels t cancel ++ start ++ Made t number entry ∷ []))
       → DisarmedFirst w c first last t (begun ∷ (cancels t cancel ++ start ++ Made t number entry ∷ [])) → WasIdle w c first last t (begun ∷ [])
   idle_uncancelled arm start None one more other arms entries is = idle_before arm start arms is

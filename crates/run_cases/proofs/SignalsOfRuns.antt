@@ -15,7 +15,7 @@ use Rattle.run_history.specs.Deeds.{IsBody, IsQueuedTrigger, fires}
 use Rattle.run_history.specs.Fits.{Fits}
 use Rattle.run_history.specs.Order.{is_before}
 use Rattle.run_history.specs.Signals.{SignalMove, pushed_in, pushed_with}
-use Rattle.run_history.specs.Truths.{WasOffLine}
+use Rattle.run_history.specs.Truths.{sight_of}
 use Rattle.run_history.specs.Witnesses.{Fired, witness_with}
 use Rattle.run_history.proofs.Expires.{finish_of}
 use Rattle.run_history.proofs.Items.{Among, RiseIn, own_rises}
@@ -107,11 +107,11 @@ swapped_doesnt_fit o =
     let es = own (λ (m : SignalMove). m.label) (λ (m : SignalMove). m.turn) (at 0 3) 0 o.1 in
     let first = pushed_in signals_script (fires 0 t.at two.first) in
     let second = pushed_in signals_script (fires 0 t.at two.second) in
-    let bodies = subst (AllByRecursion (λ f. IsBody (WasOffLine w t.first t.last) 100 (kind_of signals_script f.timer) t.at f)) two.are run.does.0.bodies in
+    let bodies = subst (AllByRecursion (λ f. IsBody (sight_of w t.first t.last) 100 (kind_of signals_script f.timer) t.at f)) two.are run.does.0.bodies in
     let trigger_one : IsQueuedTrigger t.at two.first =
-    subst (λ i. IsBody (WasOffLine w t.first t.last) 100 (kind_of signals_script i) t.at two.first) two.one bodies.0 in
+    subst (λ i. IsBody (sight_of w t.first t.last) 100 (kind_of signals_script i) t.at two.first) two.one bodies.0 in
     let trigger_other : IsQueuedTrigger t.at two.second =
-    subst (λ i. IsBody (WasOffLine w t.first t.last) 100 (kind_of signals_script i) t.at two.second) two.other bodies.1.0 in
+    subst (λ i. IsBody (sight_of w t.first t.last) 100 (kind_of signals_script i) t.at two.second) two.other bodies.1.0 in
     -- the run pushed what its first callback did, and then what its second one did
     let all : map (λ e. e.1) es ≡ first ++ second =
     ap (map (λ e. e.1)) run.signalled.own ∙ run.signalled.are ∙ ap (pushed_in signals_script) (run.does.0.done ∙ ap (flat_map (fires 0 t.at)) two.are)

@@ -14,6 +14,7 @@ use Rattle.script_text.specs.declared.script.Kind.TheVariants as kinds
 use Rattle.timer_setting.specs.declared.answers.InterruptAnswer.TheVariants as interrupts
 use Rattle.timer_setting.specs.declared.object_call.ObjectReply.TheVariants as replies
 use Rattle.sleeper.specs.declared.answers.SleptAnswer.TheVariants as looks
+use Rattle.run_history.specs.Starts.{Sight}
 use Rattle.run_history.specs.Actions.{Entered, Wrote}
 use Rattle.run_history.specs.Fits.{Fits}
 use Rattle.run_history.specs.ObjectCalls.{MakesAnew}
@@ -29,8 +30,8 @@ use Rattle.run_cases.proofs.Witnesses.{armed_anew, armed_by, did, done_by, fired
 -- ---- calls on a sleeper that start no timer
 
 -- an interrupt, which cancelled this, if anything
-interrupts_by : {Reached : ℕ → ℕ → Type 0} {limit reading : ℕ} (stamp number generation : ℕ) (reply : InterruptReply)
-    → MakesAnew Reached limit (kinds.Sleeper 0) 0 None reading (λ arm. object_entries.Interrupt reading reply)
+interrupts_by : {sight : Sight} {limit reading : ℕ} (stamp number generation : ℕ) (reply : InterruptReply)
+    → MakesAnew sight limit (kinds.Sleeper 0) 0 None reading (λ arm. object_entries.Interrupt reading reply)
     (turn_of 0 stamp (Entered 0 number (cancel_entry generation) ∷ []) (object_entries.Interrupt reading reply))
 interrupts_by stamp number generation reply =
     record { cancel = Some (number, generation); arm = armings.None; start = []; stamp = stamp; arms = (refl, refl); done = refl }
@@ -64,7 +65,7 @@ woken_fits = fits_by woken_witness (record {
   placed = (refl, tt);
   calls = two (
       two (right refl refl refl (refl, tt) (refl, tt) (refl, tt)
-      (armed_anew (λ arm. object_entries.Sleep 0 10 0 arm sleeps.Asleep) 0 1 (armed_by 1 10, refl, refl, stays refl refl refl), (refl, refl))
+      (armed_anew (λ arm. object_entries.Sleep 0 10 0 arm sleeps.Asleep) 0 1 (armed_by 1 10, refl, refl, stays refl refl refl refl refl refl), (refl, refl))
       (refl, ((refl, (refl, refl, λ e. refl)), tt))
       (1, le refl, le refl, point_passes _ _ _ _ _ refl, record { armed = refl; running = refl; moving = refl }))
       (two (right refl refl refl (refl, tt) (refl, tt) (refl, tt) refl (refl, tt) tt)
@@ -114,13 +115,13 @@ interrupted_fits = fits_by interrupted_witness (record {
   placed = (refl, tt);
   calls = two (
       two (right refl refl refl (refl, tt) (refl, tt) (refl, tt)
-      (armed_anew (λ arm. object_entries.Sleep 0 100 0 arm sleeps.Asleep) 0 1 (armed_by 1 100, refl, refl, stays refl refl refl), (refl, refl))
+      (armed_anew (λ arm. object_entries.Sleep 0 100 0 arm sleeps.Asleep) 0 1 (armed_by 1 100, refl, refl, stays refl refl refl refl refl refl), (refl, refl))
       (refl, ((refl, (refl, refl, λ e. refl)), tt))
       (1, le refl, le refl, point_passes _ _ _ _ _ refl, record { armed = refl; running = refl; moving = refl }))
       (two (right refl refl refl (refl, tt) (refl, tt) (refl, tt) refl (refl, tt) tt)
       (two (right refl refl refl (refl, tt) (refl, tt) (refl, tt) (interrupts_by 1 2 1 (ended.Left 70)) (refl, (tt, tt)) tt)
       (two (right refl refl refl (refl, tt) (refl, tt) (refl, tt)
-      (armed_anew (λ arm. object_entries.Sleep 1 100 1 arm sleeps.Asleep) 2 3 (armed_by 3 100, refl, refl, stays refl refl refl), (refl, refl))
+      (armed_anew (λ arm. object_entries.Sleep 1 100 1 arm sleeps.Asleep) 2 3 (armed_by 3 100, refl, refl, stays refl refl refl refl refl refl), (refl, refl))
       (refl, ((refl, (refl, refl, λ e. refl)), tt))
       (8, le refl, le refl, point_passes _ _ _ _ _ refl, record { armed = refl; running = refl; moving = refl }))
       (two (right refl refl refl (refl, tt) (refl, tt) (refl, tt) (interrupts_by 3 4 3 ended.Interrupted) (refl, (tt, tt)) tt)

@@ -41,7 +41,7 @@ early_fits = fits_by early_witness (record {
   placed = (refl, tt);
   calls = two (
       two (right refl refl refl (refl, tt) (refl, tt) (refl, tt)
-      (armed_as 1 0 0 100, refl, refl, refl, refl, stays refl refl refl) (refl, tt) tt)
+      (armed_as 1 0 0 100, refl, refl, refl, refl, stays refl refl refl refl refl refl) (refl, tt) tt)
       (two (right refl refl refl (refl, tt) (refl, tt) (refl, tt)
       (record { one_reading = refl; claimed = refl; done = refl; contexts = (refl, tt); bodies = ((refl, refl), tt) }, lt refl)
       (refl, tt) (done_by early_witness contexts.Hard 0 0 3 refl refl (refl, tt) (λ clock. (refl, tt)))) tt)
@@ -85,9 +85,9 @@ waiting_fits = fits_by waiting_witness (record {
   placed = (refl, tt);
   calls = two (
       two (right refl refl refl (refl, (refl, tt)) (refl, (refl, tt)) (refl, (refl, tt))
-      (armed_as 1 0 0 100, refl, refl, refl, refl, stays refl refl refl) (refl, tt) tt)
+      (armed_as 1 0 0 100, refl, refl, refl, refl, stays refl refl refl refl refl refl) (refl, tt) tt)
       (two (right refl refl refl (refl, (refl, tt)) (refl, (refl, tt)) (refl, (refl, tt))
-      (armed_by 1 50, refl, refl, refl, refl, stays refl refl refl) (refl, tt) tt)
+      (armed_by 1 50, refl, refl, refl, refl, stays refl refl refl refl refl refl) (refl, tt) tt)
       (two (right refl refl refl (refl, (refl, tt)) (refl, (refl, tt)) (refl, (refl, tt))
       (record { one_reading = refl; claimed = refl; done = refl; contexts = tt; bodies = tt }, lt refl)
       (refl, tt) (stopped_by waiting_witness contexts.Hard 0 0 2 refl refl (refl, (refl, tt)) waiting_stopped)) tt))
@@ -120,9 +120,9 @@ contexts_fit = fits_by contexts_witness (record {
   placed = (refl, tt);
   calls = two (
       two (right refl refl refl (refl, (refl, tt)) (refl, (refl, tt)) (refl, (refl, tt))
-      (armed_by 1 0, refl, refl, refl, refl, stays refl refl refl) (refl, tt) tt)
+      (armed_by 1 0, refl, refl, refl, refl, stays refl refl refl refl refl refl) (refl, tt) tt)
       (two (right refl refl refl (refl, (refl, tt)) (refl, (refl, tt)) (refl, (refl, tt))
-      (armed_by 1 0, refl, refl, refl, refl, stays refl refl refl) (refl, tt) tt)
+      (armed_by 1 0, refl, refl, refl, refl, stays refl refl refl refl refl refl) (refl, tt) tt)
       (two (right refl refl refl (refl, (refl, tt)) (refl, (refl, tt)) (refl, (refl, tt))
       (record { one_reading = refl; claimed = refl; done = refl; contexts = (refl, tt); bodies = ((refl, refl), tt) }, lt refl)
       (refl, tt) (done_by contexts_witness contexts.Hard 0 0 4 refl refl (refl, (refl, tt)) (λ clock. (refl, (refl, tt)))))

@@ -1,5 +1,5 @@
 -- Small witnesses, given by lists: short words for them, facts of all numbers by the places of lists, and timers that are not there.
-use Rattle.std.proofs.Common.{◌≡◌, ◌≤◌, ℕ, ◌+◌, zero, suc, Bool, true, false, ◌&&◌, not, is_some, nat_eq, nat_le, nat_lt, None, Option, Some, List, [], ◌∷◌, ◌++◌, if◌then◌else◌, filter, flat_map, length, map, take, get_or, arith, refl, sym, ap, ◌∙◌, subst, inl}
+use Rattle.std.proofs.Common.{◌≡◌, ◌≤◌, le_refl, ℕ, ◌+◌, zero, suc, Bool, true, false, ◌&&◌, not, is_some, nat_eq, nat_le, nat_lt, None, Option, Some, List, [], ◌∷◌, ◌++◌, if◌then◌else◌, filter, flat_map, length, map, take, get_or, arith, refl, sym, ap, ◌∙◌, subst, inl}
 use Rattle.std.specs.List.{AllByRecursion, list_all}
 use Rattle.std.proofs.lemmas.Bool.{and_parts, true≢false}
 use Rattle.std.proofs.lemmas.List.{get_or_past, length-map, take-map}
@@ -33,7 +33,7 @@ use Rattle.run_history.specs.Actions.{Action, also, Began, Entered, Made}
 use Rattle.run_history.specs.Histories.{reading_at}
 use Rattle.script_text.specs.Declarations.{base_of, declared_as, declareds_of, terms_of}
 use Rattle.run_history.specs.Order.{calls_from}
-use Rattle.run_history.specs.Starts.{Arming, IsArming, IsJustBefore, IsSentByHeirs, first_number}
+use Rattle.run_history.specs.Starts.{Arming, FindsOnLine, first_number, IsArming, IsJustBefore, IsSentByHeirs, Sight}
 use Rattle.run_history.specs.Deeds.{fires}
 use Rattle.run_history.specs.ObjectCalls.{AreValidFor, Arms, MakesAnew, nanoseconds_of}
 use Rattle.timer_setting.specs.Arguments.{mode_by}
@@ -111,28 +111,40 @@ two a b = (a, b)
 pub three : {A B C : Type 0} → A → B → C → A × B × C
 three a b c = (a, b, c)
 
+-- a base that is on line at the call's first moment, before the timer has its entry of this number, is found there
+pub on_line : {sight : Sight} {timer number base to : ℕ} → base ≡ to → sight.heir sight.first base ≡ None → nat_le sight.first sight.last ≡ true
+    → nat_lt (sight.stamp sight.first timer) number ≡ true → FindsOnLine sight timer sight.first number base to
+on_line {sight} same on ends early = record {
+  path = [];
+  at = sight.first;
+  way = (same, le_refl sight.first, on);
+  no_later = le ends;
+  before = lt early;
+}
+
 -- a start that makes one entry, on the base that is asked for, is made so
-pub stays : {Reached : ℕ → ℕ → Type 0} {limit base : ℕ} {a : Arming} → nat_le a.number limit ≡ true → a.outs ≡ [] → base ≡ a.asked
-    → IsArming Reached limit base a
-stays {Reached} {limit} {base} {a} below none same = record {
+pub stays : {sight : Sight} {timer limit base : ℕ} {a : Arming} → nat_le a.number limit ≡ true → a.outs ≡ [] → base ≡ a.asked
+    → sight.heir sight.first base ≡ None → nat_le sight.first sight.last ≡ true → nat_lt (sight.stamp sight.first timer) a.number ≡ true
+    → IsArming sight timer limit base a
+stays {sight} {timer} {limit} {base} {a} below none same on ends early = record {
   below = subst (λ outs. first_number outs a.number ≤ limit) (sym none) (le below);
   next = subst (λ outs. IsJustBefore outs a.number) (sym none) tt;
-  way = subst (λ outs. IsSentByHeirs Reached base (map (λ out. out.base) outs) a.asked) (sym none) ([], same);
+  way = subst (λ outs. IsSentByHeirs sight timer base outs a.number a.asked) (sym none) (on_line same on ends early);
 }
 
 -- a call on an object that found its timer idle, starts it by this entry, and makes this entry of its object
-pub armed_anew : {Reached : ℕ → ℕ → Type 0} {limit timer reading ns : ℕ} {kind : Kind} {mode : Mode} {entry : Entry} (of_object : Armed → ObjectEntry)
-    (stamp number : ℕ) → Arms Reached limit timer mode ns reading (base_of kind) (armings.Generation number) (Entered timer number entry ∷ [])
-    → MakesAnew Reached limit kind timer (Some (record { mode = mode; ns = ns })) reading of_object
+pub armed_anew : {sight : Sight} {limit timer reading ns : ℕ} {kind : Kind} {mode : Mode} {entry : Entry} (of_object : Armed → ObjectEntry)
+    (stamp number : ℕ) → Arms sight limit timer mode ns reading (base_of kind) (armings.Generation number) (Entered timer number entry ∷ [])
+    → MakesAnew sight limit kind timer (Some (record { mode = mode; ns = ns })) reading of_object
     (turn_of timer stamp (Entered timer number entry ∷ []) (of_object (armings.Generation number)))
 armed_anew {timer = timer} {entry = entry} of_object stamp number arms =
     record { cancel = None; arm = armings.Generation number; start = Entered timer number entry ∷ []; stamp = stamp; arms = arms; done = refl }
 
 -- a settime that did
-pub set_anew : {Reached : ℕ → ℕ → Type 0} {limit timer flags reading : ℕ} {kind : Kind} {value interval : TimeSpec} {entry : Entry} (stamp number : ℕ)
+pub set_anew : {sight : Sight} {limit timer flags reading : ℕ} {kind : Kind} {value interval : TimeSpec} {entry : Entry} (stamp number : ℕ)
     → AreValidFor kind flags value interval
-    → Arms Reached limit timer (mode_by flags) (nanoseconds_of value) reading (base_of kind) (armings.Generation number) (Entered timer number entry ∷ [])
-    → MakesAnew Reached limit kind timer (Some (record { mode = mode_by flags; ns = nanoseconds_of value })) reading
+    → Arms sight limit timer (mode_by flags) (nanoseconds_of value) reading (base_of kind) (armings.Generation number) (Entered timer number entry ∷ [])
+    → MakesAnew sight limit kind timer (Some (record { mode = mode_by flags; ns = nanoseconds_of value })) reading
     (λ arm. object_entries.Settime flags (nanoseconds_of value) (nanoseconds_of interval) reading arm (settings.Old 0 0))
     (turn_of timer stamp (Entered timer number entry ∷ [])
     (object_entries.Settime flags (nanoseconds_of value) (nanoseconds_of interval) reading (armings.Generation number) (settings.Old 0 0)))

@@ -33,7 +33,7 @@ use Rattle.run_history.specs.Deeds.{fires, IsBody, IsCallback, IsExpiryRun, IsQu
 use Rattle.run_history.specs.Order.{StandsWithin}
 use Rattle.run_history.specs.Signals.{most_signals, signal_labels, waiting_at}
 use Rattle.signal_queue.specs.declared.signal.Turn.{Turn}
-use Rattle.run_history.specs.Truths.{AreTrue, IsDone, IsMoment, Saw, SawFull, WasOffLine}
+use Rattle.run_history.specs.Truths.{AreTrue, IsDone, IsMoment, Saw, SawFull, sight_of}
 use Rattle.run_history.specs.Witnesses.{Fired, OfRise, OfTimer, Trace, Witness, timer_along}
 use Rattle.run_history.specs.Fits.{FitsCall, Seen}
 use Rattle.run_history.specs.Receipts.{PlacedEntry, receipt}
@@ -43,7 +43,7 @@ use Rattle.run_history.proofs.Actions.{all_entered-append}
 use Rattle.run_history.proofs.Kept.{call_made_whole, IsKept, moment_of, Stops}
 use Rattle.run_history.proofs.Known.{AreMade, first_note, made-append, made_wider, no_notes, none_made, one_note, stops_between}
 use Rattle.run_history.proofs.OthersMade.{start_true}
-use Rattle.run_history.proofs.Reached.{body_wider, was_wider}
+use Rattle.run_history.proofs.Reached.{body_wider, sight_wider}
 
 -- ---- truths in turn
 
@@ -122,7 +122,7 @@ pub record Ran (w : Witness) (order : List SystemEntry) (context : Context) (bas
   pub finish_is : receipt finish ≡ (f.finish, OfTimer f.timer (finish_of f))
   -- the timer is of the run's context; the callback is as the timer declares it, by bases that were off line meanwhile; and what it was told holds
   pub own : (declared_of w.script f.timer).context ≡ context
-  pub kind : IsBody (WasOffLine w from to) w.script.limit (kind_of w.script f.timer) at f
+  pub kind : IsBody (sight_of w from to) w.script.limit (kind_of w.script f.timer) at f
   pub holds : ReplyHolds w heard acted f.body
 
 -- its receipts
@@ -241,7 +241,7 @@ module _ {w : Witness} {order : List SystemEntry} {context : Context} {base at :
       looks timer number look is = by_body (Looked timer number look ∷ []) is
           (λ holds. (ran.acted, onward, (moment_acted (ap all_entered (sym is)), holds.0, holds.1), omega arith))
 
-      by_callback : (callback : Callback) → IsCallback (WasOffLine w from to) w.script.limit callback at f → AreTrue w c from since f.body ran.acted
+      by_callback : (callback : Callback) → IsCallback (sight_of w from to) w.script.limit callback at f → AreTrue w c from since f.body ran.acted
       by_callback callbacks.Once is = by_body [] is.0 (λ holds. onward)
       by_callback (callbacks.Every interval) is =
           ⊎_elim
@@ -282,7 +282,7 @@ module _ {w : Witness} {order : List SystemEntry} {context : Context} {base at :
             (m.0, m.1, (m.3, record { number = full.number; within = hears full.number full.from full.to; waiting = full.waiting }), m.2),
           ))) is
 
-      by_kind : (kind : Kind) → IsBody (WasOffLine w from to) w.script.limit kind at f → AreTrue w c from since f.body ran.acted
+      by_kind : (kind : Kind) → IsBody (sight_of w from to) w.script.limit kind at f → AreTrue w c from since f.body ran.acted
       by_kind (kinds.Raw x callback) is = by_callback callback is
       by_kind (kinds.Posix on) is = by_trigger is
       by_kind (kinds.Fd on) is = by_trigger is
@@ -342,7 +342,7 @@ module _ (w : Witness) (order : List SystemEntry) (context : Context) (base at :
     finish_made = ran.finish_made;
     finish_is = ran.finish_is;
     own = ran.own;
-    kind = body_wider (WasOffLine w mid to) (WasOffLine w from to) (was_wider w le (omega arith)) w.script.limit (kind_of w.script f.timer) at f ran.kind;
+    kind = body_wider (sight_of w mid to) (sight_of w from to) (sight_wider w le (omega arith)) w.script.limit (kind_of w.script f.timer) at f ran.kind;
     holds = ran.holds;
   }
 
@@ -440,8 +440,8 @@ module _ {w : Witness} {moves signals : Spans} {c : Label} {context : Context} {
     (kept : IsKept w moves signals c (expiring base at first last fired turns) notes (calls.Expire context base budget) answer before after)
     (starts : first ≡ moves.first c)
     (run : HaveRun w order context base at (signals.first c, signals.last c) first fired notes last) where
-  expired : (IsExpiryRun (WasOffLine w first last) w.script context at base fired at (map (λ f. f.timer) fired) (flat_map (fires base at) fired)
-      → Does (WasOffLine w first last) w.script at (calls.Expire context base budget) answer fired [] (flat_map (fires base at) fired))
+  expired : (IsExpiryRun (sight_of w first last) w.script context at base fired at (map (λ f. f.timer) fired) (flat_map (fires base at) fired)
+      → Does (sight_of w first last) w.script at (calls.Expire context base budget) answer fired [] (flat_map (fires base at) fired))
       → AnswerHolds w first last c at (flat_map (fires base at) fired) (calls.Expire context base budget) answer
       → FitsCall w c (calls.Expire context base budget) answer before after
   expired does seen =
@@ -452,10 +452,10 @@ module _ {w : Witness} {moves signals : Spans} {c : Label} {context : Context} {
         done = refl;
         contexts = each_ran w order context base at (signals.first c, signals.last c) _ first last
             (λ f from to under over ran. ran.own) first fired notes last run (omega arith) (omega arith);
-        bodies = each_ran w order context base at (signals.first c, signals.last c) (λ f. IsBody (WasOffLine w first last) w.script.limit
+        bodies = each_ran w order context base at (signals.first c, signals.last c) (λ f. IsBody (sight_of w first last) w.script.limit
             (kind_of w.script f.timer) at f) first last
             (λ f from to under over ran.
-            body_wider (WasOffLine w from to) (WasOffLine w first last) (was_wider w under over) w.script.limit
+            body_wider (sight_of w from to) (sight_of w first last) (sight_wider w under over) w.script.limit
             (kind_of w.script f.timer) at f ran.kind) first fired notes last run (omega arith) (omega arith);
       }))
       (tt, tt)

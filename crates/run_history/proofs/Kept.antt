@@ -12,7 +12,7 @@ use Rattle.run_history.specs.Order.{is_label, IsLabel, IsPoint, StandsWithin, Ne
 use Rattle.script_text.specs.declared.script.Call.{Call}
 use Rattle.run_history.specs.Calls.{Does, AnswerHolds}
 use Rattle.run_history.specs.Deeds.{AllKeepExpiries, AllMoved}
-use Rattle.run_history.specs.Truths.{AreTrue, IsMoment, WasFront, WasOffLine}
+use Rattle.run_history.specs.Truths.{AreTrue, IsMoment, LeftInTurn, sight_of}
 use Rattle.run_history.specs.Witnesses.{Witness, labels, Move, Trace}
 use Rattle.run_history.specs.Fits.{FitsCall, TraceExplains, HasSignalled, Seen}
 use Rattle.run_history.specs.Signals.{signal_labels}
@@ -113,8 +113,8 @@ module _ {w : Witness} {moves signals : Spans} {c : Label} {t : Trace} {notes : 
   -- A call fits that begins at a moment at which it had made nothing: it did what its arguments and its answer say, what it was told held, and the
   -- answer is right.
   pub call_made : moves.first c ≤ t.first → t.first ≤ t.last → AllByRecursion (λ x. t.first ≤ x.place) notes
-      → Does (WasOffLine w t.first t.last) w.script t.at call answer t.fired t.moved t.actions
-      → AllKeepExpiries w.script w.run call t.moved × AllMoved (WasFront w t.first t.last) call t.moved
+      → Does (sight_of w t.first t.last) w.script t.at call answer t.fired t.moved t.actions
+      → AllKeepExpiries w.script w.run call t.moved × AllMoved (LeftInTurn w t.first t.last) call t.moved
       → AreTrue w c t.first [] t.actions t.last → AnswerHolds w t.first t.last c t.at t.actions call answer
       → FitsCall w c call answer before after
   call_made low high behind does moved truth holds =
@@ -141,8 +141,8 @@ module _ {w : Witness} {moves signals : Spans} {c : Label} {t : Trace} {notes : 
       })
 
   -- the same, where it begins with what its pass had seen
-  pub call_made_whole : t.first ≡ moves.first c → Does (WasOffLine w t.first t.last) w.script t.at call answer t.fired t.moved t.actions
-      → AllKeepExpiries w.script w.run call t.moved × AllMoved (WasFront w t.first t.last) call t.moved
+  pub call_made_whole : t.first ≡ moves.first c → Does (sight_of w t.first t.last) w.script t.at call answer t.fired t.moved t.actions
+      → AllKeepExpiries w.script w.run call t.moved × AllMoved (LeftInTurn w t.first t.last) call t.moved
       → AreTrue w c t.first [] t.actions t.last → AnswerHolds w t.first t.last c t.at t.actions call answer → FitsCall w c call answer before after
   call_made_whole starts = call_made (omega (arith, starts)) (omega (arith, starts, kept.forward))
       (subst (λ n. AllByRecursion (λ x. n ≤ x.place) notes) (sym starts) (inside_behind (moves.first c) t.last notes kept.inside))

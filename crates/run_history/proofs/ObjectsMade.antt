@@ -31,12 +31,12 @@ use Rattle.timer_setting.specs.declared.arming.Wanted.{Wanted}
 use Rattle.run_history.specs.Actions.{Action, Began, Made}
 use Rattle.run_history.specs.ObjectCalls.{AreValidFor, Arms, ArmsAs, cancels, IsProperSleep, MakesAnew, MakesRearming, nanoseconds_of}
 use Rattle.script_text.specs.Declarations.{base_of, kind_of, without_slack}
-use Rattle.run_history.specs.Starts.{SentTo, arming_actions}
+use Rattle.run_history.specs.Starts.{SentTo, arming_actions, Sight}
 use Rattle.script_text.specs.declared.script.Call.TheVariants as calls
 use Rattle.script_text.specs.declared.script.Call.{Call}
 use Rattle.script_text.specs.declared.script.Kind.TheVariants as kinds
 use Rattle.run_history.specs.Calls.{AnswerHolds, Does, IsFd}
-use Rattle.run_history.specs.Truths.{DisarmedFirst, IsMoment, IsTrueEntry, IsTrueStart, RefusedBefore, SawRefusal, WasIdle, WasOffLine}
+use Rattle.run_history.specs.Truths.{DisarmedFirst, IsMoment, IsTrueEntry, IsTrueStart, RefusedBefore, SawRefusal, WasIdle, sight_of}
 use Rattle.run_history.specs.Witnesses.{Witness, timer_along}
 use Rattle.run_history.specs.Fits.{FitsCall, Seen}
 use Rattle.run_history.specs.Receipts.{PlacedEntry}
@@ -51,12 +51,12 @@ use Rattle.run_history.proofs.Plain.{IsPlain, plain_arms, plain_then}
 
 -- ---- entries of its timer, and then the object's
 
-plain_start : (Reached : ℕ → ℕ → Type 0) (limit timer ns reading base : ℕ) (mode : Mode) (arm : Armed) (start : List Action)
-    → Arms Reached limit timer mode ns reading base arm start → AllByRecursion IsPlain start
-plain_start Reached limit timer ns reading base mode armings.None start is = subst (AllByRecursion IsPlain) (sym is) tt
-plain_start Reached limit timer ns reading base mode (armings.Generation generation) start is =
+plain_start : (sight : Sight) (limit timer ns reading base : ℕ) (mode : Mode) (arm : Armed) (start : List Action)
+    → Arms sight limit timer mode ns reading base arm start → AllByRecursion IsPlain start
+plain_start sight limit timer ns reading base mode armings.None start is = subst (AllByRecursion IsPlain) (sym is) tt
+plain_start sight limit timer ns reading base mode (armings.Generation generation) start is =
     subst (AllByRecursion IsPlain) (sym is.1) (plain_arms timer reading (without_slack mode ns base) is.0)
-plain_start Reached limit timer ns reading base mode armings.Unarmed start is = subst (AllByRecursion IsPlain) (sym is) tt
+plain_start sight limit timer ns reading base mode armings.Unarmed start is = subst (AllByRecursion IsPlain) (sym is) tt
 
 plain_both : (timer : ℕ) (cancel : Option (ℕ × ℕ)) (start : List Action) → AllByRecursion IsPlain start → AllByRecursion IsPlain (cancels timer cancel ++ start)
 plain_both timer None start plain = plain
@@ -65,10 +65,10 @@ plain_both timer (Some c) start plain = (tt, plain)
 -- ---- a settime, a sleep, an interrupt
 
 -- a start that such a call wants, or none, is no turn of an object
-plain_anew : (Reached : ℕ → ℕ → Type 0) (limit timer at base : ℕ) (wanted : Option Wanted) (arm : Armed) (start : List Action)
-    → ArmsAs Reached limit timer wanted at base arm start → AllByRecursion IsPlain start
-plain_anew Reached limit timer at base None arm start is = subst (AllByRecursion IsPlain) (sym is.1) tt
-plain_anew Reached limit timer at base (Some wanted) arm start is = plain_start Reached limit timer wanted.ns at base wanted.mode arm start is
+plain_anew : (sight : Sight) (limit timer at base : ℕ) (wanted : Option Wanted) (arm : Armed) (start : List Action)
+    → ArmsAs sight limit timer wanted at base arm start → AllByRecursion IsPlain start
+plain_anew sight limit timer at base None arm start is = subst (AllByRecursion IsPlain) (sym is.1) tt
+plain_anew sight limit timer at base (Some wanted) arm start is = plain_start sight limit timer wanted.ns at base wanted.mode arm start is
 
 -- how such a call disarmed its timer: it cancelled it, or it was idle where the call had begun its turn
 abbrev pub FoundIdle : Witness → ℕ → Option (ℕ × ℕ) → ℕ → Type 0
@@ -78,7 +78,7 @@ FoundIdle w timer (Some cancel) begun = Unit
 -- what such a call of a reading that makes an entry knows at its end, between a moment before its turn and its last
 pub record IsAnew (w : Witness) (c : Label) (notes : List PlacedEntry) (at begin last timer : ℕ) (wanted : Option Wanted) (cancel : Option (ℕ × ℕ))
     (arm : Armed) (start : List Action) (stamp : ℕ) : Type 0 where
-  pub arms : ArmsAs (WasOffLine w begin last) w.script.limit timer wanted at (base_of (kind_of w.script timer)) arm start
+  pub arms : ArmsAs (sight_of w begin last) w.script.limit timer wanted at (base_of (kind_of w.script timer)) arm start
   -- where its turn had begun, and where it had made its entries of the timer, which it had found idle or cancelled; the object's was yet to come
   pub begun : ℕ
   pub ends : ℕ
@@ -96,12 +96,12 @@ pub record IsAnew (w : Witness) (c : Label) (notes : List PlacedEntry) (at begin
 abbrev pub anew_actions : ℕ → Option (ℕ × ℕ) → List Action → ℕ → ObjectEntry → List Action
 anew_actions timer cancel start stamp entry = Began timer stamp ∷ cancels timer cancel ++ start ++ Made timer (stamp + 1) entry ∷ []
 
-disarmed : (Reached : ℕ → ℕ → Type 0) (limit : ℕ) (w : Witness) (c : Label) (timer at base begin begun last : ℕ) (wanted : Option Wanted)
-    (cancel : Option (ℕ × ℕ)) (arm : Armed) (start : List Action) (stamp : ℕ) (entry : ObjectEntry) → ArmsAs Reached limit timer wanted at base arm start
+disarmed : (sight : Sight) (limit : ℕ) (w : Witness) (c : Label) (timer at base begin begun last : ℕ) (wanted : Option Wanted)
+    (cancel : Option (ℕ × ℕ)) (arm : Armed) (start : List Action) (stamp : ℕ) (entry : ObjectEntry) → ArmsAs sight limit timer wanted at base arm start
     → FoundIdle w timer cancel begun → begin ≤ begun → begun ≤ last → IsMoment w c (Began timer stamp ∷ []) begun
     → DisarmedFirst w c begin last timer (anew_actions timer cancel start stamp entry)
-disarmed Reached limit w c timer at base begin begun last wanted (Some cancel) arm start stamp entry arms idle from to point = tt
-disarmed Reached limit w c timer at base begin begun last wanted None arm start stamp entry arms idle from to point = by_wanted wanted arms
+disarmed sight limit w c timer at base begin begun last wanted (Some cancel) arm start stamp entry arms idle from to point = tt
+disarmed sight limit w c timer at base begin begun last wanted None arm start stamp entry arms idle from to point = by_wanted wanted arms
   where
     this : List Action
     this = Made timer (stamp + 1) entry ∷ []
@@ -112,7 +112,7 @@ disarmed Reached limit w c timer at base begin begun last wanted None arm start 
     none : start ≡ [] → DisarmedFirst w c begin last timer (Began timer stamp ∷ start ++ this)
     none is = subst (λ ds. DisarmedFirst w c begin last timer (Began timer stamp ∷ ds ++ this)) (sym is) was
 
-    by_start : (mode : Mode) (ns : ℕ) (arm : Armed) → Arms Reached limit timer mode ns at base arm start
+    by_start : (mode : Mode) (ns : ℕ) (arm : Armed) → Arms sight limit timer mode ns at base arm start
         → DisarmedFirst w c begin last timer (Began timer stamp ∷ start ++ this)
     by_start mode ns armings.None is = none is
     by_start mode ns armings.Unarmed is = none is
@@ -124,7 +124,7 @@ disarmed Reached limit w c timer at base begin begun last wanted None arm start 
         go [] = was
         go (out ∷ outs) = was
 
-    by_wanted : (wanted : Option Wanted) → ArmsAs Reached limit timer wanted at base arm start
+    by_wanted : (wanted : Option Wanted) → ArmsAs sight limit timer wanted at base arm start
         → DisarmedFirst w c begin last timer (Began timer stamp ∷ start ++ this)
     by_wanted None is = none is.1
     by_wanted (Some wanted) is = by_start wanted.mode wanted.ns arm is
@@ -142,7 +142,7 @@ module _ {w : Witness} {moves signals : Spans} {c : Label} {at begin last timer 
   -- such a call disarmed its timer first
   first : DisarmedFirst w c begin last timer (anew_actions timer cancel start stamp (entry arm))
   first =
-      disarmed (WasOffLine w begin last) w.script.limit w c timer at (base_of (kind_of w.script timer)) begin anew.begun last wanted cancel arm start stamp
+      disarmed (sight_of w begin last) w.script.limit w c timer at (base_of (kind_of w.script timer)) begin anew.begun last wanted cancel arm start stamp
       (entry arm) anew.arms anew.idle anew.from (omega (arith, anew.between, anew.high))
       (moment_of kept (Began timer stamp ∷ []) anew.begun (omega (arith, low, anew.from)) (omega (arith, anew.between, anew.high)) anew.begins)
 
@@ -162,8 +162,8 @@ module _ {w : Witness} {moves signals : Spans} {c : Label} {at begin last timer 
   }
 
   anew_made : (IsTrueStart w timer (stamp + 1) true arm anew.ends → IsTrueEntry w c timer (stamp + 1) (entry arm) anew.ends)
-      → (MakesAnew (WasOffLine w begin last) w.script.limit (kind_of w.script timer) timer wanted at entry (anew_actions timer cancel start stamp (entry arm))
-      → Does (WasOffLine w begin last) w.script at call answer [] [] (anew_actions timer cancel start stamp (entry arm)))
+      → (MakesAnew (sight_of w begin last) w.script.limit (kind_of w.script timer) timer wanted at entry (anew_actions timer cancel start stamp (entry arm))
+      → Does (sight_of w begin last) w.script at call answer [] [] (anew_actions timer cancel start stamp (entry arm)))
       → AnswerHolds w begin last c at (anew_actions timer cancel start stamp (entry arm)) call answer → FitsCall w c call answer before after
   anew_made holds does seen =
       let upto : begin ≤ anew.ends = omega (arith, anew.from, anew.between) in
@@ -173,7 +173,7 @@ module _ {w : Witness} {moves signals : Spans} {c : Label} {at begin last timer 
       (plain_then w c begin anew.ends last [] turn (Made timer (stamp + 1) (entry arm)) (
         tt,
         plain_both timer cancel start
-            (plain_anew (WasOffLine w begin last) w.script.limit timer at (base_of (kind_of w.script timer)) wanted arm start anew.arms),
+            (plain_anew (sight_of w begin last) w.script.limit timer at (base_of (kind_of w.script timer)) wanted arm start anew.arms),
       ) upto anew.high (point, holds anew.holds))
       seen
 
@@ -255,7 +255,7 @@ pub record IsRearmed (w : Witness) (c : Label) (notes : List PlacedEntry) (at be
     (stamp : ℕ) : Type 0 where
   pub ns : ℕ
   pub timely : ns ≤ last_time
-  pub arms : Arms (WasOffLine w begin last) w.script.limit timer modes.Keep ns at (base_of (kind_of w.script timer)) arm start
+  pub arms : Arms (sight_of w begin last) w.script.limit timer modes.Keep ns at (base_of (kind_of w.script timer)) arm start
   -- where it had made its entries of the timer; the object's was yet to come
   pub ends : ℕ
   pub between : begin ≤ ends
@@ -273,8 +273,8 @@ module _ {w : Witness} {moves signals : Spans} {c : Label} {at begin last timer 
     (kept : IsKept w moves signals c (turning at begin last (rearming_actions timer start stamp (entry arm)) turns) notes call answer before after)
     (low : moves.first c ≤ begin) (rearmed : IsRearmed w c notes at begin last timer arm start stamp) where
   rearming_made : (IsTrueStart w timer (stamp + 1) false arm rearmed.ends → IsTrueEntry w c timer (stamp + 1) (entry arm) rearmed.ends)
-      → (MakesRearming (WasOffLine w begin last) w.script.limit (kind_of w.script timer) timer at entry (rearming_actions timer start stamp (entry arm))
-      → Does (WasOffLine w begin last) w.script at call answer [] [] (rearming_actions timer start stamp (entry arm)))
+      → (MakesRearming (sight_of w begin last) w.script.limit (kind_of w.script timer) timer at entry (rearming_actions timer start stamp (entry arm))
+      → Does (sight_of w begin last) w.script at call answer [] [] (rearming_actions timer start stamp (entry arm)))
       → AnswerHolds w begin last c at (rearming_actions timer start stamp (entry arm)) call answer → FitsCall w c call answer before after
   rearming_made holds does seen =
       call_made kept low (omega (arith, rearmed.between, rearmed.high)) rearmed.behind
@@ -282,7 +282,7 @@ module _ {w : Witness} {moves signals : Spans} {c : Label} {at begin last timer 
       (none_moved _ call, none_moved _ call)
       (plain_then w c begin rearmed.ends last [] (Began timer stamp ∷ start) (Made timer (stamp + 1) (entry arm)) (
         tt,
-        plain_start (WasOffLine w begin last) w.script.limit timer rearmed.ns at (base_of (kind_of w.script timer)) modes.Keep arm start rearmed.arms,
+        plain_start (sight_of w begin last) w.script.limit timer rearmed.ns at (base_of (kind_of w.script timer)) modes.Keep arm start rearmed.arms,
       ) rearmed.between rearmed.high (
         moment_of kept (Began timer stamp ∷ start) rearmed.ends (omega (arith, low, rearmed.between)) rearmed.high rearmed.stops,
         holds rearmed.holds,

@@ -10,7 +10,7 @@ use Rattle.script_text.specs.declared.script.Call.TheVariants as calls
 use Rattle.run_history.specs.Actions.{Action, Shifted}
 use Rattle.run_history.specs.Calls.{Does, AnswerHolds}
 use Rattle.run_history.specs.Deeds.{AllKeepExpiries, AllMoved, evacuates}
-use Rattle.run_history.specs.Truths.{WasFront, WasOffLine}
+use Rattle.run_history.specs.Truths.{LeftInTurn, sight_of}
 use Rattle.run_history.specs.Fits.{FitsCall, Seen}
 use Rattle.run_history.specs.Receipts.{PlacedEntry}
 use Rattle.run_history.specs.Rounds.{Spans}
@@ -39,9 +39,9 @@ pub offline_made : {w : Witness} {moves signals : Spans} {c : Label} {at first l
     (moved : List Evacuation) (answer : Answer)
     → IsKept w moves signals c (evacuating at first last heir moved (shift_by base heir answer)) notes (calls.Offline base heir budget) answer before after
     → first ≡ moves.first c
-    → Does (WasOffLine w first last) w.script at (calls.Offline base heir budget) answer [] moved (flat_map
+    → Does (sight_of w first last) w.script at (calls.Offline base heir budget) answer [] moved (flat_map
     (evacuates heir at) moved ++ shift_by base heir answer)
-    → AllKeepExpiries w.script w.run (calls.Offline base heir budget) moved × AllMoved (WasFront w first last) (calls.Offline base heir budget) moved
+    → AllKeepExpiries w.script w.run (calls.Offline base heir budget) moved × AllMoved (LeftInTurn w first last) (calls.Offline base heir budget) moved
     → AnswerHolds w first last c at (flat_map (evacuates heir at) moved ++ shift_by base heir answer) (calls.Offline base heir budget) answer
     → FitsCall w c (calls.Offline base heir budget) answer before after
 offline_made {w = w} {c = c} {at = at} {first = first} {last = last} base heir budget moved answer kept starts does keeps holds =

@@ -14,7 +14,7 @@ use Rattle.script_text.specs.declared.script.Call.TheVariants as calls
 use Rattle.script_text.specs.declared.script.Call.{Call}
 use Rattle.run_history.specs.Calls.{Does, AnswerHolds}
 use Rattle.run_history.specs.Deeds.{AllMoved}
-use Rattle.run_history.specs.Truths.{AreTrue, WasOffLine}
+use Rattle.run_history.specs.Truths.{AreTrue, sight_of}
 use Rattle.run_history.specs.Witnesses.{Evacuation, Witness, Trace}
 use Rattle.run_history.specs.Fits.{FitsCall, Seen}
 use Rattle.run_history.specs.Receipts.{PlacedEntry}
@@ -41,7 +41,7 @@ none_moved IsSo call = tt
 -- a call that makes no entry, of a timer, an object or the clock: what it was told held at one moment
 pub quiet_made : {w : Witness} {moves signals : Spans} {c : Label} {at last : ℕ} {notes : List PlacedEntry} {call : Call} {answer : Answer} {before after : Seen}
     {turns : List (ℕ × Turn)} → IsKept w moves signals c (turning at last last [] turns) notes call answer before after
-    → Does (WasOffLine w last last) w.script at call answer [] [] [] → AnswerHolds w last last c at [] call answer → FitsCall w c call answer before after
+    → Does (sight_of w last last) w.script at call answer [] [] [] → AnswerHolds w last last c at [] call answer → FitsCall w c call answer before after
 quiet_made {w = w} {last = last} {notes = notes} {call = call} kept does seen =
     call_made kept kept.forward (omega arith)
     (subst (AllByRecursion (λ x. last ≤ x.place)) (sym (no_notes notes kept.entered)) tt) does
@@ -77,7 +77,7 @@ pub started_made : {w : Witness} {moves signals : Spans} {c : Label} {at first l
     (a : Arming)
     → IsKept w moves signals c (plain at first last (arming_actions timer request at a)) notes (calls.Start timer request)
     (answers.Started a.number a.placement.base (was_armed_before a.outs a.was_armed)) before after
-    → first ≡ moves.first c → IsArming (WasOffLine w first last) w.script.limit request.base a
+    → first ≡ moves.first c → IsArming (sight_of w first last) timer w.script.limit request.base a
     → FitsCall w c (calls.Start timer request) (answers.Started a.number a.placement.base (was_armed_before a.outs a.was_armed)) before after
 started_made {w = w} {c = c} {at = at} {first = first} {last = last} timer request a kept starts arms =
     call_made_whole kept starts (a, refl, refl, refl, refl, arms) (tt, tt)

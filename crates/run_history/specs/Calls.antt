@@ -33,6 +33,7 @@ use Rattle.record_text.specs.declared.record.SettimeReply.{SettimeReply}
 use Rattle.record_text.specs.declared.record.SettimeReply.TheVariants as settings
 use Rattle.record_text.specs.declared.record.SleepReply.{SleepReply}
 use Rattle.record_text.specs.declared.record.SleepReply.TheVariants as begun
+use Rattle.run_history.specs.Starts.{Sight}
 use Rattle.run_history.specs.Actions.{Action, Shifted}
 use Rattle.run_history.specs.Histories.{reading_at}
 use Rattle.run_history.specs.ObjectCalls.{AreValidFor, IsProperSleep, nanoseconds_of}
@@ -246,8 +247,8 @@ reads_clock call = true
 -- ---- what the rows say
 
 -- what a call did is what its arguments and its answer say, by what it saw of bases off line
-abbrev pub Does : (ℕ → ℕ → Type 0) → Script → ℕ → Call → Answer → List Fired → List Evacuation → List Action → Type 0
-Does Reached s reading call answer fired moved actions = Did Reached s reading (call_row s reading call answer).did fired moved actions
+abbrev pub Does : Sight → Script → ℕ → Call → Answer → List Fired → List Evacuation → List Action → Type 0
+Does sight s reading call answer fired moved actions = Did sight s reading (call_row s reading call answer).did fired moved actions
 
 -- what its answer tells is so
 abbrev pub AnswerHolds : Witness → ℕ → ℕ → Label → ℕ → List Action → Call → Answer → Type 0

@@ -26,7 +26,7 @@ use Rattle.seq_timer.specs.declared.standing.BaseEvent.{BaseEvent}
 use Rattle.record_text.specs.declared.record.ObjectEntry.TheVariants as object_entries
 use Rattle.script_text.specs.Declarations.{declared_of, without_slack, kind_of}
 use Rattle.run_history.specs.Histories.{timer_after}
-use Rattle.run_history.specs.Starts.{Arming, IsArming, arming_actions, was_armed_before}
+use Rattle.run_history.specs.Starts.{Arming, IsArming, Sight, arming_actions, was_armed_before}
 use Rattle.run_history.specs.ObjectCalls.{MakesAnew, MakesRearming}
 use Rattle.run_history.specs.Actions.{Action, Began, Wrote, Entered, Looked, Made, Shifted, Skipped}
 use Rattle.run_history.specs.Witnesses.{Evacuation, Fired}
@@ -81,8 +81,8 @@ AllMoved IsSo call moved = Unit
 abbrev pub AllKeepExpiries : Script → RunRecord → Call → List Evacuation → Type 0
 AllKeepExpiries s r call moved = AllMoved (λ base e. KeepsExpiries base (timer_after s r e.timer e.before) e) call moved
 
--- by what the call saw of bases off line
-module _ (Reached : ℕ → ℕ → Type 0) where
+-- by what the call saw
+module _ (sight : Sight) where
   -- what a raw timer's callback may do, and whether it asks for a restart, by its declaration
   abbrev pub IsCallback : ℕ → Callback → ℕ → Fired → Type 0
   IsCallback limit callbacks.Once reading f = (f.body ≡ []) × (f.restart ≡ false)
@@ -94,7 +94,7 @@ module _ (Reached : ℕ → ℕ → Type 0) where
       × (f.restart ≡ true)
   IsCallback limit callbacks.Cancels reading f = ((number : ℕ) × (f.body ≡ Looked f.timer number (told.Running f.generation) ∷ [])) × (f.restart ≡ false)
   IsCallback limit (callbacks.Starts ns base) reading f =
-      (((a : Arming) × (f.body ≡ arming_actions f.timer (without_slack modes.Rel ns base) reading a) × IsArming Reached limit base a)
+      (((a : Arming) × (f.body ≡ arming_actions f.timer (without_slack modes.Rel ns base) reading a) × IsArming sight f.timer limit base a)
       ⊎ ((number : ℕ) × (f.body ≡ Looked f.timer number told.Spent ∷ [])))
       × (f.restart ≡ true)
 
@@ -139,20 +139,20 @@ pub data Deed : Type 1 where
   -- one of these, and this holds besides
   Where : (did : Deed) (IsSo : Type 0) → Deed
 
--- these are the actions of a call that did so. The call has one reading, saw so much of bases off line, and ran these callbacks or moved these timers.
-abbrev pub Did : (ℕ → ℕ → Type 0) → Script → ℕ → Deed → List Fired → List Evacuation → List Action → Type 0
-Did Reached s reading Never fired moved actions = ⊥
-Did Reached s reading Nothing fired moved actions = actions ≡ []
-Did Reached s reading (Starts timer request generation on was_armed) fired moved actions =
+-- these are the actions of a call that did so. The call has one reading, saw so much, and ran these callbacks or moved these timers.
+abbrev pub Did : Sight → Script → ℕ → Deed → List Fired → List Evacuation → List Action → Type 0
+Did sight s reading Never fired moved actions = ⊥
+Did sight s reading Nothing fired moved actions = actions ≡ []
+Did sight s reading (Starts timer request generation on was_armed) fired moved actions =
     (a : Arming) × (actions ≡ arming_actions timer request reading a) × (generation ≡ a.number) × (on ≡ a.placement.base)
-    × (was_armed ≡ was_armed_before a.outs a.was_armed) × IsArming Reached s.limit request.base a
-Did Reached s reading (Cancels timer generation) fired moved actions =
+    × (was_armed ≡ was_armed_before a.outs a.was_armed) × IsArming sight timer s.limit request.base a
+Did sight s reading (Cancels timer generation) fired moved actions =
     (number : ℕ) × (actions ≡ Entered timer number (record { event = events.Cancel; reply = replies.Cancel generation }) ∷ [])
-Did Reached s reading (Writes stamp write) fired moved actions = actions ≡ Wrote stamp write ∷ []
-Did Reached s reading (Runs context base shown timers IsCount) fired moved actions =
-    IsExpiryRun Reached s context reading base fired shown timers actions × IsCount (length fired)
-Did Reached s reading (Anew timer wanted entry) fired moved actions = MakesAnew Reached s.limit (kind_of s timer) timer wanted reading entry actions
-Did Reached s reading (Rearms timer entry) fired moved actions = MakesRearming Reached s.limit (kind_of s timer) timer reading entry actions
-Did Reached s reading (Evacuates heir count end IsCount) fired moved actions = IsEvacuation heir reading count moved end actions × IsCount count
-Did Reached s reading (Shifts base stamp event) fired moved actions = actions ≡ Shifted base stamp event ∷ []
-Did Reached s reading (Where did IsSo) fired moved actions = Did Reached s reading did fired moved actions × IsSo
+Did sight s reading (Writes stamp write) fired moved actions = actions ≡ Wrote stamp write ∷ []
+Did sight s reading (Runs context base shown timers IsCount) fired moved actions =
+    IsExpiryRun sight s context reading base fired shown timers actions × IsCount (length fired)
+Did sight s reading (Anew timer wanted entry) fired moved actions = MakesAnew sight s.limit (kind_of s timer) timer wanted reading entry actions
+Did sight s reading (Rearms timer entry) fired moved actions = MakesRearming sight s.limit (kind_of s timer) timer reading entry actions
+Did sight s reading (Evacuates heir count end IsCount) fired moved actions = IsEvacuation heir reading count moved end actions × IsCount count
+Did sight s reading (Shifts base stamp event) fired moved actions = actions ≡ Shifted base stamp event ∷ []
+Did sight s reading (Where did IsSo) fired moved actions = Did sight s reading did fired moved actions × IsSo

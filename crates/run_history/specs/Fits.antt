@@ -19,7 +19,7 @@ use Rattle.run_history.specs.Witnesses.{Move, Trace, Witness, IsOneHistory, labe
 use Rattle.run_history.specs.Traces.{HasTraced}
 use Rattle.run_history.specs.Calls.{AnswerHolds, Does, reads_clock}
 use Rattle.run_history.specs.Deeds.{AllKeepExpiries, AllMoved}
-use Rattle.run_history.specs.Truths.{AreTrue, IsMoment, WasFront, WasOffLine}
+use Rattle.run_history.specs.Truths.{AreTrue, IsMoment, LeftInTurn, sight_of}
 
 -- how many of the clock's writes, how many moves, and how many pushes and pops of signals, a lane has seen
 pub record Seen : Type 0 where
@@ -40,11 +40,11 @@ pub record HasSignalled (w : Witness) (c : Label) (t : Trace) (answer : Answer) 
 -- before, and no more than its lane has seen after it.
 pub record TraceExplains (w : Witness) (c : Label) (t : Trace) (call : Call) (answer : Answer) (before after : Seen) : Type 0 where
   pub traced : HasTraced w c t.actions
-  pub does : Does (WasOffLine w t.first t.last) w.script t.at call answer t.fired t.moved t.actions
+  pub does : Does (sight_of w t.first t.last) w.script t.at call answer t.fired t.moved t.actions
   -- the timers that it moved off a base keep their expiries
   pub keeps : AllKeepExpiries w.script w.run call t.moved
-  -- and each was the next one, while no function ran there, at a moment at which it had just the entries before its move
-  pub turns : AllMoved (WasFront w t.first t.last) call t.moved
+  -- and each was the next one, while no function ran there, where it left
+  pub turns : AllMoved (LeftInTurn w t.first t.last) call t.moved
   pub reading : IsPoint w.script c 0 t.at (clock_labels w.run)
   -- its first moment, at which it had made no entry, and its last, at which it had made them all
   pub begins : IsMoment w c [] t.first

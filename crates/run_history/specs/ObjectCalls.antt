@@ -15,7 +15,7 @@ use Rattle.timer_fd.specs.States.{fd_flags}
 use Rattle.script_text.specs.declared.script.Kind.{Kind}
 use Rattle.script_text.specs.declared.script.Kind.TheVariants as kinds
 use Rattle.run_history.specs.Actions.{Action, Began, Entered, Made}
-use Rattle.run_history.specs.Starts.{Arming, IsArming, arming_actions}
+use Rattle.run_history.specs.Starts.{Arming, IsArming, Sight, arming_actions}
 use Rattle.script_text.specs.Declarations.{base_of, without_slack}
 
 -- the flags of a settime that an object of this kind has
@@ -40,13 +40,13 @@ abbrev pub cancels : ℕ → Option (ℕ × ℕ) → List Action
 cancels timer None = []
 cancels timer (Some c) = Entered timer c.0 (record { event = events.Cancel; reply = replies.Cancel c.1 }) ∷ []
 
--- by what the call saw of bases off line, and with the limit of timers' histories
-module _ (Reached : ℕ → ℕ → Type 0) (limit : ℕ) where
+-- by what the call saw, and with the limit of timers' histories
+module _ (sight : Sight) (limit : ℕ) where
   -- an object's call armed its timer as its entry tells it: by one start of this mode and time and without slack, or by none
   abbrev pub Arms : ℕ → Mode → ℕ → ℕ → ℕ → Armed → List Action → Type 0
   Arms timer mode ns reading base armings.None actions = actions ≡ []
   Arms timer mode ns reading base (armings.Generation generation) actions =
-      (a : Arming) × (actions ≡ arming_actions timer (without_slack mode ns base) reading a) × (generation ≡ a.number) × IsArming Reached limit base a
+      (a : Arming) × (actions ≡ arming_actions timer (without_slack mode ns base) reading a) × (generation ≡ a.number) × IsArming sight timer limit base a
   Arms timer mode ns reading base armings.Unarmed actions = actions ≡ []
 
   -- the same of a call that wants this start, or none

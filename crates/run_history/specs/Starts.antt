@@ -1,5 +1,5 @@
 -- What a start that is made enters: an Out for each base that the timer is sent to, and the Start; and to which bases it may be sent.
-use Rattle.std.specs.Prelude.{ℕ, ◌≡◌, ◌+◌, ◌≤◌, ◌<◌, Bool, List, [], ◌∷◌, ◌++◌, map}
+use Rattle.std.specs.Prelude.{ℕ, ◌≡◌, ◌+◌, ◌≤◌, ◌<◌, Bool, List, [], ◌∷◌, ◌++◌, Option, Some, None}
 use Rattle.seq_timer.specs.declared.event.AskedBy.{AskedBy}
 use Rattle.seq_timer.specs.declared.event.EventBy.TheVariants as events
 use Rattle.seq_timer.specs.declared.event.Placement.{Placement}
@@ -55,26 +55,49 @@ IsJustBefore [] number = Unit
 IsJustBefore (out ∷ outs) number = (first_number outs number ≡ out.number + 1) × IsJustBefore outs number
 
 -- each base is of a lower number than the one before
-abbrev pub BasesFall : ℕ → List ℕ → Type 0
+abbrev pub BasesFall : ℕ → List SentTo → Type 0
 BasesFall base [] = Unit
-BasesFall base (b ∷ bs) = (b < base) × BasesFall b bs
+BasesFall base (out ∷ outs) = (out.base < base) × BasesFall out.base outs
 
--- steps from a base to its heir, as they are said of one call
-module _ (Reached : ℕ → ℕ → Type 0) where
-  -- from the one base the other is reached by these heirs in turn
-  abbrev pub HeirsLeadTo : ℕ → List ℕ → ℕ → Type 0
-  HeirsLeadTo base [] to = base ≡ to
-  HeirsLeadTo base (heir ∷ heirs) to = Reached base heir × HeirsLeadTo heir heirs to
+-- what is seen of a run at each moment, between the first and the last of a call: of each base its heir, while it is off line, and of each timer how many
+-- entries it has
+pub record Sight : Type 0 where
+  pub heir : (moment base : ℕ) → Option ℕ
+  pub stamp : (moment timer : ℕ) → ℕ
+  pub first : ℕ
+  pub last : ℕ
 
-  -- the bases to which a start sent its timer, and the one that it asked for last: each is the one that was asked for first, or is reached from it and
-  -- from the one before
-  abbrev pub IsSentByHeirs : ℕ → List ℕ → ℕ → Type 0
-  IsSentByHeirs base [] last = (path : List ℕ) × HeirsLeadTo base path last
-  IsSentByHeirs base (b ∷ bs) last = ((path : List ℕ) × HeirsLeadTo base path b) × HeirsLeadTo b bs last × BasesFall b bs
+-- by what a call saw
+module _ (sight : Sight) where
+  -- From the one base the other is reached by these heirs in turn: each base was off line with the next as its heir, and the last was on line, at moments
+  -- that never go back. The last of them is `at`.
+  abbrev pub HeirsLeadTo : ℕ → ℕ → List ℕ → ℕ → ℕ → Type 0
+  HeirsLeadTo low base [] to at = (base ≡ to) × (low ≤ at) × (sight.heir at base ≡ None)
+  HeirsLeadTo low base (heir ∷ heirs) to at = (n : ℕ) × (low ≤ n) × (sight.heir n base ≡ Some heir) × HeirsLeadTo n heir heirs to at
+
+  -- the one base was reached from the other, and found on line, before the timer had its entry of this number
+  pub record FindsOnLine (timer low number base to : ℕ) : Type 0 where
+    pub path : List ℕ
+    pub at : ℕ
+    pub way : HeirsLeadTo low base path to at
+    pub no_later : at ≤ sight.last
+    pub before : sight.stamp at timer < number
+
+  -- from the base to which the timer was sent it was sent on by these Outs in turn, each to the heir of the one before; the last was asked for
+  abbrev pub IsSentOnByHeirs : ℕ → ℕ → ℕ → List SentTo → ℕ → Type 0
+  IsSentOnByHeirs timer low base [] last = base ≡ last
+  IsSentOnByHeirs timer low base (out ∷ outs) last =
+      (f : FindsOnLine timer low out.number base out.base) × (f.path ≡ out.base ∷ []) × IsSentOnByHeirs timer f.at out.base outs last
+
+  -- the bases to which a start of this number sent its timer, and the one that it asked for last: each was found on line before the entry that names it
+  abbrev pub IsSentByHeirs : ℕ → ℕ → List SentTo → ℕ → ℕ → Type 0
+  IsSentByHeirs timer base [] number last = FindsOnLine timer sight.first number base last
+  IsSentByHeirs timer base (out ∷ outs) number last =
+      (f : FindsOnLine timer sight.first out.number base out.base) × IsSentOnByHeirs timer f.at out.base outs last × BasesFall out.base outs
 
   -- A start for a base is made so: by entries that follow one another, of a timer that has fewer entries than the limit, on that base or one that is
   -- reached from it. So no start moves an armed timer whose history is full.
-  pub record IsArming (limit base : ℕ) (a : Arming) : Type 0 where
+  pub record IsArming (timer limit base : ℕ) (a : Arming) : Type 0 where
     pub below : first_number a.outs a.number ≤ limit
     pub next : IsJustBefore a.outs a.number
-    pub way : IsSentByHeirs base (map (λ out. out.base) a.outs) a.asked
+    pub way : IsSentByHeirs timer base a.outs a.number a.asked

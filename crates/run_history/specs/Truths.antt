@@ -26,6 +26,7 @@ use Rattle.seq_timer.specs.Halves.{running_on}
 use Rattle.seq_timer.specs.Systems.{next_on}
 use Rattle.seq_timer.specs.Standings.{last_standing}
 use Rattle.seq_timer.specs.Tables.{IsStopped, in_context, is_armed_on, runs_on}
+use Rattle.run_history.specs.Starts.{Sight}
 use Rattle.run_history.specs.Traces.{all_entered}
 use Rattle.run_history.specs.Witnesses.{Witness, labels, standing_along, system_along, timer_along, turns_along}
 use Rattle.run_history.specs.Witnesses.{Evacuation}
@@ -39,9 +40,14 @@ pub record Saw (w : Witness) (timer number : ℕ) (observation : Observation) (n
   pub stamp : (timer_along w n timer).stamp ≡ number
   pub holds : Holds (timer_along w n timer) observation
 
--- at a moment between two of them the base was off line with this heir
-abbrev pub WasOffLine : Witness → ℕ → ℕ → ℕ → ℕ → Type 0
-WasOffLine w first last base heir = (n : ℕ) × (first ≤ n) × (n ≤ last) × ((standing_along w n base).heir ≡ Some heir)
+-- what is seen of the run between two moments
+abbrev pub sight_of : Witness → ℕ → ℕ → Sight
+sight_of w first last = record {
+  heir = λ n base. (standing_along w n base).heir;
+  stamp = λ n timer. (timer_along w n timer).stamp;
+  first = first;
+  last = last;
+}
 
 -- at this moment no function ran on the base
 abbrev pub RanNone : Witness → ℕ → ℕ → Type 0
@@ -58,13 +64,14 @@ RanFirst w base timer generation n =
 abbrev pub WasNextOff : Witness → ℕ → ℕ → ℕ → Type 0
 WasNextOff w base timer n = (expires : ℕ) × (front_of ((system_along w n).bases base).content ≡ Some (expires, timer))
 
--- A timer that was moved off a base was the next one there, while no function ran on the base, at a moment between these two at which the timer had just the
--- entries before its move. Entries of others may stand between that moment and the move.
-pub record WasFront (w : Witness) (first last base : ℕ) (e : Evacuation) : Type 0 where
+-- A timer that was moved off a base was the next one there, while no function ran on the base, at the place of its own Out, between these two moments: where
+-- the next move is the first of the two by which it was moved.
+pub record LeftInTurn (w : Witness) (first last base : ℕ) (e : Evacuation) : Type 0 where
   pub at : ℕ
   pub from : first ≤ at
   pub to : at ≤ last
   pub stamp : (timer_along w at e.timer).stamp ≡ e.before
+  pub next : (timer_along w (at + 1) e.timer).stamp ≡ e.before + 1
   pub idle : RanNone w base at
   pub front : WasNextOff w base e.timer at
 

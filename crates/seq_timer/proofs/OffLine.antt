@@ -1,5 +1,5 @@
 -- A base that is off line has empty queues, and no function runs there; so no timer is armed on it, and no function begins there.
-use Rattle.std.proofs.Common.{◌≡◌, ℕ, ◌<◌, Bool, true, false, if◌then◌else◌, List, [], ◌∷◌, length, Option, Some, None, IsSome, refl, ap, sym, ◌∙◌, subst, arith}
+use Rattle.std.proofs.Common.{◌≡◌, ℕ, ◌<◌, ◌⊎◌, inl, inr, Bool, true, false, if◌then◌else◌, List, [], ◌∷◌, ◌++◌, length, Option, Some, None, IsSome, refl, ap, sym, ◌∙◌, subst, arith}
 use Rattle.std.proofs.Math.Logic.{⊎_elim}
 use Rattle.std.proofs.lemmas.Bool.{cases_eq, true≢false}
 use Rattle.std.proofs.lemmas.Bool.Decides.{nat_tests}
@@ -27,7 +27,7 @@ use Rattle.seq_timer.specs.Steps.{Timer, Needs, after, opening}
 use Rattle.seq_timer.specs.Tables.{IsUnused, in_context, runs_on, timer_at}
 use Rattle.seq_timer.specs.Halves.{Half, generation_in, half_after, no_half, queued_by, run_by, running_on}
 use Rattle.seq_timer.specs.Contents.{IsContentOf, content_after, first_due, half_of, no_content, with_half}
-use Rattle.seq_timer.specs.Systems.{AreSystemSteps, BaseContent, BeginsInTurn, FitsBase, IsBaseStep, IsClear, IsSystemHistory, IsSystemStep, MayCome, System, after_entries, after_entry, after_one, after_shift, first_system, openings, shifts_of, system_of}
+use Rattle.seq_timer.specs.Systems.{AreSystemSteps, BaseContent, BeginsInTurn, FitsBase, HasHeirOnLine, IsBaseStep, IsClear, IsSystemHistory, IsSystemStep, MayCome, System, after_entries, after_entry, after_one, after_shift, first_system, openings, shifts_of, system_of}
 use Rattle.seq_timer.proofs.Agreement.{Agrees, agrees_one, content_of_changed, first_agrees}
 use Rattle.seq_timer.proofs.Contents.{seen_own}
 use Rattle.seq_timer.proofs.Effects.{by_effect}
@@ -211,6 +211,58 @@ module _ (bases : ℕ) (terms : Terms) (list : List Declared) (log : List System
   pub all_clear : IsClearOff (length list) (system_of list terms log)
   all_clear = clear_after bases (length list) (first_system (openings list terms)) log history (first_agrees list terms)
       (subst (λ n. IsClearOff n (first_system (openings list terms))) (length-map list (λ d. opening d terms)) (clear_first (openings list terms)))
+
+-- ---- heirs
+
+module _ (bases count b : ℕ) where
+  -- a base is off line after these entries with an heir that is on line
+  abbrev pub IsOffTo : System → ℕ → Type 0
+  IsOffTo w heir = ((w.bases b).standing.heir ≡ Some heir) × ((w.bases heir).standing.heir ≡ None)
+
+  off_after : (w : System) (c : BaseEntry) (heir : ℕ) → IsBaseStep bases count w c → b ≡ c.base
+      → ((after_shift w c).bases b).standing.heir ≡ Some heir → IsOffTo (after_shift w c) heir
+  off_after w c heir ok here off = by_event c.event ok.may ok.heir (sym stands ∙ off)
+    where
+      stands : ((after_shift w c).bases b).standing.heir ≡ (standing_after (w.bases c.base).standing c.event).heir
+      stands = subst (λ q. ((after_shift w c).bases q).standing.heir ≡ (standing_after (w.bases c.base).standing c.event).heir) (sym here)
+          (ap (λ (x : BaseContent). x.standing.heir) (base_shift w c) ∙ ap (λ (x : Standing). x.heir) (standing_shifted c.event (w.bases c.base)))
+
+      by_event : (e : BaseEvent) → MayShift c.base (w.bases c.base).standing e → HasHeirOnLine w.bases e
+          → (standing_after (w.bases c.base).standing e).heir ≡ Some heir → IsOffTo (after_shift w c) heir
+      by_event (shifts.Offline to) may on is =
+          let same : to ≡ heir = cc in
+          let below : heir < c.base = subst (λ q. q < c.base) same may.1 in (
+            off,
+            ap (λ (x : BaseContent). x.standing.heir) (base_unshifted w c heir (λ q. omega (arith, below, q)))
+                ∙ subst (λ q. (w.bases q).standing.heir ≡ None) same on,
+          )
+      by_event shifts.Online may on is = absurd (no_heir heir is)
+
+  module _ (W : ℕ → Type 0) where
+    heir_next : (w : System) (x : SystemEntry) → MayCome bases count w x → ((h : ℕ) → (w.bases b).standing.heir ≡ Some h → W h)
+        → (h : ℕ) → ((after_one w x).bases b).standing.heir ≡ Some h → W h ⊎ IsOffTo (after_one w x) h
+    heir_next w (entries.Timer e) ok known h off = inl (known h (sym (ap (λ (x : Standing). x.heir) (standing_same w e b)) ∙ off))
+    heir_next w (entries.Rise k) ok known h off = inl (known h off)
+    heir_next w (entries.Base c) ok known h off = ⊎_elim
+        (λ (here : b ≡ c.base). inr (off_after w c h ok here off))
+        (λ there. inl (known h (sym (ap (λ (x : BaseContent). x.standing.heir) (base_unshifted w c b there)) ∙ off)))
+        (cases_eq b c.base)
+
+  heir_taken : (W : ℕ → Type 0) (w : System) (xs : List SystemEntry) → AreSystemSteps bases count w xs
+      → ((h : ℕ) → (w.bases b).standing.heir ≡ Some h → W h) → (h : ℕ) → ((after_entries w xs).bases b).standing.heir ≡ Some h
+      → W h ⊎ ((ys : List SystemEntry) × (zs : List SystemEntry) × (xs ≡ ys ++ zs) × IsOffTo (after_entries w ys) h)
+  heir_taken W w [] all known h off = inl (known h off)
+  heir_taken W w (x ∷ xs) all known h off = ⊎_elim
+      (λ now. ⊎_elim (λ before. inl before) (λ here. inr (x ∷ [], xs, refl, here)) now)
+      (λ later. inr (x ∷ later.0, later.1, ap (λ l. x ∷ l) later.2, later.3))
+      (heir_taken (λ k. W k ⊎ IsOffTo (after_one w x) k) (after_one w x) xs all.1 (heir_next W w x all.0 known) h off)
+
+  -- law: where a base that was on line is off line with an heir, there was a moment in between when it was off line so, and the heir on line
+  pub heir_on_line : (w : System) (xs : List SystemEntry) → AreSystemSteps bases count w xs → (w.bases b).standing.heir ≡ None
+      → (h : ℕ) → ((after_entries w xs).bases b).standing.heir ≡ Some h
+      → (ys : List SystemEntry) × (zs : List SystemEntry) × (xs ≡ ys ++ zs) × IsOffTo (after_entries w ys) h
+  heir_on_line w xs all on h off =
+      ⊎_elim (λ none. absurd none) (λ is. is) (heir_taken (λ k. ⊥) w xs all (λ k is. no_heir k (sym on ∙ is)) h off)
 
 -- ---- standings
 

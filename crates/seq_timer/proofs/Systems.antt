@@ -142,6 +142,10 @@ module _ (bases count : ℕ) where
   steps_part w [] ys all = tt
   steps_part w (x ∷ xs) ys all = (all.0, steps_part (after_one w x) xs ys all.1)
 
+  pub steps_rest : (w : System) (xs ys : List SystemEntry) → AreSystemSteps bases count w (xs ++ ys) → AreSystemSteps bases count (after_entries w xs) ys
+  steps_rest w [] ys all = all
+  steps_rest w (x ∷ xs) ys all = steps_rest (after_one w x) xs ys all.1
+
   -- ---- bases keep the timers that are on them
 
   shows_next : (w : System) (e : TimerEntry) → IsSystemStep bases count w e → Shows count w → Shows count (after_entry w e)

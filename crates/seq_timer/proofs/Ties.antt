@@ -373,5 +373,6 @@ module _ (bases : ℕ) (terms : Terms) (list : List Declared) (before later : Li
         within = step.within;
         may = step.may;
         clear = λ heir is. unused w (all_agree bases terms list before part) c.base (subst (λ x. IsClear (w.bases c.base) x) is step.clear);
+        heir = step.heir;
         reach = step.reach;
       }

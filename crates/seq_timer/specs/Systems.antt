@@ -109,11 +109,18 @@ abbrev pub IsClear : BaseContent → BaseEvent → Type 0
 IsClear b (shifts.Offline heir) = b.content ≡ no_content
 IsClear b shifts.Online = Unit {0}
 
--- an entry of a base may come next: it is by turns off line and on line, and off line with nothing on it, where each timer has a reach
+-- and its heir is on line
+abbrev pub HasHeirOnLine : (ℕ → BaseContent) → BaseEvent → Type 0
+HasHeirOnLine bases (shifts.Offline heir) = (bases heir).standing.heir ≡ None
+HasHeirOnLine bases shifts.Online = Unit {0}
+
+-- an entry of a base may come next: it is by turns off line and on line, and off line with nothing on it and to an heir that is on line, where each timer
+-- has a reach
 pub record IsBaseStep (bases count : ℕ) (w : System) (c : BaseEntry) : Type 0 where
   pub within : c.base < bases
   pub may : MayShift c.base (w.bases c.base).standing c.event
   pub clear : IsClear (w.bases c.base) c.event
+  pub heir : HasHeirOnLine w.bases c.event
   pub reach : (t : ℕ) → t < count → 0 < (w.timers t).terms.reach
 
 -- an entry may come next

@@ -13,7 +13,7 @@ use Rattle.seq_timer.specs.Standings.{MayShift}
 use Rattle.seq_timer.specs.Effects.{effect, WantsOnLine}
 use Rattle.seq_timer.specs.Steps.{Timer, Needs, reply_to}
 use Rattle.seq_timer.specs.Tables.{IsNextDue, IsUnused, in_context, is_kept_on, runs_on}
-use Rattle.seq_timer.specs.Systems.{armed_in, system_of}
+use Rattle.seq_timer.specs.Systems.{armed_in, system_of, HasHeirOnLine}
 
 -- It is a timer's turn on a base: no function runs there, the timer is the next to expire there, and of those that are kept on its clock for the same
 -- time it was armed first. `armed` is of each timer the number of the entry that armed it last.
@@ -35,11 +35,13 @@ pub record MayFollow (bases : ℕ) (declareds : List Declared) (terms : Terms) (
       → IsTurn (in_context ((system_of declareds terms before).timers e.timer).declared.context (system_of declareds terms before).timers)
       (armed_in declareds terms before) base reading e.timer
 
--- and an entry of a base: it goes by turns, and off line where no timer is armed on it and no function runs there, and each timer has a reach
+-- and an entry of a base: it goes by turns, and off line where no timer is armed on it and no function runs there, to an heir that is on line, and each
+-- timer has a reach
 pub record MayShiftAfter (bases : ℕ) (declareds : List Declared) (terms : Terms) (before : List SystemEntry) (c : BaseEntry) : Type 0 where
   pub within : c.base < bases
   pub may : MayShift c.base ((system_of declareds terms before).bases c.base).standing c.event
   pub clear : (heir : ℕ) → c.event ≡ shifts.Offline heir → IsUnused (system_of declareds terms before).timers c.base
+  pub heir : HasHeirOnLine (system_of declareds terms before).bases c.event
   pub reach : (t : ℕ) → t < length declareds → 0 < ((system_of declareds terms before).timers t).terms.reach
 
 -- an entry of a timer or of a base; a rise of a counter may stand anywhere

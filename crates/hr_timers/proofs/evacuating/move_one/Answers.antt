@@ -6,6 +6,7 @@ use Rattle.seq_timer.specs.Steps.{Timer, Needs, after}
 use Rattle.seq_timer.specs.declared.event.EventBy.TheVariants.{Out, Start}
 use Rattle.seq_timer.specs.declared.standing.Standing.{Standing}
 use Rattle.base_row.specs.Calls.{base_seen}
+use Rattle.pass_names.proofs.Passes.{begins_trans}
 use Rattle.hr_timers.specs.Calls.{entry_by}
 use Rattle.hr_timers.specs.Known.{AddsBehind}
 use Rattle.hr_timers.specs.Logged.{IsLogged}
@@ -54,3 +55,14 @@ returns-clause-logged g c =
     ∙ ap (λ (t : Timer). after t (Out c.args.heir)) (sym c.requires.state))
     (subst (λ (a : Asked). IsLogged put o c.args.timer w.seen (entry_by c.send-moved.result (Start a) ∷ []) s' s'') c.moving_on-asked.ensures
     c.arrive_first.ensures.logged))
+
+pub returns-clause-place : goal.returns-clause-place
+returns-clause-place g c =
+    let place = c.send-moved.ensures.place in
+    record {
+      at = place.at;
+      from = place.from;
+      own = place.own;
+      next = (place.next.0, place.next.1, begins_trans place.next.2 c.arrive_first.ensures.adds.seen);
+      base = place.base;
+    }

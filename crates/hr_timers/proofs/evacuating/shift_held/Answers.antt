@@ -1,5 +1,7 @@
-use Rattle.std.proofs.Common.{◌≡◌, ap}
-use Rattle.seq_timer.specs.Systems.{BaseContent}
+use Rattle.std.proofs.Common.{◌≡◌, ap, subst, sym}
+use Rattle.seq_timer.specs.Systems.{BaseContent, HasHeirOnLine}
+use Rattle.base_row.specs.declared.view.Opening.{Opening}
+use Rattle.hr_timers.specs.Known.{IsEvacuable}
 use Rattle.base_row.specs.Calls.{base_seen}
 use Rattle.hr_timers.proofs.Keeping.{off_freed, shifts_freed, unused_seen}
 use Rattle.hr_timers.proofs.Standing.{knows_in}
@@ -20,3 +22,16 @@ returns-clause-unused c = λ heir is.
     unused_seen o x c.fresh.ensures.fresh (knows_in o x c.unlock_base.ensures.row.about c.known-2.ensures) c.args.held.base heir
     (off_freed o c.args.held c.shift.new.held c.args.event c.args.pass.now.knows c.shift.new.pass.knows x c.requires.first c.shift.ensures.shifts
     c.unlock_base.ensures.free (here c) heir is)
+
+pub shift-requires-clause-may : goal.shift-requires-clause-may
+shift-requires-clause-may c =
+    let v = c.args.pass.now.knows in
+    let about = sym c.requires.holds.row.about in
+    record {
+      held = c.requires.holds.held;
+      first = c.requires.first;
+      may = c.requires.may;
+      clear = c.requires.clear;
+      heir = subst (λ (q : Opening). HasHeirOnLine (base_seen q v) c.args.event) about c.requires.heir;
+      reach = subst IsEvacuable about c.requires.reach;
+    }

@@ -6,7 +6,7 @@ use Rattle.base_row.specs.Calls.{known_of, timer_seen}
 use Rattle.hr_timers.specs.Moves.{RunsNone, ShiftsBase}
 use Rattle.hr_timers.proofs.Shifts.{stamp_shifts}
 use Rattle.hr_timers.proofs.Standing.{knows_in}
-use Rattle.hr_timers.proofs.Turning.{front_held, front_left, held_idle, left_first, left_idle, may_turn, moves_after, only_looks, spent_then}
+use Rattle.hr_timers.proofs.Turning.{front_left, held_idle, left_first, left_idle, may_turn, moves_after, only_looks, spent_then}
 use Rattle.seq_timer.specs.declared.standing.Standing.{Standing}
 use Rattle.seq_timer.specs.Standings.{last_standing}
 use Rattle.hr_timers.proofs.Keeping.{armed_on, looks_shifts, standing_locked}
@@ -25,6 +25,11 @@ shift_held-requires-clause-may g c =
 
 pub move_one-requires-clause-online : goal.move_one-requires-clause-online
 move_one-requires-clause-online g c =
+    ap (λ (s : Standing). s.heir) (standing_kept c.args.row.now.about c.args.pass.now.knows c.lock-held.new.pass.knows c.args.heir
+    (c.lock-held.ensures.steady.shifts c.requires.first c.args.heir)) ∙ c.requires.may.heir_online
+
+pub shift_held-requires-clause-heir : goal.shift_held-requires-clause-heir
+shift_held-requires-clause-heir g c =
     ap (λ (s : Standing). s.heir) (standing_kept c.args.row.now.about c.args.pass.now.knows c.lock-held.new.pass.knows c.args.heir
     (c.lock-held.ensures.steady.shifts c.requires.first c.args.heir)) ∙ c.requires.may.heir_online
 
@@ -115,13 +120,11 @@ returns-else-is_spent-clause-turns g c =
     let armed = c.in-Some-front.ensures.armed in
     let at = c.lock-held.ensures.at in
     let told = c.move_one.ensures in (
-      moves_after g.S.ReceiptSink.pushed o c.args.base c.args.heir c.args.reading c.args.pass.now.knows v c.move_one.new.pass.knows t c.state.result.now
+      moves_after g.S.ReceiptSink.pushed o c.args.base c.args.heir c.args.reading c.args.pass.now.knows v c.move_one.new.pass.knows t c.state.result.now h
           c.args.sink.now c.move_one.new.sink c.lock-held.ensures.looks c.lock-held.ensures.steady
-          (c.state.ensures.kept (armed_on h.base (timer_seen o v t) armed))
-          (subst (λ b. RunsNone o v.seen b) at
-          (held_idle o v h c.fresh.ensures.fresh (knows_in o v c.lock-held.ensures.row.about c.known.ensures) c.lock-held.ensures.held c.in_default.ensures.idle))
-          (subst (λ b. is_armed_on b (timer_seen o v t) ≡ true) at armed)
-          (front_left o v c.args.base t h.content (front_held o v h c.args.base (knows_in o v c.lock-held.ensures.row.about c.known.ensures)
-          c.lock-held.ensures.held at) c.in-Some-front.ensures.front) told.adds told.keeps told.claims told.logged,
+          (c.state.ensures.kept (armed_on h.base (timer_seen o v t) armed)) c.fresh.ensures.fresh
+          (knows_in o c.move_one.new.pass.knows told.rest.row.about c.known-in-Some-2.ensures) at c.in_default.ensures.idle
+          (subst (λ b. is_armed_on b (timer_seen o v t) ≡ true) at armed) c.in-Some-front.ensures.front told.adds told.place told.keeps told.claims
+          told.logged,
       c.if-not-goes_on.false,
     )

@@ -8,6 +8,7 @@ use Rattle.base_row.proofs.Calling.{seen_same}
 use Rattle.hr_timers.specs.declared.moving.Arrival.{Arrival}
 use Rattle.hr_timers.proofs.Arriving.{arrive_less, arrive_some, arrives_before, arrives_here, arrives_on, reach_of}
 use Rattle.hr_timers.proofs.Keeping.{bits_fit}
+use Rattle.hr_timers.proofs.Standing.{knows_in}
 use Rattle.hr_timers.proofs.moving.+bring.Goals as goal
 
 pub settle-requires-clause-state : goal.settle-requires-clause-state
@@ -109,6 +110,7 @@ returns-in-Some-clause-arrives g t c =
     (arrives_on g.S.ReceiptSink.pushed o v c.send_on-sent.new.pass.knows x c.args.timer c.args.asked.now heir c.bring-arrival.result _
     c.args.sink.now c.send_on-sent.new.sink c.bring-arrival.new.sink (sym told.state ∙ told.after) told.adds told.logged c.bring-arrival.ensures.arrives
     (λ i. record c.bring-arrival.result { outs = c.one_bit.ensures i + c.bring-arrival.result.outs })
+    (knows_in o v c.lock-held.ensures.row.about c.known.ensures).allowed
     (subst (λ b. heir < b) at (c.standing-standing.ensures.fits.heir heir c.in-Some.is))
     (ap (λ q. (base_seen o v q).standing.heir) (sym at) ∙ (ap (λ (s : Standing). s.heir) (sym c.standing-standing.ensures.seen) ∙ c.in-Some.is)))
 

@@ -7,8 +7,7 @@ use Rattle.hr_timers.proofs.Keeping.{terms_kept}
 use Rattle.hr_timers.proofs.Logging.{room_to_start, starts_before}
 use Rattle.hr_timers.proofs.Making.{looks_trans}
 use Rattle.hr_timers.proofs.Standing.{knows_in}
-use Rattle.hr_timers.proofs.Ways.{way_wider}
-use Rattle.pass_names.proofs.Passes.{begins_refl}
+use Rattle.hr_timers.proofs.Ways.{way_ends}
 use Rattle.hr_timers.proofs.starting.start.Goals as goal
 
 pub start_held-requires-clause-room : goal.start_held-requires-clause-room
@@ -29,10 +28,9 @@ returns-clause-starts g c =
     let w = c.lock_timer-held.new.pass.knows in
     let way = c.chase-base.ensures.way in
     let second = c.lock_timer-held.ensures.looks in
-    starts_before g.S.ReceiptSink.pushed o u w _ c.args.timer c.args.asked.now c.chase-base.result way.0 c.start_held.result c.args.sink.now
-    c.start_held.new.sink (looks_trans u v w c.chase-base.ensures.sees second)
-    (way_wider o u.seen u.seen v.seen w.seen (begins_refl u.seen) second.seen c.args.asked.now.base way.0 c.chase-base.result way.1)
-    c.start_held.ensures.starts
+    starts_before g.S.ReceiptSink.pushed o u w _ c.args.timer c.args.asked.now c.chase-base.result way.0 v.seen c.start_held.result c.args.sink.now
+    c.start_held.new.sink (looks_trans u v w c.chase-base.ensures.sees second) way.1 second.seen
+    (c.start_held.ensures.starts v.seen second.seen (way_ends o u.seen c.args.asked.now.base way.0 c.chase-base.result v.seen way.1))
 
 pub returns-clause-room : goal.returns-clause-room
 returns-clause-room g c =

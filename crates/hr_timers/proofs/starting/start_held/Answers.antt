@@ -1,16 +1,19 @@
 use Rattle.std.proofs.Common.{refl, [], ap, sym, ◌∙◌, arith}
 use Rattle.std.proofs.lemmas.List.{append-nil}
-use Rattle.pass_names.proofs.Passes.{begins_refl}
+use Rattle.pass_names.proofs.Passes.{begins_trans}
 use Rattle.seq_timer.specs.Systems.{entries_of}
 use Rattle.std.specs.Prelude.{is_some}
 use Rattle.seq_timer.specs.Steps.{Timer}
 use Rattle.hr_timers.specs.declared.answer.StartAnswer.TheVariants as starts
 use Rattle.hr_timers.specs.declared.moving.Arrival.{Arrival}
-use Rattle.hr_timers.proofs.Making.{looks_refl, made_then}
+use Rattle.hr_timers.specs.Known.{timer_then}
+use Rattle.hr_timers.proofs.Moments.{stamp_rises}
+use Rattle.hr_timers.proofs.Ways.{finds_here}
 use Rattle.hr_timers.proofs.starting.start_held.Goals as goal
 
 pub returns-then-stamp-limit-clause-starts : goal.returns-then-stamp-limit-clause-starts
-returns-then-stamp-limit-clause-starts g c =
+returns-then-stamp-limit-clause-starts g c = λ low before on.
+    let o = c.args.row.now.about in
     let v = c.args.pass.now.knows in
     let w = c.leave.new.pass.knows in
     let is = c.state_of-state.ensures in
@@ -19,9 +22,10 @@ returns-then-stamp-limit-clause-starts g c =
         at = v.seen;
         sent = [];
         last = c.args.asked.now.base;
-        on_way = ([], refl);
+        on_way = finds_here o w.seen c.args.timer low (timer_then o v.seen c.args.timer).stamp c.args.asked.now.base
+            (begins_trans before c.leave.ensures.looks.seen) (stamp_rises o low v.seen c.args.timer before) on;
         made = record {
-          from = begins_refl v.seen;
+          from = before;
           seen = c.leave.ensures.looks.seen;
           own = c.leave.ensures.own c.requires.holds.on ∙ sym (append-nil (entries_of c.args.timer v.seen));
           mine = c.leave.ensures.looks.mine ∙ sym (append-nil v.mine);
@@ -38,7 +42,7 @@ returns-then-stamp-limit-clause-starts g c =
     }
 
 pub returns-clause-starts : goal.returns-clause-starts
-returns-clause-starts g c =
+returns-clause-starts g c = λ low before on.
     let v = c.args.pass.now.knows in
     let is = c.state_of-state.ensures in
     let r = c.enter_start-arrival.ensures.starts in
@@ -48,8 +52,8 @@ returns-clause-starts g c =
         at = v.seen;
         sent = r.sent;
         last = r.last;
-        on_way = r.on_way;
-        made = made_then v v c.enter_start-arrival.new.pass.knows c.args.timer _ (looks_refl v) r.adds;
+        on_way = r.on_way low before on;
+        made = record { from = before; seen = r.adds.seen; own = r.adds.own; mine = r.adds.mine; id = r.adds.id };
         fits = (
           c.requires.holds.on.still,
           omega (arith, c.stamp-stamp.ensures, c.limit.ensures, ap (λ (t : Timer). t.stamp) is, ap (λ (t : Timer). t.terms.limit) is, c.if-stamp-limit.false),
