@@ -28,7 +28,7 @@ use Rattle.hr_timers.specs.declared.numbers.ClaimNumbers.{ClaimNumbers}
 use Rattle.hr_timers.specs.Known.{AddsBehind, KnownOfTimers, OnlySeesMore, MadeAt, claimed_as, count_of, timer_then}
 use Rattle.hr_timers.specs.Calls.{StartFits, entry_by, start_entries}
 use Rattle.hr_timers.specs.Ways.{IsWay, asking, most_to_start}
-use Rattle.hr_timers.specs.Moves.{seen_by}
+use Rattle.hr_timers.specs.Moves.{known_from}
 use Rattle.hr_timers.proofs.Arriving.{arrive_least, arrive_some}
 use Rattle.hr_timers.proofs.Keeping.{terms_kept}
 use Rattle.hr_timers.proofs.Moments.{stamp_rises}
@@ -70,7 +70,7 @@ module _ {A : Type 0} (put : A → Receipt → A) (o : Opening) where
   -- the base that is asked for was found on line by then, or another that is asked for then in its place
   pub starts_before : (u v : BaseView BaseContent) (w : KnownOfTimers) (t : ℕ) (asked : Asked) (base : ℕ) (path : List ℕ) (x : List SystemEntry)
       (a : StartAnswer) (s s' : A) → OnlySeesMore u v → IsWay o u.seen asked.base path base x → Begins x v.seen
-      → StartsLogged put o (seen_by v x) w t (asking asked base) a s s' → StartsLogged put o (rows.known_of u) w t asked a s s'
+      → StartsLogged put o (known_from v x) w t (asking asked base) a s s' → StartsLogged put o (rows.known_of u) w t asked a s s'
   starts_before u v w t asked base path x a s s' looks way early c =
       let r = c.starts in
       let from : Begins x r.at = r.made.from in

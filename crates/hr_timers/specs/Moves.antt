@@ -59,9 +59,9 @@ pub record ShiftsBase (o : Opening) (v w : KnownOfTimers) (base : ℕ) (event : 
 abbrev pub IsNextOf : ℕ → List SystemEntry → List SystemEntry → Type 0
 IsNextOf t at seen = (e : TimerEntry) × (e.timer ≡ t) × Begins (at ++ entries.Timer e ∷ []) seen
 
--- what a pass knows, but for what it has seen behind these entries
-abbrev pub seen_by : BaseView BaseContent → List SystemEntry → KnownOfTimers
-seen_by v x = record (rows.known_of v) { seen = x }
+-- what a pass knows, with these entries for all that it has seen
+abbrev pub known_from : BaseView BaseContent → List SystemEntry → KnownOfTimers
+known_from v x = record (rows.known_of v) { seen = x }
 
 -- The next entry stands right behind these, and is of this timer. Of the timer the pass had seen all of them, and the base that it held was as it held it.
 pub record StandsBehind (o : Opening) (v w : KnownOfTimers) (t : ℕ) (h : HeldContent BaseContent) : Type 0 where

@@ -10,7 +10,7 @@ ghost use Rattle.base_row.specs.Calls.{known_of, timer_seen};
 ghost use Rattle.hr_timers.specs.Known.{AddsBehind, HoldsTimer, IsAtRest, LocksGoOnIn};
 ghost use Rattle.hr_timers.specs.Calls.{entry_by};
 ghost use Rattle.hr_timers.specs.Logged.{HasRoomToStart, IsLogged, StartsLogged};
-ghost use Rattle.hr_timers.specs.Moves.{StartsBy, arrival_of, seen_by};
+ghost use Rattle.hr_timers.specs.Moves.{StartsBy, arrival_of, known_from};
 ghost use Rattle.hr_timers.specs.Ways.{most_to_start, standing_then};
 
 use crate::answer::StartAnswer;
@@ -63,7 +63,7 @@ fn start_held<R: Wait, S: ReceiptSink>(
         else most_to_start (timer_seen row.now.about pass.old.knows timer).terms asked.now.base) ≤ S.room sink.old }
     ensures rest { IsAtRest row.now pass.new }
     ensures starts { (low : List SystemEntry) → Begins low pass.old.knows.seen → (standing_then row.now.about low asked.now.base).heir ≡ None
-        → StartsLogged S.pushed row.now.about (seen_by pass.old.knows low) (known_of pass.new.knows) timer asked.now result sink.old sink.new }
+        → StartsLogged S.pushed row.now.about (known_from pass.old.knows low) (known_of pass.new.knows) timer asked.now result sink.old sink.new }
     ensures locks { LocksGoOnIn pass.old.knows pass.new.knows }
     ensures room { S.room sink.old ≤ S.room sink.new + most_to_start (timer_seen row.now.about pass.old.knows timer).terms asked.now.base }
 {
