@@ -1,6 +1,6 @@
 -- Scripts, each with a record that doesn't fit it, though each timer's lines by themselves are a history in all but one of them.
 use Rattle.std.specs.List.{range_with_len}
-use Rattle.std.specs.Prelude.{ℕ, zero, suc, ◌+◌, nat_lt, if◌then◌else◌, true, false, List, [], ◌∷◌, ◌++◌, map}
+use Rattle.std.specs.Prelude.{ℕ, nat_lt, if◌then◌else◌, true, false, List, [], ◌∷◌, ◌++◌, map}
 use Rattle.ktime.specs.declared.mode.Mode.TheVariants as modes
 use Rattle.ktime.specs.declared.write.Write.TheVariants as writes
 use Rattle.seq_timer.specs.declared.context.Context.TheVariants as contexts
@@ -20,7 +20,7 @@ use Rattle.script_text.specs.declared.script.Callback.TheVariants as callbacks
 use Rattle.script_text.specs.declared.script.Kind.TheVariants as kinds
 use Rattle.script_text.specs.declared.script.Kind.{Kind}
 use Rattle.script_text.specs.declared.script.Script.{Script}
-use Rattle.run_cases.specs.Fitting.{accepts_by, armed_seen_by, asleep_entry, awaited_by, busy_by, canceled_by, first_expiry, full_by, interrupted_by, nothing_by, read_again, refused_by, second_set, seen_by, set_seen_by, signals_by, skipped_by, started_by, two_expiries_by, unreadable_by}
+use Rattle.run_cases.specs.Fitting.{accepts_by, armed_seen_by, asleep_entry, awaited_by, busy_by, canceled_by, ended_by, first_expiry, full_by, interrupted_by, nothing_by, read_again, refused_by, second_set, seen_by, set_seen_by, signals_by, skipped_by, started_by, two_expiries_by, unreadable_by}
 use Rattle.run_cases.specs.Lines.{accepted_entry, advance_line, at, base_entry_line, by, cancel_entry, case_object_line, case_record_in, case_script, case_script_in, case_start, case_start_entry, claim_entry, claim_lines, claimed_by, counted_entry, expired_record, expired_script, finish_entry, hard_expire, hard_raw, line, object_record, off_line_record, out_entry, queued_record, queued_script, raw_record, set_entry_of, set_start, settime_of, settime_to, slack_entry, slack_start, sleep_of, sleeper_record, sleeper_script, start}
 
 -- two timers whose callbacks do nothing
@@ -177,6 +177,12 @@ unset_record = set_seen_by (answers.LeftAt 0 0 0 0)
 -- a record that breaks it
 abbrev pub early_refusal_record : RunRecord
 early_refusal_record = full_by 3
+
+-- ---- a start is refused by its timer as it was while its function still ran: the script of a settime that waits for that
+
+-- a record that breaks it
+abbrev pub running_refusal_record : RunRecord
+running_refusal_record = ended_by 4
 
 -- ---- a timer is claimed before its soft expiry: its lines aren't a history either
 

@@ -88,6 +88,12 @@ pub fn a_settime_cancels_a_timer_and_cannot_start_it()
     ensures { Fits fitting.full_script fitting.full_record }
 {}
 
+/// A settime waits for its timer's function, beside another lane's expiry run. Then its start is refused, and it tells of the timer as it was found idle.
+#[tactic(auto, using(crate::proofs::RefusedStart::ended_fits))]
+pub fn a_settime_waits_for_a_function_and_cannot_start_its_timer()
+    ensures { Fits fitting.ended_script fitting.ended_record }
+{}
+
 /// A timer with slack expires when its soft expiry is reached and its hard one isn't.
 #[tactic(auto, using(crate::proofs::VersionTwo::early_fits))]
 pub fn a_soft_expiry_is_enough()

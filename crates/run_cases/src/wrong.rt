@@ -106,6 +106,12 @@ pub fn a_refused_start_is_told_behind_its_cancel()
     ensures { Fits fitting.full_script wrong.early_refusal_record → ⊥ }
 {}
 
+/// A start isn't refused by its timer as it was while its function still ran: its settime waits until that has ended.
+#[tactic(auto, using(crate::proofs::RefusedStart::running_refusal_doesnt_fit))]
+pub fn a_refused_start_is_told_behind_its_timers_function()
+    ensures { Fits fitting.ended_script wrong.running_refusal_record → ⊥ }
+{}
+
 /// A timer isn't claimed before its soft expiry.
 #[tactic(auto, using(crate::proofs::WrongRecords::soon_doesnt_fit))]
 pub fn no_timer_expires_before_its_soft_expiry()
