@@ -594,3 +594,20 @@ spent_script = record (expired_script (calls.Sigwait ∷ [])) { limit = 2 }
 -- its record
 abbrev pub spent_record : RunRecord
 spent_record = expired_record (counted_entry 1 1) [] (answers.SpentSignal 0 2 ∷ [])
+
+-- ---- a queued timer expires and is set anew, by which its signal goes stale and its history gets full at once; another lane takes the signal
+
+-- the script
+abbrev pub filled_script : Script
+filled_script = record (case_script_in versions.Two 1 2 (kinds.Queued 0 ∷ []) ((by 0 (settime_to 100) ∷ by 0 (calls.Clock (writes.Advance 100)) ∷ [])
+    ∷ (by 0 (hard_expire 0 4) ∷ by 0 (settime_to 0) ∷ by 1 calls.Sigwait ∷ []) ∷ [])) { limit = 3 }
+
+-- what was told of the signal, and all else
+abbrev pub filled_by : Answer → RunRecord
+filled_by told = record (object_record (advance_line 0 1 100 ∷ []) (claimed_by 0 100 0 2 1 ∷ [])
+    ((case_object_line 0 0 (set_entry_of 100 0 1 0) ∷ case_object_line 0 2 (counted_entry 1 1) ∷ case_object_line 0 3 disarming_entry ∷ []) ∷ [])
+    ((answers.Old 0 0 ∷ answers.Clock 1 ∷ answers.Done 1 (0 ∷ []) ∷ answers.Old 0 0 ∷ []) ∷ (told ∷ []) ∷ [])) { version = versions.Two }
+
+-- its record
+abbrev pub filled_record : RunRecord
+filled_record = filled_by (answers.SpentSignal 0 2)

@@ -148,6 +148,12 @@ pub fn two_signals_wait_in_turn_and_one_is_stale()
     ensures { Fits fitting.signals_script fitting.signals_record }
 {}
 
+/// A queued timer's history gets full as its signal goes stale: who takes the signal is told that it is full.
+#[tactic(auto, using(crate::proofs::SignalsFitting::filled_fits))]
+pub fn a_signal_that_goes_stale_as_its_timer_gets_full_is_spent()
+    ensures { Fits fitting.filled_script fitting.filled_record }
+{}
+
 /// A queued timer's history is full when its signal is taken: the call is told so.
 #[tactic(auto, using(crate::proofs::SignalsFitting::spent_fits))]
 pub fn a_signal_of_a_full_timer_is_spent()

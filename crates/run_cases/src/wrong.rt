@@ -232,6 +232,12 @@ pub fn no_signal_is_stale_that_stays_pending()
     ensures { Fits wrong.pending_script wrong.pending_record → ⊥ }
 {}
 
+/// No signal is told as stale that was pending at each moment at which its timer's history had it and had room.
+#[tactic(auto, using(crate::proofs::SignalsWrong::roomless_doesnt_fit))]
+pub fn no_signal_is_stale_that_was_pending_while_there_was_room()
+    ensures { Fits fitting.filled_script wrong.roomless_record → ⊥ }
+{}
+
 /// No signal is sent while as many wait as may: an expiry then finds no room.
 #[tactic(auto, using(crate::proofs::CrowdedQueue::crowded_doesnt_fit))]
 pub fn no_signal_is_sent_where_as_many_wait_as_may()

@@ -41,7 +41,7 @@ use Rattle.run_history.specs.Signals.{SendsSignals}
 use Rattle.run_history.specs.Told.{IsOutOfRange}
 use Rattle.run_history.specs.Witnesses.{Evacuation, Fired, Witness, standing_along, timer_along}
 use Rattle.run_history.specs.Truths.{DisarmedFirst, HadEntries, IsDone, MayGo, NothingTold, RefusedBefore, RanFirst, RanNone}
-use Rattle.run_history.specs.Truths.{Saw, SawFull, SawFullOn, SawRefusal, SawStale, SawWaiting, StandsAt, WasFresh, WentStale}
+use Rattle.run_history.specs.Truths.{Saw, SawFull, SawFullOn, SawRefusal, SawStale, SawWaiting, StandsAt, WasFresh}
 use Rattle.run_history.specs.Deeds.{Anew, Cancels, Deed, Did, Evacuates, Never, Nothing, Rearms, Runs, Shifts, Starts, Where, Writes}
 
 -- a call in the one order: its label, its first and its last moment, and what it did
@@ -196,7 +196,7 @@ call_row s reading calls.Sigwait (answers.Signal timer number overrun) = record 
 }
 call_row s reading calls.Sigwait (answers.StaleSignal timer number) = record {
   did = Where Nothing (SendsSignals (kind_of s timer));
-  tells = λ c. SawStale c.w c.first c.last timer (base_of (kind_of s timer)) number × WentStale c.w timer (base_of (kind_of s timer)) number c.last;
+  tells = λ c. SawStale c.w timer (base_of (kind_of s timer)) number c.last;
 }
 call_row s reading calls.Sigwait (answers.SpentSignal timer number) = record {
   did = Where Nothing (SendsSignals (kind_of s timer));

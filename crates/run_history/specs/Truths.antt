@@ -184,20 +184,13 @@ pub record MayGo (w : Witness) (base heir n : ℕ) : Type 0 where
 
 -- ---- the next signal
 
--- at a moment of the call the timer's history had room, and the signal of this number wasn't pending
-pub record SawStale (w : Witness) (first last timer base number : ℕ) : Type 0 where
+-- at this moment the entry that sent the signal of this number was one of the timer's, whose history had room, and the signal wasn't pending
+pub record SawStale (w : Witness) (timer base number n : ℕ) : Type 0 where
   pub stamp : ℕ
-  pub moment : ℕ
-  pub from : first ≤ moment
-  pub to : moment ≤ last
-  pub had : HadEntries w timer stamp moment
+  pub had : HadEntries w timer stamp n
+  pub sent : number ≤ stamp
   pub room : stamp < w.script.limit
   pub stale : is_fresh (queued_after w.script w.run timer base stamp) number ≡ false
-
--- at this moment the entry that sent the signal of this number was one of the timer's, and the signal wasn't pending
-abbrev pub WentStale : Witness → ℕ → ℕ → ℕ → ℕ → Type 0
-WentStale w timer base number n =
-    (stamp : ℕ) × HadEntries w timer stamp n × (number ≤ stamp) × (is_fresh (queued_after w.script w.run timer base stamp) number ≡ false)
 
 -- a call whose turn of the timer began behind so many entries found the signal of this number pending
 abbrev pub WasFresh : Witness → ℕ → ℕ → ℕ → List Action → Type 0
