@@ -1,10 +1,11 @@
-"""Eighteen records that no order of all moves explains, each beside one of the same script that fits. In both each list by itself is a right history, and each
+"""Twenty records that no order of all moves explains, each beside one of the same script that fits. In both each list by itself is a right history, and each
 call did what its words say: what is wrong shows only where the lists are put beside each other."""
 from typing import NamedTuple, Tuple
 
 
 class Pair(NamedTuple):
-    """A script, a record of it that fits, which of its lines are others in the wrong one, and the calls that can't be placed beside each other then."""
+    """A script, a record of it that fits, which of its lines are others in the wrong one, and the calls that can't be placed beside each other then: none
+    where what a call was told holds at no moment at all."""
 
     name: str
     script: str
@@ -263,5 +264,40 @@ PAIRS = [
         ),
         (("object 0 2 0 2 trigger 1 1 counted", "object 0 2 0 2 trigger 1 1 full"),),
         ("0 2",),
+    ),
+    Pair(
+        "a start is refused of a timer as it was while its function still ran, and its settime had to find it idle first",
+        script(
+            ["posix 0 monotonic 0"], ["0 settime 0 1 0 50 0 0", "0 settime 0 1 0 60 0 0", "0 advance 60"], ["0 settime 0 1 0 70 0 0", "1 expire 0 4"],
+            limit=4,
+        ),
+        record(
+            "clock 1 0 2 advance 60 60 60 60 0",
+            "timer 0 1 0 0 start abs 50 0 0 0 monotonic 50 0", "timer 0 2 0 1 cancel 1", "timer 0 3 0 1 start abs 60 0 0 0 monotonic 60 0",
+            "timer 0 4 1 0 claim 0 1 3", "timer 0 5 1 0 finish stop 3 none",
+            "object 0 1 0 0 settime 1 50 0 0 1 old 0 0", "object 0 2 0 1 settime 1 60 0 0 3 old 50 0", "object 0 3 1 0 trigger 3 1 counted",
+            "object 0 4 0 3 settime 1 70 0 1 unarmed unarmed 5",
+            "call 0 0 old 0 0", "call 0 1 old 50 0", "call 0 2 clock 1", "call 0 3 unarmed 5", "call 1 0 done 1 1 0",
+        ),
+        (
+            ("object 0 4 0 3 settime 1 70 0 1 unarmed unarmed 5", "object 0 4 0 3 settime 1 70 0 1 unarmed unarmed 4"),
+            ("call 0 3 unarmed 5", "call 0 3 unarmed 4"),
+        ),
+        ("0 3",),
+    ),
+    Pair(
+        "a signal is told as stale that was pending as long as its timer's history had room",
+        script(
+            ["queued 0 monotonic 0"], ["0 settime 0 1 0 100 0 0", "0 advance 100"], ["0 expire 0 4", "0 settime 0 1 0 0 0 0", "1 sigwait"],
+            limit=3, version=2,
+        ),
+        record(
+            "clock 1 0 1 advance 100 100 100 100 0",
+            "timer 0 1 0 0 start abs 100 0 0 0 0 monotonic 100 100 0", "timer 0 2 0 2 claim 0 1 1", "timer 0 3 0 2 finish stop 1 none",
+            "object 0 1 0 0 settime 1 100 0 0 1 old 0 0", "object 0 2 0 2 trigger 1 1 counted", "object 0 3 0 3 settime 1 0 0 1 none old 0 0",
+            "call 0 0 old 0 0", "call 0 1 clock 1", "call 0 2 done 1 1 0", "call 0 3 old 0 0", "call 1 0 spent 0 2", version=2,
+        ),
+        (("call 1 0 spent 0 2", "call 1 0 stale 0 2"),),
+        (),
     ),
 ]

@@ -1,12 +1,12 @@
 -- The call that takes the next signal, as its lane keeps it.
-use Rattle.std.proofs.Common.{false, ◌≡◌, ◌≤◌, ◌<◌, ℕ, Some, List, [], ◌∷◌, ◌++◌, length, map, arith, refl, sym, ap, ◌∙◌, subst}
+use Rattle.std.proofs.Common.{◌≡◌, ◌≤◌, ◌<◌, ℕ, Some, List, [], ◌∷◌, ◌++◌, length, map, arith, refl, sym, ap, ◌∙◌, subst}
 use Rattle.std.specs.List.{slice_get}
 use Rattle.std.proofs.Math.Logic.{⊎_elim}
 use Rattle.std.proofs.lemmas.Bool.{cases_lt}
 use Rattle.std.proofs.lemmas.List.{append-nil, get_or_past, length-map}
 use Rattle.counted_row.specs.Views.{StateAfter}
 use Rattle.pass_names.specs.Passes.{Begins}
-use Rattle.pass_names.proofs.Passes.{begins_length, begins_trans}
+use Rattle.pass_names.proofs.Passes.{begins_length}
 use Rattle.clock_cell.specs.Views.{writes}
 use Rattle.posix_timer.specs.Queued.{is_fresh}
 use Rattle.posix_timer.specs.declared.queued_state.QueuedState.{QueuedState}
@@ -21,7 +21,7 @@ use Rattle.timer_objects.specs.Calls.{Caller, FindsHistoryFull}
 use Rattle.timer_objects.specs.Known.{seen_of}
 use Rattle.timer_objects.specs.Meaning.{object_meaning, opened_objects}
 use Rattle.timer_objects.specs.Signals as signals
-use Rattle.timer_objects.specs.Signals.{AcceptsSignal, FindsStale, TakesNext, TakesOldest, object_fresh}
+use Rattle.timer_objects.specs.Signals.{AcceptsSignal, FindsStale, TakesNext}
 use Rattle.timer_objects.specs.declared.object.Kind.TheVariants as over
 use Rattle.timer_objects.specs.declared.object.Object.TheVariants as objects
 use Rattle.timer_objects.specs.declared.object.Object.{Object}
@@ -43,19 +43,17 @@ use Rattle.run_history.specs.Histories.{reading_at}
 use Rattle.run_history.specs.Objects.{queued_after}
 use Rattle.run_history.specs.Runs.{CallLog, Ending, IsJoined, IsOfQueued}
 use Rattle.run_history.specs.Signals.{SendsSignals, most_signals, popped_by, turns_in}
-use Rattle.run_history.proofs.Kept.{call_made}
 use Rattle.run_history.proofs.Lists.{all_at, at_left}
 use Rattle.run_history.proofs.ObjectsMade.{signal_made}
 use Rattle.run_history.proofs.OthersMade.{quiet_made, turning}
-use Rattle.lane_notes.specs.Called.{CallsSigwait, lane_caller, LaneOf, next_told, SeesEntry, SeesSent, SeesStale}
+use Rattle.lane_notes.specs.Called.{CallsSigwait, lane_caller, LaneOf, next_told}
 use Rattle.lane_notes.specs.Runs.{ObjectMove}
 use Rattle.lane_notes.specs.Worlds.{decl_of, WorldOf}
-use Rattle.lane_notes.specs.declared.lane.WorldPass.{WorldPass}
 use Rattle.lane_notes.proofs.Declared.{declared_over, over_of}
 use Rattle.lane_notes.proofs.Kept.{FollowsObject, IsNextCall, KeepsCall}
-use Rattle.lane_notes.proofs.ObjectSeen.{object_after, object_seen}
+use Rattle.lane_notes.proofs.ObjectSeen.{object_seen}
 use Rattle.lane_notes.proofs.PartLists.{no_notes-joins}
-use Rattle.lane_notes.proofs.SeenMore.{begins_same, follows_object, goes_before}
+use Rattle.lane_notes.proofs.SeenMore.{begins_same, follows_object}
 use Rattle.lane_notes.specs.Notes.{no_notes}
 use Rattle.call_laws.proofs.CallKept.{clock_left, FitsOn}
 use Rattle.call_laws.proofs.ObjectLooks.{queued_looked}
@@ -103,18 +101,6 @@ module _ {s : Script} {x : WorldOf} {l : LaneOf} (next : IsNextCall s x l calls.
   queued_is e timer seen object t at follows is =
       queued_looked s e.run timer (length seen) (kind_of s timer) (sym is ∙ object_seen s x next.world timer seen object at e follows)
 
-  -- a signal that was seen not to be pending there isn't pending at the record's
-  stale_at : (e : Ending) (timer number : ℕ) (seen : List ObjectMove) (object : Object) → SendsSignals (kind_of s timer)
-      → StateAfter object_meaning (opened_objects x.objects.decls x.objects.limit) timer seen object → FollowsObject e timer seen
-      → object_fresh object number ≡ false → is_fresh (queued_after s e.run timer (base_of (kind_of s timer)) (length seen)) number ≡ false
-  stale_at e timer number seen object queued at follows stale =
-      sym (of_kind (kind_of s timer) queued) ∙ sym (ap (λ o. object_fresh o number) (object_seen s x next.world timer seen object at e follows)) ∙ stale
-    where
-      of_kind : (k : Kind) → SendsSignals k
-          → object_fresh (object_after s e.run timer (length seen) k) number ≡ is_fresh (queued_after s e.run timer (base_of k) (length seen)) number
-      of_kind (kinds.Queued base) is = refl
-      of_kind k is = absurd is
-
   -- what was popped off the queue was a queued timer's signal
   popped_queued : (e : Ending) → IsJoined s e → (ts : List Turn) (later : List Turn) → turns_in e.signals ≡ ts ++ later → (p timer number : ℕ)
       → slice_get ts p ≡ Some (Popped (record { timer = timer; number = number })) → SendsSignals (kind_of s timer)
@@ -128,19 +114,19 @@ module _ {s : Script} {x : WorldOf} {l : LaneOf} (next : IsNextCall s x l calls.
 -- ---- the call
 
 module _ {s : Script} {x : WorldOf} {l m : LaneOf} {a : Answer} (next : IsNextCall s x l calls.Sigwait) (c : CallsSigwait x l m a) where
-  -- by its passes in between a call only looked at timers and objects
-  record LooksBy (mid : WorldPass) : Type 0 where
-    pub timers : Begins l.pass.timers.known.seen mid.timers.known.seen
-    pub timers_mine : mid.timers.known.mine ≡ l.pass.timers.known.mine
-    pub objects : (i : ℕ) → Begins (seen_of l.pass.objects i) (seen_of mid.objects i)
-    pub objects_mine : mid.objects.knows.pass.mine ≡ l.pass.objects.knows.pass.mine
-    pub opening : mid.objects.knows.opening ≡ l.pass.objects.knows.opening
+  -- a call only looked at timers and objects
+  record LooksBy : Type 0 where
+    pub timers : Begins l.pass.timers.known.seen m.pass.timers.known.seen
+    pub timers_mine : m.pass.timers.known.mine ≡ l.pass.timers.known.mine
+    pub objects : (i : ℕ) → Begins (seen_of l.pass.objects i) (seen_of m.pass.objects i)
+    pub objects_mine : m.pass.objects.knows.pass.mine ≡ l.pass.objects.knows.pass.mine
+    pub opening : m.pass.objects.knows.opening ≡ l.pass.objects.knows.opening
     pub log : c.log ≡ []
     pub object_log : c.object_log ≡ []
 
   -- nothing at all
-  looks_none : (mid : WorldPass) → lane_caller mid c.log c.object_log ≡ lane_caller l.pass [] [] → LooksBy mid
-  looks_none mid same = record {
+  looks_none : lane_caller m.pass c.log c.object_log ≡ lane_caller l.pass [] [] → LooksBy
+  looks_none same = record {
     timers = begins_same (ap (λ (k : Caller). k.timers.seen) same);
     timers_mine = ap (λ (k : Caller). k.timers.mine) same;
     objects = λ i. begins_same (ap (λ (k : Caller). seen_of k.objects i) same);
@@ -150,20 +136,8 @@ module _ {s : Script} {x : WorldOf} {l m : LaneOf} {a : Answer} (next : IsNextCa
     object_log = ap (λ (k : Caller). k.object_log) same;
   }
 
-  -- and one object more
-  looks_more : {mid : WorldPass} {timer number : ℕ} → LooksBy mid → SeesEntry mid m.pass timer number → LooksBy m.pass
-  looks_more by sees = record {
-    timers = begins_trans by.timers sees.timers.seen;
-    timers_mine = sees.timers.mine ∙ by.timers_mine;
-    objects = λ i. begins_trans (by.objects i) (sees.objects.seen.each i);
-    objects_mine = sees.objects.mine ∙ by.objects_mine;
-    opening = sees.opening ∙ by.opening;
-    log = by.log;
-    object_log = by.object_log;
-  }
-
   -- a call that only looked at timers and objects is kept, where it fits
-  keeps_looks : LooksBy m.pass → (b : Answer) (first : ℕ) (made : List (ℕ × Turn))
+  keeps_looks : LooksBy → (b : Answer) (first : ℕ) (made : List (ℕ × Turn))
       → TurnsPart s l.pass.signals.knows m.pass.signals.knows (popped_by b) made
       → FitsOn s l m calls.Sigwait b [] (turning (length (writes m.pass.clock.knows)) first (length m.pass.timers.known.seen) [] made)
       → KeepsCall s l calls.Sigwait b m
@@ -175,12 +149,11 @@ module _ {s : Script} {x : WorldOf} {l m : LaneOf} {a : Answer} (next : IsNextCa
       (subst (λ ts. TurnsPart s l.pass.signals.knows m.pass.signals.knows ts made) (sym (append-nil (popped_by b))) turned) fits
 
   -- none waited
-  keeps_empty : m.pass ≡ c.mid → lane_caller c.mid c.log c.object_log ≡ lane_caller l.pass [] []
-      → FindsEmpty l.pass.signals.knows c.mid.signals.knows → KeepsCall s l calls.Sigwait answers.NoneQueued m
-  keeps_empty is same empty =
-      let found = subst (λ (p : WorldPass). FindsEmpty l.pass.signals.knows p.signals.knows) (sym is) empty in
+  keeps_empty : lane_caller m.pass c.log c.object_log ≡ lane_caller l.pass [] [] → FindsEmpty l.pass.signals.knows m.pass.signals.knows
+      → KeepsCall s l calls.Sigwait answers.NoneQueued m
+  keeps_empty same found =
       let last = length m.pass.timers.known.seen in
-      keeps_looks (looks_none m.pass (ap (λ p. lane_caller p c.log c.object_log) is ∙ same)) answers.NoneQueued last [] (turns_looked found.looks)
+      keeps_looks (looks_none same) answers.NoneQueued last [] (turns_looked found.looks)
       (λ e follows joined has kept low. quiet_made kept refl (record {
         number = length (turns m.pass.signals.knows);
         within = kept.hears (length (turns m.pass.signals.knows))
@@ -200,11 +173,11 @@ module _ {s : Script} {x : WorldOf} {l m : LaneOf} {a : Answer} (next : IsNextCa
     there = turned.each.0.there
 
     -- its timer's history was full
-    keeps_spent : {mid : WorldPass} {n : ℕ} → signals.IsQueued x.objects timer
-        → FindsHistoryFull x.objects (lane_caller l.pass [] []) (lane_caller mid c.log c.object_log) timer n → SeesEntry mid m.pass timer number
+    keeps_spent : {n : ℕ} → signals.IsQueued x.objects timer
+        → FindsHistoryFull x.objects (lane_caller l.pass [] []) (lane_caller m.pass c.log c.object_log) timer n → number ≤ n
         → KeepsCall s l calls.Sigwait (answers.SpentSignal timer number) m
-    keeps_spent {mid} queued full sees =
-        let by : LooksBy mid = record {
+    keeps_spent {n} queued full sent =
+        let by : LooksBy = record {
           timers = full.looks.seen;
           timers_mine = full.looks.mine;
           objects = λ i. full.reads.pass.seen.each i;
@@ -213,25 +186,20 @@ module _ {s : Script} {x : WorldOf} {l m : LaneOf} {a : Answer} (next : IsNextCa
           log = full.log;
           object_log = full.object_log;
         } in
-        let stamp = length (seen_of m.pass.objects timer) in
-        keeps_looks (looks_more by sees) (answers.SpentSignal timer number) (length m.pass.timers.known.seen) made turned
+        keeps_looks by (answers.SpentSignal timer number) (length m.pass.timers.known.seen) made turned
         (λ e follows joined has kept low. quiet_made kept (refl, kind_there next timer queued) (
-          stamp,
-          (
-            entries_had timer stamp m.pass.timers.known joined follows.timers sees.told,
-            omega (arith, full.full, full.stamp, next.world.limit, begins_length (sees.objects.seen.each timer)),
-          ),
-          sees.sent,
+          n,
+          (entries_had timer n m.pass.timers.known joined follows.timers full.told, omega (arith, full.full, next.world.limit)),
+          sent,
         ))
 
     -- the signal wasn't pending
-    keeps_stale : {mid : WorldPass} → signals.IsQueued x.objects timer
-        → FindsStale x.objects (lane_caller l.pass [] []) (lane_caller mid c.log c.object_log) timer number → SeesStale mid m.pass timer number
+    keeps_stale : signals.IsQueued x.objects timer
+        → FindsStale x.objects (lane_caller l.pass [] []) (lane_caller m.pass c.log c.object_log) timer number
         → KeepsCall s l calls.Sigwait (answers.StaleSignal timer number) m
-    keeps_stale {mid} queued stale later =
+    keeps_stale queued stale =
         let looks = stale.looks in
-        let sees = later.entry in
-        let by : LooksBy mid = record {
+        let by : LooksBy = record {
           timers = looks.timers.seen;
           timers_mine = looks.timers.mine;
           objects = λ i. looks.reads.pass.seen.each i;
@@ -240,39 +208,20 @@ module _ {s : Script} {x : WorldOf} {l m : LaneOf} {a : Answer} (next : IsNextCa
           log = looks.log;
           object_log = looks.object_log;
         } in
-        let stamp = length (seen_of m.pass.objects timer) in
-        let first = length l.pass.timers.known.seen in
-        let last = length m.pass.timers.known.seen in
-        let low = begins_length looks.timers.seen in
-        let high = begins_length sees.timers.seen in
-        let at = subst (λ cells. StateAfter object_meaning cells timer (seen_of mid.objects timer) looks.reads.state) next.objects looks.reads.at in
-        let now = subst (λ cells. StateAfter object_meaning cells timer (seen_of m.pass.objects timer) later.object)
-        (sees.opening ∙ looks.reads.opening ∙ next.objects) later.at in
-        keeps_looks (looks_more by sees) (answers.StaleSignal timer number) first made turned
-        (λ e follows joined has kept begun. call_made kept (omega (arith, begun)) (omega (arith, low, high)) tt (refl, kind_there next timer queued)
-        (tt, tt) (omega (arith, low, high)) (
-          record {
-            stamp = stale.stamp;
-            moment = length mid.timers.known.seen;
-            from = low;
-            to = high;
-            had = entries_had timer stale.stamp mid.timers.known joined (goes_before sees.timers.seen follows.timers) looks.told;
-            room = subst (λ limit. stale.stamp < limit) next.world.limit stale.room;
-            stale = ap (λ u. is_fresh u number)
-                (sym (queued_is next e timer (seen_of mid.objects timer) looks.reads.state stale.state at
-                (follows_object (sees.objects.seen.each timer) (follows.objects timer)) (sym looks.state)
-                ∙ ap (queued_after s e.run timer (base_of (kind_of s timer))) (sym looks.stamp))) ∙ stale.stale;
-          },
-          (
-            stamp,
-            entries_had timer stamp m.pass.timers.known joined follows.timers sees.told,
-            sees.sent,
-            stale_at next e timer number (seen_of m.pass.objects timer) later.object (kind_there next timer queued) now (follows.objects timer) later.stale,
-          ),
-        ))
+        let at = subst (λ cells. StateAfter object_meaning cells timer (seen_of m.pass.objects timer) looks.reads.state) next.objects looks.reads.at in
+        keeps_looks by (answers.StaleSignal timer number) (length m.pass.timers.known.seen) made turned
+        (λ e follows joined has kept low. quiet_made kept (refl, kind_there next timer queued) (record {
+          stamp = stale.stamp;
+          had = entries_had timer stale.stamp m.pass.timers.known joined follows.timers looks.told;
+          sent = stale.sent;
+          room = subst (λ limit. stale.stamp < limit) next.world.limit stale.room;
+          stale = ap (λ u. is_fresh u number)
+              (sym (queued_is next e timer (seen_of m.pass.objects timer) looks.reads.state stale.state at (follows.objects timer) (sym looks.state)
+              ∙ ap (queued_after s e.run timer (base_of (kind_of s timer))) (sym looks.stamp))) ∙ stale.stale;
+        }))
 
     -- it was of no queued timer, which no run has
-    keeps_foreign : (signals.IsQueued x.objects timer → ⊥) → LooksBy m.pass → KeepsCall s l calls.Sigwait (answers.StaleSignal timer number) m
+    keeps_foreign : (signals.IsQueued x.objects timer → ⊥) → LooksBy → KeepsCall s l calls.Sigwait (answers.StaleSignal timer number) m
     keeps_foreign not by =
         keeps_looks by (answers.StaleSignal timer number) (length l.pass.timers.known.seen) made turned (λ e follows joined has kept begun.
         absurd (not (object_there next timer (popped_queued next e joined (turns m.pass.signals.knows) follows.signals.0 follows.signals.1 (length pops.before)
@@ -299,59 +248,37 @@ module _ {s : Script} {x : WorldOf} {l m : LaneOf} {a : Answer} (next : IsNextCa
 
   by_next : (n : NextSignal)
       → TakesNext x.objects x.timers.about (lane_caller l.pass [] [])
-      (lane_caller c.mid c.log c.object_log) l.pass.signals.knows c.mid.signals.knows c.reading n
-      → SeesSent x c.mid m.pass n → KeepsCall s l calls.Sigwait (next_told n) m
-  by_next nexts.NoneQueued takes sees = keeps_empty sees takes.1 takes.0
-  by_next (nexts.Accepted i k overrun) takes sees =
+      (lane_caller m.pass c.log c.object_log) l.pass.signals.knows m.pass.signals.knows c.reading n
+      → KeepsCall s l calls.Sigwait (next_told n) m
+  by_next nexts.NoneQueued takes = keeps_empty takes.1 takes.0
+  by_next (nexts.Accepted i k overrun) takes =
       ⊎_elim (λ foreign. absurd (cc))
       (λ its.
-      let pops = subst (λ (p : WorldPass). TakesTurn l.pass.signals.knows p.signals.knows (Popped (record { timer = takes.0; number = takes.1 })))
-      (sym sees) takes.2.pops in
-      let accepts = subst (λ (p : WorldPass). AcceptsSignal x.objects x.timers.about (lane_caller l.pass [] [])
-      (lane_caller p c.log c.object_log) takes.0 takes.1 overrun c.reading)
-      (sym sees) its.1.2 in
       subst (λ n. KeepsCall s l calls.Sigwait (answers.Signal n k overrun) m) (sym its.1.0)
-      (subst (λ n. KeepsCall s l calls.Sigwait (answers.Signal takes.0 n overrun) m) (sym its.1.1) (keeps_signal takes.0 takes.1 pops overrun its.0 accepts)))
+      (subst (λ n. KeepsCall s l calls.Sigwait (answers.Signal takes.0 n overrun) m) (sym its.1.1)
+      (keeps_signal takes.0 takes.1 takes.2.pops overrun its.0 its.1.2)))
       takes.3
-  by_next (nexts.Spent i k n) takes sees =
+  by_next (nexts.Spent i k n) takes =
       ⊎_elim (λ foreign. absurd (cc))
       (λ its.
       subst (λ j. KeepsCall s l calls.Sigwait (answers.SpentSignal j k) m) (sym its.1.0)
       (subst (λ j. KeepsCall s l calls.Sigwait (answers.SpentSignal takes.0 j) m) (sym its.1.1)
-      (⊎_elim
-      (λ seen.
-      let entry : SeesEntry c.mid m.pass takes.0 takes.1 =
-      subst (λ j. SeesEntry c.mid m.pass j takes.1) its.1.0 (subst (SeesEntry c.mid m.pass i) its.1.1 seen.1) in
-      let pops = subst (λ u. TakesTurn l.pass.signals.knows u.knows (Popped (record { timer = takes.0; number = takes.1 })))
-      (sym seen.1.signals) takes.2.pops in
-      keeps_spent takes.0 takes.1 pops its.0 its.1.2 entry)
-      (λ alone. absurd (alone.0 (subst (signals.IsQueued x.objects) (sym its.1.0) its.0))) sees)))
+      (keeps_spent takes.0 takes.1 takes.2.pops its.0 its.1.2 its.1.3)))
       takes.3
-  by_next (nexts.Stale i k) takes sees =
+  by_next (nexts.Stale i k) takes =
       ⊎_elim
       (λ foreign.
       let timer : i ≡ takes.0 = cc in
       let number : k ≡ takes.1 = cc in
       subst (λ j. KeepsCall s l calls.Sigwait (answers.StaleSignal j k) m) (sym timer)
       (subst (λ j. KeepsCall s l calls.Sigwait (answers.StaleSignal takes.0 j) m) (sym number)
-      (⊎_elim (λ seen. absurd (foreign.0 (subst (signals.IsQueued x.objects) timer seen.0)))
-      (λ alone.
-      let pops = subst (λ (p : WorldPass). TakesTurn l.pass.signals.knows p.signals.knows (Popped (record { timer = takes.0; number = takes.1 })))
-      (sym alone.1) takes.2.pops in
-      keeps_foreign takes.0 takes.1 pops foreign.0 (looks_none m.pass (ap (λ p. lane_caller p c.log c.object_log) alone.1 ∙ foreign.2))) sees)))
+      (keeps_foreign takes.0 takes.1 takes.2.pops foreign.0 (looks_none foreign.2))))
       (λ its.
       subst (λ j. KeepsCall s l calls.Sigwait (answers.StaleSignal j k) m) (sym its.1.0)
       (subst (λ j. KeepsCall s l calls.Sigwait (answers.StaleSignal takes.0 j) m) (sym its.1.1)
-      (⊎_elim
-      (λ seen.
-      let later : SeesStale c.mid m.pass takes.0 takes.1 =
-      subst (λ j. SeesStale c.mid m.pass j takes.1) its.1.0 (subst (SeesStale c.mid m.pass i) its.1.1 seen.1) in
-      let pops = subst (λ u. TakesTurn l.pass.signals.knows u.knows (Popped (record { timer = takes.0; number = takes.1 })))
-      (sym seen.1.entry.signals) takes.2.pops in
-      keeps_stale takes.0 takes.1 pops its.0 its.1.2 later)
-      (λ alone. absurd (alone.0 (subst (signals.IsQueued x.objects) (sym its.1.0) its.0))) sees)))
+      (keeps_stale takes.0 takes.1 takes.2.pops its.0 its.1.2)))
       takes.3
 
   -- law: a lane keeps the call
   pub keeps_sigwait : KeepsCall s l calls.Sigwait a m
-  keeps_sigwait = subst (λ b. KeepsCall s l calls.Sigwait b m) (sym c.told) (by_next c.next c.takes c.sees)
+  keeps_sigwait = subst (λ b. KeepsCall s l calls.Sigwait b m) (sym c.told) (by_next c.next c.takes)

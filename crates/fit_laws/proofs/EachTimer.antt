@@ -268,8 +268,8 @@ module _ (w : Witness) (f : FitsIn w) where
         ∙ sym (same_then w f.history f.timers (λ x. x.base) refl last t) ∙ runs.2 in
         let so = was_so t (timer_along w last t).stamp (observations.Running generation) (record { stamp = refl; holds = runs.1 }) in
         (ap (λ (d : Declared). d.context) (sym (declared_then w f.history f.timers last t)) ∙ runs.0, ((timer_along w last t).stamp, so, on))
-    told_then (calls.Settime t flags value interval) (answers.Unarmed stamp) is = refused_before t stamp is.1
-    told_then (calls.Sleep t flags time) (answers.Unarmed stamp) is = refused_before t stamp is.1
+    told_then (calls.Settime t flags value interval) (answers.Unarmed stamp) is = refused_before t stamp is
+    told_then (calls.Sleep t flags time) (answers.Unarmed stamp) is = refused_before t stamp is
     told_then (calls.Offline base heir budget) (answers.Offline moved stamp) is = record {
       seen = seen w last;
       points = λ u. point_then w f.history f.timers c actions [] last u all_own ends;

@@ -1,5 +1,5 @@
 -- What each call of a lane does and answers: what its passes know before and after it, and what it notes.
-use Rattle.std.specs.Prelude.{ℕ, ◌≡◌, ◌≤◌, ◌<◌, ◌+◌, ◌⊎◌, Bool, true, false, List, [], ◌∷◌, ◌++◌, length, MatchBool, Result, Ok, Err}
+use Rattle.std.specs.Prelude.{ℕ, ◌≡◌, ◌≤◌, ◌<◌, Bool, true, false, List, [], ◌∷◌, ◌++◌, length, MatchBool, Result, Ok, Err}
 use Rattle.ktime.specs.Readings.{ClockReading}
 use Rattle.ktime.specs.declared.write.ClockFault.TheVariants as faults
 use Rattle.ktime.specs.declared.write.Write.{Write}
@@ -54,12 +54,8 @@ use Rattle.timer_objects.specs.declared.answers.Overrun.{Overrun}
 use Rattle.timer_objects.specs.declared.answers.Readable.{Readable}
 use Rattle.timer_objects.specs.declared.object.Kind.{Kind}
 use Rattle.timer_objects.specs.declared.object.Kind.TheVariants as over
-use Rattle.timer_objects.specs.Known.{decl_at, seen_of}
-use Rattle.timer_objects.specs.Signals.{IsQueued, TakesNext, object_fresh}
-use Rattle.timer_objects.specs.Meaning.{object_meaning}
-use Rattle.timer_objects.specs.declared.object.Object.{Object}
-use Rattle.counted_row.specs.Views.{StateAfter}
-use Rattle.timer_objects.specs.Turns.{turns_told}
+use Rattle.timer_objects.specs.Known.{decl_at}
+use Rattle.timer_objects.specs.Signals.{TakesNext}
 use Rattle.timer_objects.specs.declared.signals.NextSignal.{NextSignal}
 use Rattle.timer_objects.specs.declared.signals.NextSignal.TheVariants as nexts
 use Rattle.record_text.specs.declared.record.ClockLine.{ClockLine}
@@ -231,33 +227,6 @@ next_told (nexts.Spent timer number stamp) = answers.SpentSignal timer number
 next_told (nexts.Stale timer number) = answers.StaleSignal timer number
 next_told (nexts.Accepted timer number overrun) = answers.Signal timer number overrun
 
--- a timer's object was looked at, which had an entry of this number, at a moment at which no call had its turn
-pub record SeesEntry (p q : WorldPass) (timer number : ℕ) : Type 0 where
-  pub timers : LooksOn p.timers.known q.timers.known
-  pub objects : Looks p.objects.knows.pass q.objects.knows.pass
-  pub opening : q.objects.knows.opening ≡ p.objects.knows.opening
-  pub told : turns_told timer q.timers.known ≡ length (seen_of q.objects timer) + length (seen_of q.objects timer)
-  pub sent : number ≤ length (seen_of q.objects timer)
-  pub clock : LeavesClock p q
-  pub signals : LeavesSignals p q
-
--- it had such an entry, and the signal of this number wasn't pending there
-pub record SeesStale (p q : WorldPass) (timer number : ℕ) : Type 0 where
-  pub entry : SeesEntry p q timer number
-  pub object : Object
-  pub at : StateAfter object_meaning q.objects.knows.opening timer (seen_of q.objects timer) object
-  pub stale : object_fresh object number ≡ false
-
--- this was seen of a queued timer; where the timer isn't queued, nothing was done
-abbrev pub SeesIfQueued : WorldOf → WorldPass → WorldPass → ℕ → Type 0 → Type 0
-SeesIfQueued x p q timer Sees = (IsQueued x.objects timer × Sees) ⊎ ((IsQueued x.objects timer → ⊥) × (q ≡ p))
-
--- the entry that sent the next signal was seen, where the signal was not accepted; and nothing was done besides
-abbrev pub SeesSent : WorldOf → WorldPass → WorldPass → NextSignal → Type 0
-SeesSent x p q (nexts.Spent timer number stamp) = SeesIfQueued x p q timer (SeesEntry p q timer number)
-SeesSent x p q (nexts.Stale timer number) = SeesIfQueued x p q timer (SeesStale p q timer number)
-SeesSent x p q next = q ≡ p
-
 -- ---- bases
 
 -- what taking a base off line answers
@@ -398,18 +367,15 @@ module _ (x : WorldOf) (l m : LaneOf) (a : Answer) where
 
   -- ---- signals
 
-  -- The next signal was taken, and the lane then saw the entry that had sent it, where it was not accepted.
+  -- the next signal was taken
   pub record CallsSigwait : Type 0 where
     pub reading : ClockReading
     pub reads : ReadsClock l.pass m.pass reading
     pub log : List Receipt
     pub object_log : List ObjectReceipt
     pub next : NextSignal
-    pub mid : WorldPass
-    pub takes : TakesNext x.objects x.timers.about (lane_caller l.pass [] []) (lane_caller mid log object_log)
-        l.pass.signals.knows mid.signals.knows reading next
-    pub clock : LeavesClock l.pass mid
-    pub sees : SeesSent x mid m.pass next
+    pub takes : TakesNext x.objects x.timers.about (lane_caller l.pass [] []) (lane_caller m.pass log object_log)
+        l.pass.signals.knows m.pass.signals.knows reading next
     pub notes : m.notes ≡ with_done l.notes l.label log object_log
     pub told : a ≡ next_told next
 

@@ -6,7 +6,6 @@ pub mod Objects
 pub mod Calls
 pub mod Keeping
 pub mod QueueKept
-pub mod Sighting
 pub mod Taking
 pub mod Splitting
 pub mod Ranges

@@ -1,5 +1,5 @@
 -- A call on an object, and one that takes the next signal, from what the library says of it.
-use Rattle.std.proofs.Common.{◌≡◌, List, [], length, sym, ap, ◌∙◌, subst, ⊎_elim}
+use Rattle.std.proofs.Common.{◌≡◌, List, [], length, sym, ap, ◌∙◌, subst}
 use Rattle.ktime.specs.Readings.{ClockReading}
 use Rattle.base_row.specs.declared.log.Receipt.{Receipt}
 use Rattle.timer_objects.specs.declared.log.ObjectReceipt.{ObjectReceipt}
@@ -8,9 +8,8 @@ use Rattle.clock_cell.specs.declared.pass.ClockPass.{ClockPass}
 use Rattle.timer_objects.specs.Calls.{Caller}
 use Rattle.timer_objects.specs.Signals.{TakesNext}
 use Rattle.timer_objects.specs.declared.signals.NextSignal.{NextSignal}
-use Rattle.timer_objects.specs.declared.signals.NextSignal.TheVariants as nexts
 use Rattle.record_text.specs.declared.record.Answer.{Answer}
-use Rattle.lane_notes.specs.Called.{CallsObject, CallsSigwait, LaneOf, LeavesClock, LeavesSignals, ReadsClock, SeesSent, lane_caller, next_told, with_done}
+use Rattle.lane_notes.specs.Called.{CallsObject, CallsSigwait, LaneOf, LeavesClock, LeavesSignals, ReadsClock, lane_caller, next_told, with_done}
 use Rattle.lane_notes.specs.Worlds.{WorldOf}
 use Rattle.lane_notes.specs.declared.lane.WorldPass.{WorldPass}
 
@@ -43,38 +42,28 @@ reads_still was clock = record {
   count = was.count ∙ sym (ap (λ (c : ClockPass). length (writes c.knows)) clock);
 }
 
--- who sees the entry that sent a signal leaves the clock alone
-sent_clock : (x : WorldOf) (p q : WorldPass) (next : NextSignal) → SeesSent x p q next → LeavesClock p q
-sent_clock x p q (nexts.Spent timer number stamp) sees =
-    ⊎_elim (λ queued. queued.1.clock) (λ alone. ap (λ (r : WorldPass). r.clock) alone.1) sees
-sent_clock x p q (nexts.Stale timer number) sees =
-    ⊎_elim (λ queued. queued.1.entry.clock) (λ alone. ap (λ (r : WorldPass). r.clock) alone.1) sees
-sent_clock x p q nexts.NoneQueued same = ap (λ (r : WorldPass). r.clock) same
-sent_clock x p q (nexts.Accepted timer number overrun) same = ap (λ (r : WorldPass). r.clock) same
-
--- The call took the signal with empty logs, and then saw the entry that had sent it. The notes were made after that.
-pub calls_sigwait : {x y : WorldOf} {l m : LaneOf} {mid p : WorldPass} {a : Answer} {begun : List Receipt} {objects_begun : List ObjectReceipt}
+-- the call took the signal with empty logs, and the notes were made after it
+pub calls_sigwait : {x y : WorldOf} {l m : LaneOf} {p : WorldPass} {a : Answer} {begun : List Receipt} {objects_begun : List ObjectReceipt}
     (reading : ClockReading) (log : List Receipt) (object_log : List ObjectReceipt) (next : NextSignal) → y ≡ x → m.pass ≡ p
-    → ReadsClock l.pass mid reading → (begun ≡ []) × (objects_begun ≡ [])
+    → ReadsClock l.pass p reading → (begun ≡ []) × (objects_begun ≡ [])
     → TakesNext y.objects y.timers.about (lane_caller l.pass begun objects_begun)
-    (lane_caller mid log object_log) l.pass.signals.knows mid.signals.knows reading next
-    → SeesSent x mid p next → m.notes ≡ with_done l.notes l.label log object_log → a ≡ next_told next → CallsSigwait x l m a
-calls_sigwait {x = x} {y = y} {l = l} {mid = mid} {p = p} {objects_begun = objects_begun} reading log object_log next is same reads empty takes sees notes told = record {
+    (lane_caller p log object_log) l.pass.signals.knows p.signals.knows reading next
+    → m.notes ≡ with_done l.notes l.label log object_log → a ≡ next_told next → CallsSigwait x l m a
+calls_sigwait {x = x} {y = y} {l = l} {p = p} {objects_begun = objects_begun} reading log object_log next is same reads empty takes notes told = record {
   reading = reading;
-  reads = subst (λ q. ReadsClock l.pass q reading) (sym same) (reads_still reads (sent_clock x mid p next sees));
+  reads = subst (λ q. ReadsClock l.pass q reading) (sym same) reads;
   log = log;
   object_log = object_log;
   next = next;
-  mid = mid;
-  takes = subst (λ (z : WorldOf). TakesNext z.objects z.timers.about (lane_caller l.pass [] [])
-      (lane_caller mid log object_log) l.pass.signals.knows mid.signals.knows reading next) is
+  takes = subst (λ (q : WorldPass). TakesNext x.objects x.timers.about (lane_caller l.pass [] [])
+      (lane_caller q log object_log) l.pass.signals.knows q.signals.knows reading next) (sym same)
+      (subst (λ (z : WorldOf). TakesNext z.objects z.timers.about (lane_caller l.pass [] [])
+      (lane_caller p log object_log) l.pass.signals.knows p.signals.knows reading next) is
       (subst (λ os. TakesNext y.objects y.timers.about (lane_caller l.pass [] os)
-      (lane_caller mid log object_log) l.pass.signals.knows mid.signals.knows reading next) empty.1
+      (lane_caller p log object_log) l.pass.signals.knows p.signals.knows reading next) empty.1
       (subst (λ rs. TakesNext y.objects y.timers.about (lane_caller l.pass rs objects_begun)
-      (lane_caller mid log object_log) l.pass.signals.knows mid.signals.knows reading next)
-      empty.0 takes));
-  clock = reads.same;
-  sees = subst (λ q. SeesSent x mid q next) (sym same) sees;
+      (lane_caller p log object_log) l.pass.signals.knows p.signals.knows reading next)
+      empty.0 takes)));
   notes = notes;
   told = told;
 }

@@ -27,15 +27,15 @@ use Rattle.run_cases.proofs.Settimes.{last_is, settime_idle, settime_turn, turn_
 
 -- at a moment at which it is idle a timer isn't armed, nor does its function run, by its own history
 module _ (w : Witness) (f : FitsIn w) (n t : ℕ) (idle : IsIdle (timer_along w n t)) where
-  unarmed_then : (k : ℕ) → seen w n t ≡ k → (timer_after w.script w.run t k).armed ≡ None
+  pub unarmed_then : (k : ℕ) → seen w n t ≡ k → (timer_after w.script w.run t k).armed ≡ None
   unarmed_then k is = ap (λ k. (timer_after w.script w.run t k).armed) (sym is)
       ∙ sym (same_then w f.history f.timers (λ x. x.armed) refl n t) ∙ idle.armed
 
-  still_then : (k : ℕ) → seen w n t ≡ k → (timer_after w.script w.run t k).running ≡ None
+  pub still_then : (k : ℕ) → seen w n t ≡ k → (timer_after w.script w.run t k).running ≡ None
   still_then k is = ap (λ k. (timer_after w.script w.run t k).running) (sym is)
       ∙ sym (same_then w f.history f.timers (λ x. x.running) refl n t) ∙ idle.running
 
-some_none : {X : Type 0} {x : X} → Some x ≡ None → ⊥
+pub some_none : {X : Type 0} {x : X} → Some x ≡ None → ⊥
 some_none is = cc
 
 -- ---- a settime of an armed POSIX timer starts it with no cancel before

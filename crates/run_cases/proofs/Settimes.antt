@@ -101,6 +101,17 @@ module _ (sight : Sight) (limit ns reading base : ℕ) (mode : Mode) (w : Witnes
       let rest = entered t (start ++ Made t number entry ∷ []) in
       absurd (other (ap (λ (x : ℕ × Entry). x.1.event) (heads one e more rest (entries ∙ ap (λ b. also b e rest) (eq-eqb t t refl)))))
 
+  -- and one that made no entry of the timer
+  idle_unentered : (arm : Armed) (start : List Action) (cancel : Option (ℕ × ℕ)) → Arms Reached limit t mode ns reading base arm start
+      → [] ≡ entered t (begun ∷ (cancels t cancel ++ start ++ Made t number entry ∷ []))
+      → DisarmedFirst w c first last t (begun ∷ (cancels t cancel ++ start ++ Made t number entry ∷ [])) → WasIdle w c first last t (begun ∷ [])
+  idle_unentered arm start None arms entries is = idle_before arm start arms is
+  idle_unentered arm start (Some k) arms entries is =
+      let e : ℕ × Entry = (k.0, record { event = events.Cancel; reply = replies.Cancel k.1 }) in
+      let rest = entered t (start ++ Made t number entry ∷ []) in
+      let one : [] ≡ e ∷ rest = entries ∙ ap (λ b. also b e rest) (eq-eqb t t refl) in
+      absurd (cc)
+
 -- the first so many labels don't reach to one that isn't among them
 not_among : (c : Label) (n k : ℕ) (ls : List Label) → slice_get ls k ≡ Some c → made_by c (take n ls) ≡ 0 → n ≤ length ls → n ≤ k
 not_among c zero k ls line none small = omega arith
@@ -123,6 +134,17 @@ pub record FoundIdle (w : Witness) (c : Label) (t k : ℕ) : Type 0 where
   pub idle : IsIdle (timer_along w moment t)
   pub begun : length (own_moves c (take moment w.moves)) ≡ 1
   pub few : seen w moment t ≤ k
+
+-- law: a settime whose start was refused, and which made no entry of its timer, had found that idle in its turn, at a moment before the refusal
+pub refused_idle : {w : Witness} {c : Label} {flags : ℕ} {value interval : TimeSpec} {before after : Seen} (t stamp : ℕ)
+    (fits : FitsCall w c (calls.Settime t flags value interval) (answers.Unarmed stamp) before after) → [] ≡ entered t (w.traces c).actions
+    → WasIdle w c (w.traces c).first fits.holds.moment t (Began t fits.does.0.stamp ∷ [])
+refused_idle {w = w} {c = c} {flags = flags} {value = value} {interval = interval} t stamp fits entries =
+    let m = fits.does.0 in
+    let tr = w.traces c in
+    let e = object_entries.Settime flags (nanoseconds_of value) (nanoseconds_of interval) tr.at m.arm (settings.Unarmed stamp) in
+    idle_unentered _ _ _ _ _ _ w c t tr.first fits.holds.moment m.stamp (m.stamp + 1) e m.arm m.start m.cancel m.arms
+    (entries ∙ ap (entered t) m.done) (subst (λ ds. DisarmedFirst w c tr.first fits.holds.moment t ds) m.done fits.holds.disarmed)
 
 module _ {w : Witness} {c : Label} {flags left old : ℕ} {value interval : TimeSpec} {before after : Seen} where
   -- law: a settime that cancelled nothing found its timer idle in its turn, before its own entries of it

@@ -1,5 +1,5 @@
 -- The records that don't fit by what they say of signals.
-use Rattle.std.proofs.Common.{◌≡◌, ◌≤◌, ℕ, ◌+◌, zero, suc, true, false, List, [], ◌∷◌, ◌++◌, Some, length, get_or, arith, refl, ap, ◌∙◌, subst}
+use Rattle.std.proofs.Common.{◌≡◌, ◌<◌, ◌≤◌, ℕ, ◌+◌, zero, suc, true, false, List, [], ◌∷◌, ◌++◌, Some, length, get_or, arith, refl, ap, ◌∙◌, subst}
 use Rattle.std.specs.List.{AllByRecursion, slice_get}
 use Rattle.std.proofs.lemmas.Bool.{false≢true, true≢false}
 use Rattle.record_text.specs.declared.record.AcceptReply.TheVariants as acceptances
@@ -23,8 +23,9 @@ use Rattle.run_history.proofs.Actions.{made-append}
 use Rattle.run_history.proofs.Lists.{all_at}
 use Rattle.fit_laws.specs.Signals.{IsCounted, IsNamedBy, NamedBefore, Names, Sent, SentNoLater}
 use Rattle.fit_laws.proofs.Signals.{found_empty, found_full, signal_named_once, signals_in_turn}
+use Rattle.run_cases.specs.Fitting.{filled_script}
 use Rattle.run_cases.specs.Lines.{accepted_entry, at}
-use Rattle.run_cases.specs.Wrong.{outdated_record, outdated_script, pending_record, pending_script, renamed_record, renamed_script, roomy_record, roomy_script, unheard_record, unheard_script, younger_record, younger_script}
+use Rattle.run_cases.specs.Wrong.{outdated_record, outdated_script, pending_record, pending_script, renamed_record, renamed_script, roomless_record, roomy_record, roomy_script, unheard_record, unheard_script, younger_record, younger_script}
 use Rattle.run_cases.proofs.Settimes.{last_is}
 
 -- ---- what no answer names, and what no entry says
@@ -114,7 +115,20 @@ still_pending (suc (suc (suc k))) sent stale = true≢false stale
 
 -- law: it does not fit
 pub pending_doesnt_fit : Fits pending_script pending_record → ⊥
-pending_doesnt_fit o = let gone = (o.3.calls 1).1.0.holds.1 in still_pending gone.0 gone.2 gone.3
+pending_doesnt_fit o = let gone = (o.3.calls 1).1.0.holds in still_pending gone.stamp gone.sent gone.stale
+
+-- ---- a signal is told as stale that was pending as long as its timer's history had room
+
+-- it is pending behind its own entry, and behind the next one the history has no room
+pending_in_room : (stamp : ℕ) → 2 ≤ stamp → stamp < 3 → is_fresh (queued_after filled_script roomless_record 0 0 stamp) 2 ≡ false → ⊥
+pending_in_room zero sent room stale = absurd (omega (arith, sent))
+pending_in_room (suc zero) sent room stale = absurd (omega (arith, sent))
+pending_in_room (suc (suc zero)) sent room stale = true≢false stale
+pending_in_room (suc (suc (suc k))) sent room stale = absurd (omega (arith, room))
+
+-- law: it does not fit
+pub roomless_doesnt_fit : Fits filled_script roomless_record → ⊥
+roomless_doesnt_fit o = let gone = (o.3.calls 1).1.0.holds in pending_in_room gone.stamp gone.sent gone.room gone.stale
 
 -- ---- a signal is accepted whose timer was set anew since, and expired again
 

@@ -390,21 +390,41 @@ set_record = set_seen_by (answers.LeftAt 50 0 0 1)
 abbrev pub full_script : Script
 full_script = record (case_script 1 1 (kinds.Posix 0 ∷ []) ((by 0 (settime_to 50) ∷ by 0 (settime_to 60) ∷ by 0 (settime_to 70) ∷ []) ∷ [])) { limit = 3 }
 
--- the third settime's entry, by how many entries it tells of the timer
-abbrev pub unarmed_entry : ℕ → ObjectEntry
-unarmed_entry stamp = object_entries.Settime 1 70 0 0 armings.Unarmed (settings.Unarmed stamp)
+-- the third settime's entry, by the stamp of its reading and by how many entries it tells of the timer
+abbrev pub unarmed_entry : ℕ → ℕ → ObjectEntry
+unarmed_entry reading stamp = object_entries.Settime 1 70 0 reading armings.Unarmed (settings.Unarmed stamp)
 
 -- how many it tells of, and all else
 abbrev pub full_by : ℕ → RunRecord
 full_by stamp = object_record []
     ((line 0 0 (set_start 50 0 false) ∷ line 0 1 (cancel_entry 1) ∷ line 0 1 (set_start 60 0 false) ∷ line 0 2 (cancel_entry 3) ∷ []) ∷ [])
     ((case_object_line 0 0 (set_entry_of 50 0 1 0) ∷ case_object_line 0 1 (set_entry_of 60 0 3 50)
-    ∷ case_object_line 0 2 (unarmed_entry stamp) ∷ []) ∷ [])
+    ∷ case_object_line 0 2 (unarmed_entry 0 stamp) ∷ []) ∷ [])
     ((answers.Old 0 0 ∷ answers.Old 50 0 ∷ answers.Unarmed stamp ∷ []) ∷ [])
 
 -- its record
 abbrev pub full_record : RunRecord
 full_record = full_by 4
+
+-- ---- a settime waits for its timer's function, which another lane's run calls, and then its start is refused: the timer has as many entries as it may have
+
+-- the script: a timer takes no start once it has four entries
+abbrev pub ended_script : Script
+ended_script = record (case_script 1 2 (kinds.Posix 0 ∷ []) ((by 0 (settime_to 50) ∷ by 0 (settime_to 60) ∷ by 0 (calls.Clock (writes.Advance 60)) ∷ [])
+    ∷ (by 0 (settime_to 70) ∷ by 1 (hard_expire 0 4) ∷ []) ∷ [])) { limit = 4 }
+
+-- how many entries the third settime tells of the timer, and all else
+abbrev pub ended_by : ℕ → RunRecord
+ended_by stamp = object_record (advance_line 0 2 60 ∷ [])
+    ((line 0 0 (set_start 50 0 false) ∷ line 0 1 (cancel_entry 1) ∷ line 0 1 (set_start 60 0 false) ∷ line 1 0 (claim_entry 0 1 3)
+    ∷ line 1 0 (finish_entry false 3) ∷ []) ∷ [])
+    ((case_object_line 0 0 (set_entry_of 50 0 1 0) ∷ case_object_line 0 1 (set_entry_of 60 0 3 50) ∷ case_object_line 1 0 (counted_entry 3 1)
+    ∷ case_object_line 0 3 (unarmed_entry 1 stamp) ∷ []) ∷ [])
+    ((answers.Old 0 0 ∷ answers.Old 50 0 ∷ answers.Clock 1 ∷ answers.Unarmed stamp ∷ []) ∷ (answers.Done 1 (0 ∷ []) ∷ []) ∷ [])
+
+-- its record: the timer is told as it was once its function had ended
+abbrev pub ended_record : RunRecord
+ended_record = ended_by 5
 
 -- ---- a timer with slack expires when its soft expiry is reached and its hard one isn't
 
@@ -574,3 +594,20 @@ spent_script = record (expired_script (calls.Sigwait ∷ [])) { limit = 2 }
 -- its record
 abbrev pub spent_record : RunRecord
 spent_record = expired_record (counted_entry 1 1) [] (answers.SpentSignal 0 2 ∷ [])
+
+-- ---- a queued timer expires and is set anew, by which its signal goes stale and its history gets full at once; another lane takes the signal
+
+-- the script
+abbrev pub filled_script : Script
+filled_script = record (case_script_in versions.Two 1 2 (kinds.Queued 0 ∷ []) ((by 0 (settime_to 100) ∷ by 0 (calls.Clock (writes.Advance 100)) ∷ [])
+    ∷ (by 0 (hard_expire 0 4) ∷ by 0 (settime_to 0) ∷ by 1 calls.Sigwait ∷ []) ∷ [])) { limit = 3 }
+
+-- what was told of the signal, and all else
+abbrev pub filled_by : Answer → RunRecord
+filled_by told = record (object_record (advance_line 0 1 100 ∷ []) (claimed_by 0 100 0 2 1 ∷ [])
+    ((case_object_line 0 0 (set_entry_of 100 0 1 0) ∷ case_object_line 0 2 (counted_entry 1 1) ∷ case_object_line 0 3 disarming_entry ∷ []) ∷ [])
+    ((answers.Old 0 0 ∷ answers.Clock 1 ∷ answers.Done 1 (0 ∷ []) ∷ answers.Old 0 0 ∷ []) ∷ (told ∷ []) ∷ [])) { version = versions.Two }
+
+-- its record
+abbrev pub filled_record : RunRecord
+filled_record = filled_by (answers.SpentSignal 0 2)

@@ -20,7 +20,7 @@ use Rattle.script_text.specs.declared.script.Callback.TheVariants as callbacks
 use Rattle.script_text.specs.declared.script.Kind.TheVariants as kinds
 use Rattle.script_text.specs.declared.script.Kind.{Kind}
 use Rattle.script_text.specs.declared.script.Script.{Script}
-use Rattle.run_cases.specs.Fitting.{accepts_by, armed_seen_by, asleep_entry, awaited_by, busy_by, canceled_by, first_expiry, full_by, interrupted_by, nothing_by, read_again, refused_by, second_set, seen_by, set_seen_by, signals_by, skipped_by, started_by, two_expiries_by, unreadable_by}
+use Rattle.run_cases.specs.Fitting.{accepts_by, armed_seen_by, asleep_entry, awaited_by, busy_by, canceled_by, ended_by, filled_by, first_expiry, full_by, interrupted_by, nothing_by, read_again, refused_by, second_set, seen_by, set_seen_by, signals_by, skipped_by, started_by, two_expiries_by, unreadable_by}
 use Rattle.run_cases.specs.Lines.{accepted_entry, advance_line, at, base_entry_line, by, cancel_entry, case_object_line, case_record_in, case_script, case_script_in, case_start, case_start_entry, claim_entry, claim_lines, claimed_by, counted_entry, expired_record, expired_script, finish_entry, hard_expire, hard_raw, line, object_record, off_line_record, out_entry, queued_record, queued_script, raw_record, set_entry_of, set_start, settime_of, settime_to, slack_entry, slack_start, sleep_of, sleeper_record, sleeper_script, start}
 
 -- two timers whose callbacks do nothing
@@ -177,6 +177,12 @@ unset_record = set_seen_by (answers.LeftAt 0 0 0 0)
 -- a record that breaks it
 abbrev pub early_refusal_record : RunRecord
 early_refusal_record = full_by 3
+
+-- ---- a start is refused by its timer as it was while its function still ran: the script of a settime that waits for that
+
+-- a record that breaks it
+abbrev pub running_refusal_record : RunRecord
+running_refusal_record = ended_by 4
 
 -- ---- a timer is claimed before its soft expiry: its lines aren't a history either
 
@@ -394,6 +400,12 @@ abbrev pub pending_record : RunRecord
 pending_record = record (object_record (advance_line 0 1 100 ∷ []) (claimed_by 0 100 0 2 1 ∷ [])
     ((case_object_line 0 0 (set_entry_of 100 0 1 0) ∷ case_object_line 0 2 (counted_entry 1 1) ∷ []) ∷ [])
     ((answers.Old 0 0 ∷ answers.Clock 1 ∷ answers.Done 1 (0 ∷ []) ∷ []) ∷ (answers.StaleSignal 0 2 ∷ []) ∷ [])) { version = versions.Two }
+
+-- ---- a signal is told as stale that was pending as long as its timer's history had room: the script of a settime that fills it
+
+-- a record that breaks it
+abbrev pub roomless_record : RunRecord
+roomless_record = filled_by (answers.StaleSignal 0 2)
 
 -- ---- of 65 timers that expire, with no signal taken, the last one's expiry counts too: its signal finds room
 

@@ -88,6 +88,12 @@ pub fn a_settime_cancels_a_timer_and_cannot_start_it()
     ensures { Fits fitting.full_script fitting.full_record }
 {}
 
+/// A settime waits for its timer's function, beside another lane's expiry run. Then its start is refused, and it tells of the timer as it was found idle.
+#[tactic(auto, using(crate::proofs::RefusedStart::ended_fits))]
+pub fn a_settime_waits_for_a_function_and_cannot_start_its_timer()
+    ensures { Fits fitting.ended_script fitting.ended_record }
+{}
+
 /// A timer with slack expires when its soft expiry is reached and its hard one isn't.
 #[tactic(auto, using(crate::proofs::VersionTwo::early_fits))]
 pub fn a_soft_expiry_is_enough()
@@ -140,6 +146,12 @@ pub fn an_interrupted_sleep_tells_the_time_left()
 #[tactic(auto, using(crate::proofs::SignalsFitting::signals_fit))]
 pub fn two_signals_wait_in_turn_and_one_is_stale()
     ensures { Fits fitting.signals_script fitting.signals_record }
+{}
+
+/// A queued timer's history gets full as its signal goes stale: who takes the signal is told that it is full.
+#[tactic(auto, using(crate::proofs::SignalsFitting::filled_fits))]
+pub fn a_signal_that_goes_stale_as_its_timer_gets_full_is_spent()
+    ensures { Fits fitting.filled_script fitting.filled_record }
 {}
 
 /// A queued timer's history is full when its signal is taken: the call is told so.

@@ -106,6 +106,12 @@ pub fn a_refused_start_is_told_behind_its_cancel()
     ensures { Fits fitting.full_script wrong.early_refusal_record → ⊥ }
 {}
 
+/// A start isn't refused by its timer as it was while its function still ran: its settime waits until that has ended.
+#[tactic(auto, using(crate::proofs::RefusedStart::running_refusal_doesnt_fit))]
+pub fn a_refused_start_is_told_behind_its_timers_function()
+    ensures { Fits fitting.ended_script wrong.running_refusal_record → ⊥ }
+{}
+
 /// A timer isn't claimed before its soft expiry.
 #[tactic(auto, using(crate::proofs::WrongRecords::soon_doesnt_fit))]
 pub fn no_timer_expires_before_its_soft_expiry()
@@ -224,6 +230,12 @@ pub fn no_queue_is_found_full_while_it_has_room()
 #[tactic(auto, using(crate::proofs::SignalsWrong::pending_doesnt_fit))]
 pub fn no_signal_is_stale_that_stays_pending()
     ensures { Fits wrong.pending_script wrong.pending_record → ⊥ }
+{}
+
+/// No signal is told as stale that was pending at each moment at which its timer's history had it and had room.
+#[tactic(auto, using(crate::proofs::SignalsWrong::roomless_doesnt_fit))]
+pub fn no_signal_is_stale_that_was_pending_while_there_was_room()
+    ensures { Fits fitting.filled_script wrong.roomless_record → ⊥ }
 {}
 
 /// No signal is sent while as many wait as may: an expiry then finds no room.

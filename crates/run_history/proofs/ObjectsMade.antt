@@ -139,14 +139,18 @@ module _ {w : Witness} {moves signals : Spans} {c : Label} {at begin last timer 
   point : IsMoment w c turn anew.ends
   point = moment_of kept turn anew.ends (omega (arith, low, anew.from, anew.between)) anew.high anew.stops
 
-  -- such a call disarmed its timer first
-  first : DisarmedFirst w c begin last timer (anew_actions timer cancel start stamp (entry arm))
-  first =
-      disarmed (sight_of w begin last) w.script.limit w c timer at (base_of (kind_of w.script timer)) begin anew.begun last wanted cancel arm start stamp
-      (entry arm) anew.arms anew.idle anew.from (omega (arith, anew.between, anew.high))
+  -- such a call had disarmed its timer by any moment behind its turn's beginning
+  disarmed_by : (to : ℕ) → anew.begun ≤ to → DisarmedFirst w c begin to timer (anew_actions timer cancel start stamp (entry arm))
+  disarmed_by to behind =
+      disarmed (sight_of w begin last) w.script.limit w c timer at (base_of (kind_of w.script timer)) begin anew.begun to wanted cancel arm start stamp
+      (entry arm) anew.arms anew.idle anew.from behind
       (moment_of kept (Began timer stamp ∷ []) anew.begun (omega (arith, low, anew.from)) (omega (arith, anew.between, anew.high)) anew.begins)
 
-  -- its start was refused just before the object's entry
+  -- it disarmed it first
+  first : DisarmedFirst w c begin last timer (anew_actions timer cancel start stamp (entry arm))
+  first = disarmed_by last (omega (arith, anew.between, anew.high))
+
+  -- its start was refused behind that, just before the object's entry
   refused_before : (full : ℕ) → SawRefusal w timer full anew.ends
       → RefusedBefore w c begin last (anew_actions timer cancel start stamp (entry arm)) timer full
   refused_before full saw = record {
@@ -157,6 +161,7 @@ module _ {w : Witness} {moves signals : Spans} {c : Label} {at begin last timer 
     moment = anew.ends;
     from = omega (arith, anew.from, anew.between);
     to = anew.high;
+    disarmed = disarmed_by anew.ends anew.between;
     point = point;
     refused = saw;
   }
@@ -211,7 +216,7 @@ module _ {w : Witness} {moves signals : Spans} {c : Label} {at begin last timer 
       anew_made entry kept low anew (λ is. is) (λ makes. (makes, taken)) (first entry kept low anew)
   settime_made {flags = flags} {value = value} {interval = interval} (settings.Unarmed full) kept low anew taken refused =
       let entry : Armed → ObjectEntry = λ arm. object_entries.Settime flags (nanoseconds_of value) (nanoseconds_of interval) at arm (settings.Unarmed full) in
-      anew_made entry kept low anew (λ is. is) (λ makes. (makes, taken)) (first entry kept low anew, refused_before entry kept low anew full refused)
+      anew_made entry kept low anew (λ is. is) (λ makes. (makes, taken)) (refused_before entry kept low anew full refused)
 
   -- law: a sleep that makes an entry fits
   pub sleep_made : {flags : ℕ} {time : TimeSpec} (reply : SleepReply)
@@ -229,7 +234,7 @@ module _ {w : Witness} {moves signals : Spans} {c : Label} {at begin last timer 
       anew_made entry kept low anew (λ is. is) (λ makes. (makes, taken)) (first entry kept low anew)
   sleep_made {flags = flags} {time = time} (sleeps.Unarmed full) kept low anew taken refused =
       let entry : Armed → ObjectEntry = λ arm. object_entries.Sleep flags (nanoseconds_of time) at arm (sleeps.Unarmed full) in
-      anew_made entry kept low anew (λ is. is) (λ makes. (makes, taken)) (first entry kept low anew, refused_before entry kept low anew full refused)
+      anew_made entry kept low anew (λ is. is) (λ makes. (makes, taken)) (refused_before entry kept low anew full refused)
 
   -- law: an interrupt that makes an entry fits
   pub interrupt_made : (reply : InterruptReply)

@@ -42,7 +42,7 @@ use Rattle.run_history.specs.Signals.{SendsSignals}
 use Rattle.run_history.specs.Told.{IsOutOfRange}
 use Rattle.run_history.specs.Witnesses.{Evacuation, Fired, Witness, standing_along, timer_along}
 use Rattle.run_history.specs.Truths.{DisarmedFirst, HadEntries, IsDone, MayGo, NothingTold, RefusedBefore, RanFirst, RanNone}
-use Rattle.run_history.specs.Truths.{Saw, SawFull, SawFullOn, SawRefusal, SawStale, SawWaiting, StandsAt, WasFresh, WentStale}
+use Rattle.run_history.specs.Truths.{Saw, SawFull, SawFullOn, SawRefusal, SawStale, SawWaiting, StandsAt, WasFresh}
 use Rattle.run_history.specs.Deeds.{Anew, Cancels, Deed, Did, Evacuates, Never, Nothing, Rearms, Runs, Shifts, Starts, Where, Writes}
 
 -- a call in the one order: its label, its first and its last moment, and what it did
@@ -74,12 +74,9 @@ full timer stamp IsSo = record { did = Where Nothing IsSo; tells = λ c. SawFull
 abbrev pub disarmed : ℕ → Deed → CallRow
 disarmed timer did = record { did = did; tells = λ c. DisarmedFirst c.w c.label c.first c.last timer c.actions }
 
--- the same, where its start was refused just before the object's entry
+-- the same, where its start was refused behind that, just before the object's entry
 abbrev pub unarmed : ℕ → ℕ → Deed → CallRow
-unarmed timer stamp did = record {
-  did = did;
-  tells = λ c. DisarmedFirst c.w c.label c.first c.last timer c.actions × RefusedBefore c.w c.label c.first c.last c.actions timer stamp;
-}
+unarmed timer stamp did = record { did = did; tells = λ c. RefusedBefore c.w c.label c.first c.last c.actions timer stamp }
 
 -- a settime of a reading made an entry with this reply, and an object of this kind takes its arguments
 abbrev pub sets : Kind → ℕ → ℕ → ℕ → TimeSpec → TimeSpec → SettimeReply → Deed
@@ -113,10 +110,10 @@ IsFd (kinds.Fd base) = Unit
 IsFd kind = ⊥
 
 -- The table, by the script and the call's reading. What an answer tells of timers, bases and objects held at the call's last moment; that a base might go off
--- line held at its first. A settime that cancelled nothing found an idle timer when it had begun its turn; one whose start was refused
--- tells of the moment before its object's entry. A write is refused only while the clock may take more of them, and where one of its times would be past the
--- latest; the answer is the greatest of these. That the clock has taken too many writes is never answered. What a call popped off the queue of signals its
--- answer names (`popped_by`).
+-- line held at its first. A settime that cancelled nothing found an idle timer when it had begun its turn; one whose start was refused tells of a moment behind
+-- that, and before its object's entry. A write is refused only while the clock may take more of them, and where one of its times would be past the latest; the
+-- answer is the greatest of these. That the clock has taken too many writes is never answered. What a call popped off the queue of signals its answer names
+-- (`popped_by`).
 abbrev pub call_row : Script → ℕ → Call → Answer → CallRow
 call_row s reading (calls.Start timer request) (answers.Started generation on was_armed) = only (Starts timer request generation on was_armed)
 call_row s reading (calls.Start timer request) (answers.Spent stamp) = told_by_look (λ c. SawRefusal c.w timer stamp c.last)
@@ -200,7 +197,7 @@ call_row s reading calls.Sigwait (answers.Signal timer number overrun) = record 
 }
 call_row s reading calls.Sigwait (answers.StaleSignal timer number) = record {
   did = Where Nothing (SendsSignals (kind_of s timer));
-  tells = λ c. SawStale c.w c.first c.last timer (base_of (kind_of s timer)) number × WentStale c.w timer (base_of (kind_of s timer)) number c.last;
+  tells = λ c. SawStale c.w timer (base_of (kind_of s timer)) number c.last;
 }
 call_row s reading calls.Sigwait (answers.SpentSignal timer number) = record {
   did = Where Nothing (SendsSignals (kind_of s timer));

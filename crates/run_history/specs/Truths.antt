@@ -79,18 +79,6 @@ pub record LeftInTurn (w : Witness) (first last base : ℕ) (e : Evacuation) : T
 abbrev pub SawRefusal : Witness → ℕ → ℕ → ℕ → Type 0
 SawRefusal w timer stamp n = Saw w timer stamp observations.Spent n × ((timer_along w n timer).moving ≡ false)
 
--- a start was refused at a moment between these two at which the call had made all but its last entry, which is its object's
-pub record RefusedBefore (w : Witness) (c : Label) (first last : ℕ) (actions : List Action) (timer stamp : ℕ) : Type 0 where
-  pub early : List Action
-  pub number : ℕ
-  pub entry : ObjectEntry
-  pub done : actions ≡ early ++ Made timer number entry ∷ []
-  pub moment : ℕ
-  pub from : first ≤ moment
-  pub to : moment ≤ last
-  pub point : IsMoment w c early moment
-  pub refused : SawRefusal w timer stamp moment
-
 -- at this moment the object had so many entries, and no call had its turn
 abbrev pub HadEntries : Witness → ℕ → ℕ → ℕ → Type 0
 HadEntries w i stamp n = turns_along w n i ≡ stamp + stamp
@@ -123,6 +111,20 @@ DisarmedFirst w c first last timer (Began i stamp ∷ Entered t number entry ∷
     ButOfCancel entry.event (WasIdle w c first last timer (Began i stamp ∷ []))
 DisarmedFirst w c first last timer (Began i stamp ∷ actions) = WasIdle w c first last timer (Began i stamp ∷ [])
 DisarmedFirst w c first last timer actions = ⊥
+
+-- A start was refused at a moment between these two at which the call had made all but its last entry, which is its object's. It was refused of the timer as
+-- the call had disarmed it: it had cancelled it by then, or had found it idle.
+pub record RefusedBefore (w : Witness) (c : Label) (first last : ℕ) (actions : List Action) (timer stamp : ℕ) : Type 0 where
+  pub early : List Action
+  pub number : ℕ
+  pub entry : ObjectEntry
+  pub done : actions ≡ early ++ Made timer number entry ∷ []
+  pub moment : ℕ
+  pub from : first ≤ moment
+  pub to : moment ≤ last
+  pub disarmed : DisarmedFirst w c first moment timer actions
+  pub point : IsMoment w c early moment
+  pub refused : SawRefusal w timer stamp moment
 
 -- what an entry of an object tells of its timer's start is true
 abbrev pub IsTrueStart : Witness → ℕ → ℕ → Bool → Armed → ℕ → Type 0
@@ -189,20 +191,13 @@ pub record MayGo (w : Witness) (base heir n : ℕ) : Type 0 where
 
 -- ---- the next signal
 
--- at a moment of the call the timer's history had room, and the signal of this number wasn't pending
-pub record SawStale (w : Witness) (first last timer base number : ℕ) : Type 0 where
+-- at this moment the entry that sent the signal of this number was one of the timer's, whose history had room, and the signal wasn't pending
+pub record SawStale (w : Witness) (timer base number n : ℕ) : Type 0 where
   pub stamp : ℕ
-  pub moment : ℕ
-  pub from : first ≤ moment
-  pub to : moment ≤ last
-  pub had : HadEntries w timer stamp moment
+  pub had : HadEntries w timer stamp n
+  pub sent : number ≤ stamp
   pub room : stamp < w.script.limit
   pub stale : is_fresh (queued_after w.script w.run timer base stamp) number ≡ false
-
--- at this moment the entry that sent the signal of this number was one of the timer's, and the signal wasn't pending
-abbrev pub WentStale : Witness → ℕ → ℕ → ℕ → ℕ → Type 0
-WentStale w timer base number n =
-    (stamp : ℕ) × HadEntries w timer stamp n × (number ≤ stamp) × (is_fresh (queued_after w.script w.run timer base stamp) number ≡ false)
 
 -- a call whose turn of the timer began behind so many entries found the signal of this number pending
 abbrev pub WasFresh : Witness → ℕ → ℕ → ℕ → List Action → Type 0

@@ -1,5 +1,5 @@
 -- The signals of queued timers: what an expiry does to its object and to the queue, and what the next signal is.
-use Rattle.std.specs.Prelude.{ℕ, ◌≡◌, ◌+◌, ◌<◌, ◌⊎◌, Bool, true, false, List, length, Some, [], slice_get}
+use Rattle.std.specs.Prelude.{ℕ, ◌≡◌, ◌+◌, ◌<◌, ◌≤◌, ◌⊎◌, Bool, true, false, List, length, Some, [], slice_get}
 use Rattle.ktime.specs.Readings.{ClockReading}
 use Rattle.base_row.specs.declared.view.Opening.{Opening}
 use Rattle.hr_timers.specs.Known.{KnownOfTimers}
@@ -97,11 +97,13 @@ pub record TakesOldest (s t : QueueView) (timer number : ℕ) : Type 0 where
   pub oldest : slice_get (waiting_after [] pops.before) 0 ≡ Some (record { timer = timer; number = number })
   pub known : KnowsQueue t
 
--- A signal is stale where it isn't pending at its timer: that was set anew since, or the signal was accepted, or it isn't the last one that the timer sent.
+-- A signal is stale where it isn't pending at its timer, which has the entry that sent it, and has room: the timer was set anew since, or the signal was
+-- accepted, or it isn't the last one that the timer sent.
 pub record FindsStale (x : ObjectsOf) (old new : Caller) (timer number : ℕ) : Type 0 where
   pub state : QueuedState
   pub stamp : ℕ
   pub looks : LooksAtObject old new timer (objects.Queued state) stamp
+  pub sent : number ≤ stamp
   pub room : stamp < x.limit
   pub stale : is_fresh state number ≡ false
 
@@ -117,10 +119,12 @@ abbrev pub object_fresh : Object → ℕ → Bool
 object_fresh (objects.Queued t) number = is_fresh t number
 object_fresh object number = false
 
--- what a signal of this queued timer comes to once it is taken off the queue: the timer's history is full; or else it is stale, or it is accepted
+-- What a signal of this queued timer comes to once it is taken off the queue: the timer's history is full, with the entry that sent it; or else it is stale, or
+-- it is accepted.
 abbrev pub TakesSignal : ObjectsOf → Opening → Caller → Caller → ℕ → ℕ → ClockReading → NextSignal → Type 0
 TakesSignal x o old new timer number reading nexts.NoneQueued = ⊥
-TakesSignal x o old new timer number reading (nexts.Spent i k stamp) = (i ≡ timer) × (k ≡ number) × FindsHistoryFull x old new timer stamp
+TakesSignal x o old new timer number reading (nexts.Spent i k stamp) =
+    (i ≡ timer) × (k ≡ number) × FindsHistoryFull x old new timer stamp × (number ≤ stamp)
 TakesSignal x o old new timer number reading (nexts.Stale i k) = (i ≡ timer) × (k ≡ number) × FindsStale x old new timer number
 TakesSignal x o old new timer number reading (nexts.Accepted i k overrun) =
     (i ≡ timer) × (k ≡ number) × AcceptsSignal x o old new timer number overrun reading

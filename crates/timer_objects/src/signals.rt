@@ -1,18 +1,22 @@
 //! The next signal of queued timers.
-ghost use Rattle.std.specs.Prelude.{◌≡◌, ◌≤◌, ◌<◌, ◌+◌, ℕ, length, true, false, IfNone, IfSome};
+ghost use Rattle.std.specs.Prelude.{◌≡◌, ◌≤◌, ◌<◌, ◌+◌, ℕ, None, [], length, true, false, IfNone, IfSome};
 ghost use Rattle.timer_setting.specs.declared.answers.AcceptAnswer.TheVariants as acceptances;
 ghost use Rattle.timer_setting.specs.declared.object_call.ObjectReply.TheVariants as replies;
+ghost use Rattle.counted_row.specs.Views.{IsPassOfRow, Locks};
 ghost use Rattle.hr_timers.specs.Known.{IsPassOf};
+ghost use Rattle.pass_names.specs.SharedHistory.{LooksOn};
 ghost use Rattle.signal_queue.specs.Views.{KnowsQueue};
-ghost use Rattle.timer_objects.specs.Known.{IsObjectsPass, Suits, most_noted};
+ghost use Rattle.timer_objects.specs.Known.{HoldsObject, IsObjectsPass, Suits, most_noted, row_of};
+ghost use Rattle.timer_objects.specs.Meaning.{object_meaning};
 ghost use Rattle.timer_objects.specs.Rearming.{IsCallerOf, KeepsNames, LeavesPasses, caller_of};
 ghost use Rattle.timer_objects.specs.Signals.{IsQueued, IsSignalPass, TakesNext, TakesSignal, object_fresh};
+ghost use Rattle.timer_objects.specs.Turns.{turns_told};
 
 use crate::log::ObjectLog;
 use crate::object::{Kind, Object};
 use crate::objects::Objects;
 use crate::wanting::{Ended, Rearming};
-use counted_row::RowPass;
+use counted_row::{Held, RowPass};
 use hr_timers::{Log, Pass, Timers};
 use ktime::Reading;
 use signal_queue::{Signal, SignalPass};
@@ -45,7 +49,8 @@ pub enum NextSignal {
 }
 
 impl Objects {
-    /// Takes the oldest signal off the queue, and accepts it (`sigwaitinfo`). A periodic timer is then armed again. It doesn't wait for a signal.
+    /// Takes the oldest signal off the queue, and accepts it (`sigwaitinfo`). A periodic timer is then armed again. It doesn't wait for a signal; but while a
+    /// queued timer has no entry of its signal's number, which only a signal of the caller's own can have, it waits for that entry.
     pub fn next_signal<R: Wait>(
         &self,
         rt: &R,
@@ -97,6 +102,41 @@ impl Objects {
         (id as usize) < self.len() && self.kind(id) == Kind::Queued
     }
 
+    /// Waits until the lock of an object is free that has an entry of this number, and takes it when no call has its turn. In fact the object has that entry
+    /// as soon as its lock is free, where the entry's own expiry put the signal into the queue.
+    fn lock_behind<R: Wait>(
+        &self,
+        rt: &R,
+        timers: &Timers,
+        pass: &mut Pass,
+        objects_pass: &mut RowPass<Object>,
+        id: u32,
+        number: u64,
+    ) -> Held<Object>
+        requires pass { IsPassOf timers.now pass.old }
+        requires counters { length self.now.decls < timers.now.about.counters }
+        requires row { IsPassOfRow (row_of self.now) objects_pass.old }
+        requires idle { objects_pass.old.knows.held ≡ None }
+        requires unclaimed { objects_pass.old.knows.claims ≡ [] }
+        requires within { id < length self.now.decls }
+        ensures pass { IsPassOf timers.now pass.new }
+        ensures looks { LooksOn pass.old.known pass.new.known }
+        ensures told { turns_told id pass.new.known ≡ result.stamp + result.stamp }
+        ensures row { IsPassOfRow (row_of self.now) objects_pass.new }
+        ensures locks { Locks object_meaning objects_pass.old objects_pass.new id result }
+        ensures holds { HoldsObject self.now result }
+        ensures behind { number ≤ result.stamp }
+    {
+        for _ in rt.forever() {
+            let held = self.lock_in_turn(rt, timers, pass, objects_pass, id);
+            if number <= held.stamp() {
+                return held;
+            }
+            self.release(objects_pass, held);
+        }
+        unreachable!()
+    }
+
     /// Accepts the signal of this number of a queued timer, unless the timer's history is full, or the signal is stale.
     fn take_signal<R: Wait>(
         &self,
@@ -118,7 +158,7 @@ impl Objects {
         ensures names { KeepsNames (caller_of pass.old objects_pass.old log.old object_log.old) (caller_of pass.new objects_pass.new log.new object_log.new) }
         ensures room { (log.old.spare ≤ log.new.spare + most_noted self.now timers.now.about timer) × (object_log.old.spare ≤ object_log.new.spare + 1) }
     {
-        let held = self.lock_in_turn(rt, timers, pass, objects_pass, timer);
+        let held = self.lock_behind(rt, timers, pass, objects_pass, timer, number);
         if self.is_full(&held) {
             let stamp = self.release(objects_pass, held);
             return NextSignal::Spent {

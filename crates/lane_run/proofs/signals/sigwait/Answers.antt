@@ -8,6 +8,6 @@ returns-clause-call g c =
     let was = c.requires.reading in
     let taken = c.next_signal-next in
     let mid : WorldPass = record c.args.lane.now.pass { timers = taken.new.pass; objects = taken.new.objects_pass; signals = taken.new.signal_pass } in
-    calls_sigwait {mid = mid} c.args.reading taken.new.log.receipts taken.new.object_log.receipts taken.result c.world.view_is c.note_logs.ensures.rest.3
-    (record { same = refl; shows = was.shows; count = was.count }) c.in_ok-logs.ensures.empty taken.ensures.next c.see_sent.ensures.sees
+    calls_sigwait {p = mid} c.args.reading taken.new.log.receipts taken.new.object_log.receipts taken.result c.world.view_is c.note_logs.ensures.rest.3
+    (record { same = refl; shows = was.shows; count = was.count }) c.in_ok-logs.ensures.empty taken.ensures.next
     c.in_ok-note_logs.ensures.notes c.next_answer.ensures
