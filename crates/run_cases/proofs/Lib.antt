@@ -12,6 +12,7 @@ pub mod Orders
 pub mod Readings
 pub mod RefusedHeir
 pub mod RefusedStart
+pub mod SentOff
 pub mod Settimes
 pub mod SignalsFitting
 pub mod SignalsOfRuns

@@ -137,7 +137,7 @@ ended_fits = fits_by ended_witness (record {
   placed = (refl, (refl, tt));
   calls = two (
       two (right refl refl refl (refl, tt) (refl, tt) (refl, tt) (set_anew 0 1 (record { known = refl; good_value = lt refl; good_interval = lt refl })
-      (armed_by 1 50, refl, refl, stays refl refl refl)) (refl, ((refl, (refl, refl, λ e. refl)), tt))
+      (armed_by 1 50, refl, refl, stays refl refl refl refl refl refl)) (refl, ((refl, (refl, refl, λ e. refl)), tt))
       (1, le refl, le refl, point_passes _ _ _ _ _ refl, record { armed = refl; running = refl; moving = refl }))
       (two (right refl refl refl (refl, tt) (refl, tt) (refl, tt) (
         record {
@@ -145,7 +145,7 @@ ended_fits = fits_by ended_witness (record {
           arm = armings.Generation 3;
           start = Entered 0 3 (set_start 60 0 false) ∷ [];
           stamp = 1;
-          arms = (armed_by 3 60, refl, refl, stays refl refl refl);
+          arms = (armed_by 3 60, refl, refl, stays refl refl refl refl refl refl);
           done = refl;
         },
         record { known = refl; good_value = lt refl; good_interval = lt refl },

@@ -102,7 +102,7 @@ module _ (sight : Sight) (limit ns reading base : ℕ) (mode : Mode) (w : Witnes
       absurd (other (ap (λ (x : ℕ × Entry). x.1.event) (heads one e more rest (entries ∙ ap (λ b. also b e rest) (eq-eqb t t refl)))))
 
   -- and one that made no entry of the timer
-  idle_unentered : (arm : Armed) (start : List Action) (cancel : Option (ℕ × ℕ)) → Arms Reached limit t mode ns reading base arm start
+  idle_unentered : (arm : Armed) (start : List Action) (cancel : Option (ℕ × ℕ)) → Arms sight limit t mode ns reading base arm start
       → [] ≡ entered t (begun ∷ (cancels t cancel ++ start ++ Made t number entry ∷ []))
       → DisarmedFirst w c first last t (begun ∷ (cancels t cancel ++ start ++ Made t number entry ∷ [])) → WasIdle w c first last t (begun ∷ [])
   idle_unentered arm start None arms entries is = idle_before arm start arms is

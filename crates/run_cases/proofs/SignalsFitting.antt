@@ -181,7 +181,7 @@ filled_fits = fits_by filled_witness (record {
   placed = (refl, (refl, tt));
   calls = two (
       two (right refl refl refl (refl, tt) (refl, tt) (refl, tt) (set_anew 0 1 (record { known = refl; good_value = lt refl; good_interval = lt refl })
-      (armed_by 1 100, refl, refl, stays refl refl refl)) (refl, ((refl, (refl, refl, λ e. refl)), tt))
+      (armed_by 1 100, refl, refl, stays refl refl refl refl refl refl)) (refl, ((refl, (refl, refl, λ e. refl)), tt))
       (1, le refl, le refl, point_passes _ _ _ _ _ refl, record { armed = refl; running = refl; moving = refl }))
       (two (right refl refl refl (refl, tt) (refl, tt) (refl, tt) refl (refl, tt) tt)
       (two (right refl refl refl (refl, tt) (refl, tt) (refl, tt)

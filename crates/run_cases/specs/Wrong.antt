@@ -257,6 +257,14 @@ abbrev pub stranded_record : RunRecord
 stranded_record = off_line_record ([] ∷ (base_entry_line 0 (shifts.Offline 0) ∷ []) ∷ []) (lines_there 1 ∷ [])
     (answers.Offline 0 1 ∷ answers.Started 2 1 false ∷ [])
 
+-- ---- a start sends its timer to a base that is off line, and on to its heir: the same script
+
+-- a record that breaks it
+abbrev pub sent_off_record : RunRecord
+sent_off_record = off_line_record ([] ∷ (base_entry_line 0 (shifts.Offline 0) ∷ []) ∷ [])
+    ((line 0 1 (out_entry 1 false) ∷ line 0 1 (out_entry 0 false) ∷ line 0 1 (case_start_entry modes.Abs 100 0 0 0 100 false) ∷ []) ∷ [])
+    (answers.Offline 0 1 ∷ answers.Started 3 0 false ∷ [])
+
 -- ---- a base goes off line with a timer armed on it
 
 -- the script

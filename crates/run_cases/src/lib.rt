@@ -35,7 +35,7 @@ pub use wrong::{
     no_signal_is_accepted_whose_timer_was_set_since, no_signal_is_named_twice,
     no_signal_is_sent_where_as_many_wait_as_may, no_signal_is_stale_that_stays_pending,
     no_signal_is_stale_that_was_pending_while_there_was_room, no_sleep_is_over_before_its_time,
-    no_start_ends_on_a_base_off_line, no_start_goes_by_a_later_write,
+    no_start_ends_on_a_base_off_line, no_start_is_sent_to_a_base_off_line, no_start_goes_by_a_later_write,
     no_time_left_of_a_sleep_up_to_a_time, no_timer_expires_before_its_soft_expiry,
     no_timer_is_moved_while_a_function_runs, no_younger_signal_is_named_first,
     signals_of_a_run_are_named_in_the_order_of_its_claims, timers_are_moved_in_turn,

@@ -148,6 +148,12 @@ pub fn no_start_ends_on_a_base_off_line()
     ensures { Fits wrong.stranded_script wrong.stranded_record → ⊥ }
 {}
 
+/// A start doesn't send its timer to a base that is off line: where that is so from before the call on, it goes to the heir at once.
+#[tactic(auto, using(crate::proofs::SentOff::sent_off_doesnt_fit))]
+pub fn no_start_is_sent_to_a_base_off_line()
+    ensures { Fits wrong.stranded_script wrong.sent_off_record → ⊥ }
+{}
+
 /// A base doesn't go off line with a timer armed on it.
 #[tactic(auto, using(crate::proofs::OffLine::left_doesnt_fit))]
 pub fn a_base_goes_off_line_empty()
