@@ -1,5 +1,5 @@
 -- What a reader of lines knows of the text so far.
-use Rattle.std.specs.Prelude.{ℕ, ◌≡◌, ◌++◌, List, Option, Some, None}
+use Rattle.std.specs.Prelude.{ℕ, ◌≡◌, ◌++◌, Bool, List, Option, Some, None}
 use Rattle.trace_check.specs.Checkers.{HoldsKnowledge}
 use Rattle.trace_check.specs.Knowledge.{Knowledge}
 use Rattle.trace_read.specs.declared.verdict.Verdict.{Verdict}
@@ -8,12 +8,13 @@ use Rattle.trace_read.specs.Lines.{judged, lines_from}
 
 -- the answer to the text so far with these bytes behind it, by what a reader holds
 abbrev pub verdict_behind : Reader → Knowledge → List ℕ → Verdict
-verdict_behind r k rest = judged r.number k (lines_from r.begun.items rest)
+verdict_behind r k rest = judged r.number k r.timed (lines_from r.begun.items rest)
 
--- a reader's checker has taken what is known, and all of its events are counted
-pub record HasTaken (r : Reader) (known : Knowledge) : Type 0 where
+-- a reader's checker has taken what is known, all of its events are counted, and it is known whether one is a timer's
+pub record HasTaken (r : Reader) (known : Knowledge) (has_one : Bool) : Type 0 where
   pub holds : HoldsKnowledge r.checker known
   pub events : r.events ≡ known.count
+  pub timed : r.timed ≡ has_one
 
 -- a reader has read so far that this is the answer, by the bytes that come behind
 pub record HasReadSoFar (r : Reader) (answer : List ℕ → Verdict) : Type 0 where

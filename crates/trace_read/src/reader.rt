@@ -1,7 +1,7 @@
 //! Reads a text line by line.
-ghost use Rattle.std.specs.Prelude.{◌≡◌, ◌++◌, ◌∷◌, [], List, ℕ, IfOk, OnOk, Option, Some, None, MatchOption};
+ghost use Rattle.std.specs.Prelude.{◌≡◌, ◌||◌, ◌++◌, ◌∷◌, [], List, ℕ, IfOk, OnOk, Option, Some, None, MatchOption};
 ghost use Rattle.trace_read.specs.declared.verdict.Verdict.{Verdict};
-ghost use Rattle.trace_read.specs.Lines.{known_after, line_verdict, verdict_on};
+ghost use Rattle.trace_read.specs.Lines.{event_told, has_timer_event, is_of_timer, known_after, line_verdict, verdict_on};
 ghost use Rattle.trace_read.specs.Readers.{HasTaken, ReadsOn, HasReadSoFar};
 ghost use Rattle.trace_check.specs.Checkers.{HoldsKnowledge};
 ghost use Rattle.trace_check.specs.Knowledge.{Knowledge};
@@ -11,7 +11,14 @@ use crate::tally::Tally;
 use crate::verdict::Verdict;
 use std::alloc::{AllocError, Global};
 use trace_check::Checker;
-use trace_text::read_line;
+use trace_text::{KernelEvent, read_line};
+
+/// Whether an event is a timer's, and no loss.
+fn is_of_timer(event: &KernelEvent) -> bool
+    ensures { result ≡ is_of_timer event.now }
+{
+    !matches!(event, KernelEvent::Lost)
+}
 
 /// What was read of a text: the line that was begun, its number, and what the lines before it tell.
 #[derive(Drop)]
@@ -19,6 +26,8 @@ pub struct Reader {
     begun: Vec<u8>,
     number: u64,
     events: u64,
+    /// One of the events is of a timer.
+    timed: bool,
     checker: Checker,
     tally: Tally,
     alloc: Global,
@@ -33,6 +42,7 @@ impl Reader {
             begun: Vec::new(alloc),
             number: 1,
             events: 0,
+            timed: false,
             checker: Checker::new(alloc),
             tally: Tally::new(alloc),
             alloc,
@@ -41,7 +51,7 @@ impl Reader {
 
     /// The answer to the line that was begun, where it can't be read or no history shows it; else the checker has taken it.
     fn judge(&mut self) -> Result<Option<Verdict>, AllocError>
-        ensures answer { (k : Knowledge) → HoldsKnowledge self.old.checker k → self.old.events ≡ k.count → IfOk result (λ v. (v ≡ line_verdict self.old.number k (event_line self.old.begun.items)) × (v ≡ None → HasTaken self.new (known_after k (event_line self.old.begun.items)))) }
+        ensures answer { (k : Knowledge) → HoldsKnowledge self.old.checker k → self.old.events ≡ k.count → IfOk result (λ v. (v ≡ line_verdict self.old.number k (event_line self.old.begun.items)) × (v ≡ None → HasTaken self.new (known_after k (event_line self.old.begun.items)) (self.old.timed || has_timer_event (event_told (event_line self.old.begun.items))))) }
         ensures number { self.new.number ≡ self.old.number }
         ensures begun { self.new.begun ≡ self.old.begun }
     {
@@ -58,6 +68,7 @@ impl Reader {
             return Err(AllocError);
         }
         self.events += 1;
+        self.timed = self.timed || is_of_timer(&event);
         self.tally.note(&event)?;
         Ok(None)
     }
@@ -108,8 +119,12 @@ impl Reader {
         if let Some(verdict) = self.judge()? {
             return Ok(verdict);
         }
-        Ok(Verdict::Fits {
-            events: self.events,
+        Ok(if self.timed {
+            Verdict::Fits {
+                events: self.events,
+            }
+        } else {
+            Verdict::NoEvents
         })
     }
 

@@ -1,12 +1,12 @@
 -- What was read of a source, and what was written for it.
-use Rattle.std.specs.Prelude.{ℕ, ◌≡◌, ◌⊎◌, List, ◌++◌, ⊤}
+use Rattle.std.specs.Prelude.{ℕ, ◌≡◌, ◌⊎◌, true, false, List, ◌++◌, ⊤}
 use Rattle.std.specs.Io.KnownBytes.{Consumes, IsAtEnd}
 use Rattle.std.specs.declared.option.Option.{Option}
 use Rattle.trace_top.specs.declared.status.Status.{Status}
 use Rattle.trace_top.specs.declared.status.Status.TheVariants as statuses
 use Rattle.trace_read.specs.declared.verdict.Verdict.{Verdict}
 use Rattle.trace_read.specs.declared.verdict.Verdict.TheVariants as verdicts
-use Rattle.trace_read.specs.Lines.{HasVerdict, LinesFit, trace_lines, verdict_on}
+use Rattle.trace_read.specs.Lines.{HasVerdict, LinesFit, events_in, has_timer_event, trace_lines, verdict_on}
 use Rattle.trace_top.specs.declared.command.Asked.{Asked}
 use Rattle.trace_top.specs.declared.command.Asked.TheVariants as asks
 use Rattle.trace_top.specs.Status.{status_of}
@@ -25,8 +25,8 @@ pub record HasAnswered (left left_now : Option (List ℕ)) (status : Status) : T
   pub is : status ≡ status_of verdict
   pub read : IsJudged left left_now verdict
 
--- a text that doesn't fit or can't be read was read, and the line that tells why was written
-pub record HasToldMisfit (left left_now taken taken_now : Option (List ℕ)) (status : Status) : Type 0 where
+-- a text that isn't answered as one that fits was read, and the line that tells why was written
+pub record HasToldWhy (left left_now taken taken_now : Option (List ℕ)) (status : Status) : Type 0 where
   pub verdict : Verdict
   pub is : status ≡ status_of verdict
   pub read : IsJudged left left_now verdict
@@ -54,7 +54,8 @@ IsToldAs asks.Line (verdicts.Fits events) text = IsFitsText events text
 IsToldAs asks.Summary (verdicts.Fits events) text = ⊤
 IsToldAs asked verdict text = text ≡ verdict_text verdict
 
--- how a text of which all bytes are known must end: as one that fits exactly where it does
+-- how a text of which all bytes are known must end: as one that fits exactly where it does and has an event of a timer
 pub record MustEnd (bytes : List ℕ) (status : Status) : Type 0 where
-  pub fits : LinesFit (trace_lines bytes) → (status ≡ statuses.Fits) ⊎ (status ≡ statuses.OutOfMemory)
+  pub fits : LinesFit (trace_lines bytes) → has_timer_event (events_in (trace_lines bytes)) ≡ true → (status ≡ statuses.Fits) ⊎ (status ≡ statuses.OutOfMemory)
+  pub empty : LinesFit (trace_lines bytes) → has_timer_event (events_in (trace_lines bytes)) ≡ false → (status ≡ statuses.NoEvents) ⊎ (status ≡ statuses.OutOfMemory)
   pub other : (LinesFit (trace_lines bytes) → ⊥) → (status ≡ statuses.Refused) ⊎ ((status ≡ statuses.Unreadable) ⊎ (status ≡ statuses.OutOfMemory))

@@ -15,6 +15,7 @@ check_code statuses.ReadFault = 4
 check_code statuses.WriteFault = 5
 check_code statuses.OutOfMemory = 6
 check_code statuses.Refused = 7
+check_code statuses.NoEvents = 8
 
 -- the line for standard error, where there is one
 abbrev pub check_message : Status → Option (List ℕ)
@@ -25,9 +26,11 @@ check_message statuses.ReadFault = Some (codes "hrt_check: read fault")
 check_message statuses.WriteFault = Some (codes "hrt_check: write fault")
 check_message statuses.OutOfMemory = Some (codes "hrt_check: out of memory")
 check_message statuses.Refused = None
+check_message statuses.NoEvents = None
 
 -- how the program ends where a text is answered so
 abbrev pub status_of : Verdict → Status
 status_of (verdicts.Fits events) = statuses.Fits
+status_of verdicts.NoEvents = statuses.NoEvents
 status_of (verdicts.Refused line cause) = statuses.Refused
 status_of (verdicts.Unreadable line what) = statuses.Unreadable

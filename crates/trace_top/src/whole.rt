@@ -1,6 +1,6 @@
 //! All that the program does, over the streams that it is handed.
 ghost use Rattle.std.specs.Prelude.{◌≡◌, ◌≤◌, ◌⊎◌, Some, None, IfOk, IfSome, string_bytes};
-ghost use Rattle.trace_top.specs.Checking.{HasAnswered, HasFitted, HasToldMisfit, IsToldAs, MayEnd, MustEnd};
+ghost use Rattle.trace_top.specs.Checking.{HasAnswered, HasFitted, HasToldWhy, IsToldAs, MayEnd, MustEnd};
 ghost use Rattle.trace_top.specs.Command.{asked_of_words};
 ghost use Rattle.byte_streams.specs.Streams.{Rose};
 
@@ -14,7 +14,7 @@ use std::alloc::{AllocError, Global};
 use trace_read::{Reader, Verdict};
 
 /// Does what the words ask for, the program's name first: checks the trace of the source, and writes to the sink that it fits, or the first line that
-/// can't be read or with which no history shows the lines so far.
+/// can't be read or with which no history shows the lines so far, or that no line tells an event of a timer.
 #[tactic(auto, using(crate::proofs::Endings::must_answer))]
 pub fn top<S: Source, K: Sink>(
     alloc: Global,
@@ -26,7 +26,8 @@ pub fn top<S: Source, K: Sink>(
     ensures untouched { asked_of_words words.now ≡ None → (result ≡ Status.Usage) × (source.new ≡ source.old) × (sink.new ≡ sink.old) }
     ensures fits { result ≡ Status.Fits → HasAnswered (S.left source.old) (S.left source.new) result }
     ensures told { result ≡ Status.Fits → asked_of_words words.now ≡ Some Asked.Line → HasFitted (S.left source.old) (S.left source.new) (K.taken sink.old) (K.taken sink.new) }
-    ensures refused { (result ≡ Status.Refused) ⊎ (result ≡ Status.Unreadable) → HasToldMisfit (S.left source.old) (S.left source.new) (K.taken sink.old) (K.taken sink.new) result }
+    ensures refused { (result ≡ Status.Refused) ⊎ (result ≡ Status.Unreadable) → HasToldWhy (S.left source.old) (S.left source.new) (K.taken sink.old) (K.taken sink.new) result }
+    ensures empty { result ≡ Status.NoEvents → HasToldWhy (S.left source.old) (S.left source.new) (K.taken sink.old) (K.taken sink.new) result }
     ensures read_fault { result ≡ Status.ReadFault → Rose (S.faults source.old) (S.faults source.new) }
     ensures write_fault { result ≡ Status.WriteFault → Rose (K.faults sink.old) (K.faults sink.new) }
     ensures unwritten { (result ≡ Status.ReadFault) ⊎ (result ≡ Status.OutOfMemory) → sink.new ≡ sink.old }
@@ -45,7 +46,8 @@ fn run<S: Source, K: Sink>(alloc: Global, asked: Asked, source: &mut S, sink: &m
     ensures used { result ≡ Status.Usage → ⊥ }
     ensures fits { result ≡ Status.Fits → HasAnswered (S.left source.old) (S.left source.new) result }
     ensures told { result ≡ Status.Fits → asked ≡ Asked.Line → HasFitted (S.left source.old) (S.left source.new) (K.taken sink.old) (K.taken sink.new) }
-    ensures refused { (result ≡ Status.Refused) ⊎ (result ≡ Status.Unreadable) → HasToldMisfit (S.left source.old) (S.left source.new) (K.taken sink.old) (K.taken sink.new) result }
+    ensures refused { (result ≡ Status.Refused) ⊎ (result ≡ Status.Unreadable) → HasToldWhy (S.left source.old) (S.left source.new) (K.taken sink.old) (K.taken sink.new) result }
+    ensures empty { result ≡ Status.NoEvents → HasToldWhy (S.left source.old) (S.left source.new) (K.taken sink.old) (K.taken sink.new) result }
     ensures read_fault { result ≡ Status.ReadFault → Rose (S.faults source.old) (S.faults source.new) }
     ensures write_fault { result ≡ Status.WriteFault → Rose (K.faults sink.old) (K.faults sink.new) }
     ensures unwritten { (result ≡ Status.ReadFault) ⊎ (result ≡ Status.OutOfMemory) → sink.new ≡ sink.old }

@@ -79,6 +79,7 @@ fn each_status_has_its_number_and_its_line(rt: HostRuntime) {
         (Status::WriteFault, 5, Some("hrt_check: write fault")),
         (Status::OutOfMemory, 6, Some("hrt_check: out of memory")),
         (Status::Refused, 7, None),
+        (Status::NoEvents, 8, None),
     ];
     for (status, code, message) in cases {
         assert_eq!(rt; status.code(), code);
