@@ -1,6 +1,7 @@
 -- What the events of a trace have in them, by numbers. Lists of events have the newest one first here.
-use Rattle.std.specs.Prelude.{ℕ, ◌≡◌, ◌+◌, ◌-◌, max, nat_eq, Bool, false, if◌then◌else◌, is_some, List, [], ◌∷◌, length, Option, Some, None, unwrap_or, nat_cmp}
+use Rattle.std.specs.Prelude.{ℕ, ◌≡◌, ◌+◌, ◌-◌, max, nat_eq, Bool, false, if◌then◌else◌, is_some, List, [], ◌∷◌, length, Option, Some, None, unwrap_or}
 use Rattle.std.specs.List.{IsDistinct, list_any}
+use Rattle.std.specs.Ordering.{nat_cmp}
 use Rattle.std.specs.BTreeMap as sorted
 use Rattle.std.specs.BTreeMap.{BTreeMap}
 use Rattle.std.specs.HashMap.{get}

@@ -1,5 +1,5 @@
 //! What a trace has in it, by numbers.
-ghost use Rattle.std.specs.Prelude.{◌≡◌, ◌||◌, ℕ, List, [], ◌∷◌, OnOk, IfOk, IfSome, is_some, max, nat_eq};
+ghost use Rattle.std.specs.Prelude.{◌≡◌, ◌||◌, ℕ, false, List, [], ◌∷◌, OnOk, IfOk, IfSome, is_some, max, nat_eq};
 ghost use Rattle.std.specs.List.{list_any};
 ghost use Rattle.std.specs.HashMap.{get};
 ghost use Rattle.std.specs.HashSet.{contains};
@@ -38,19 +38,35 @@ impl EventCounts {
     }
 
     /// With one more event; `None` where a number would pass its end.
-    fn with(mut self, event: &KernelEvent) -> Option<EventCounts>
+    fn with(self, event: &KernelEvent) -> Option<EventCounts>
         ensures { IfSome result (λ c. c ≡ counted event.now self) }
     {
-        let count = match event {
-            KernelEvent::SetUp { .. } => &mut self.set_ups,
-            KernelEvent::Start { .. } => &mut self.starts,
-            KernelEvent::Cancel { .. } => &mut self.cancels,
-            KernelEvent::Entry { .. } => &mut self.expiries,
-            KernelEvent::Exit { .. } => &mut self.returns,
-            KernelEvent::Lost => &mut self.losses,
-        };
-        *count = count.checked_add(1)?;
-        Some(self)
+        Some(match event {
+            KernelEvent::SetUp { .. } => EventCounts {
+                set_ups: self.set_ups.checked_add(1)?,
+                ..self
+            },
+            KernelEvent::Start { .. } => EventCounts {
+                starts: self.starts.checked_add(1)?,
+                ..self
+            },
+            KernelEvent::Cancel { .. } => EventCounts {
+                cancels: self.cancels.checked_add(1)?,
+                ..self
+            },
+            KernelEvent::Entry { .. } => EventCounts {
+                expiries: self.expiries.checked_add(1)?,
+                ..self
+            },
+            KernelEvent::Exit { .. } => EventCounts {
+                returns: self.returns.checked_add(1)?,
+                ..self
+            },
+            KernelEvent::Lost => EventCounts {
+                losses: self.losses.checked_add(1)?,
+                ..self
+            },
+        })
     }
 }
 
