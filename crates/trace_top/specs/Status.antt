@@ -1,5 +1,5 @@
 -- How the program ends.
-use Rattle.std.specs.Prelude.{ℕ, List, codes, Some, None}
+use Rattle.std.specs.Prelude.{ℕ, Bool, true, false, List, codes, Some, None}
 use Rattle.std.specs.declared.option.Option.{Option}
 use Rattle.trace_top.specs.declared.status.Status.{Status}
 use Rattle.trace_top.specs.declared.status.Status.TheVariants as statuses
@@ -34,3 +34,14 @@ status_of (verdicts.Fits events) = statuses.Fits
 status_of verdicts.NoEvents = statuses.NoEvents
 status_of (verdicts.Refused line cause) = statuses.Refused
 status_of (verdicts.Unreadable line what) = statuses.Unreadable
+
+-- the program ends so where a text is answered
+abbrev pub is_answer : Status → Bool
+is_answer statuses.Fits = true
+is_answer statuses.Usage = false
+is_answer statuses.Unreadable = true
+is_answer statuses.ReadFault = false
+is_answer statuses.WriteFault = false
+is_answer statuses.OutOfMemory = false
+is_answer statuses.Refused = true
+is_answer statuses.NoEvents = true

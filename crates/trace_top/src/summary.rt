@@ -1,6 +1,8 @@
 //! The text for a trace that fits.
-ghost use Rattle.std.specs.Prelude.{◌≡◌, ◌++◌, IfOk, OnOk, string_bytes};
-ghost use Rattle.trace_top.specs.Checking.{IsFitsText};
+ghost use Rattle.std.specs.Prelude.{◌≡◌, ◌++◌, List, IfOk, OnOk, string_bytes};
+ghost use Rattle.trace_text.specs.declared.event.KernelEvent.{KernelEvent};
+ghost use Rattle.trace_read.specs.Tallies.{IsTallyOf};
+ghost use Rattle.trace_top.specs.Checking.{IsFitsText, IsSummaryText};
 ghost use Rattle.trace_top.specs.Texts.{counts_text, fits_text, late_text, latest_text, row_text, rows_of, with_events, with_table};
 
 use std::alloc::{AllocError, Global};
@@ -23,14 +25,11 @@ fn fits_text(alloc: Global, events: u64, timers: u64, processors: u64) -> Result
 
 /// The line for a trace that fits.
 pub fn line(alloc: Global, events: u64, tally: &Tally) -> Result<String, AllocError>
-    ensures { IfOk result (λ t. IsFitsText events (string_bytes t)) }
+    ensures { IfOk result (λ t. (past : List KernelEvent) → IsTallyOf tally.now past → IsFitsText past events (string_bytes t)) }
 {
-    fits_text(
-        alloc,
-        events,
-        tally.timers() as u64,
-        tally.processors() as u64,
-    )
+    let timers = tally.timers() as u64;
+    let processors = tally.processors() as u64;
+    fits_text(alloc, events, timers, processors)
 }
 
 /// One row of the table: what is counted, and how often it was.
@@ -91,7 +90,7 @@ fn latest_rows(
 }
 
 /// The table of what a trace has in it, behind a text.
-pub fn table(alloc: Global, tally: &Tally, text: &mut String) -> Result<(), AllocError>
+fn table(alloc: Global, tally: &Tally, text: &mut String) -> Result<(), AllocError>
     ensures { OnOk result (string_bytes text.new ≡ with_table tally.now (string_bytes text.old)) }
 {
     event_rows(alloc, tally.counts(), text)?;
@@ -100,4 +99,13 @@ pub fn table(alloc: Global, tally: &Tally, text: &mut String) -> Result<(), Allo
         latest_rows(alloc, text, *processor, *latest)?;
     }
     Ok(())
+}
+
+/// The line for a trace that fits, and the table behind it.
+pub fn summary(alloc: Global, events: u64, tally: &Tally) -> Result<String, AllocError>
+    ensures { IfOk result (λ t. (past : List KernelEvent) → IsTallyOf tally.now past → IsSummaryText past events (string_bytes t)) }
+{
+    let mut text = line(alloc, events, tally)?;
+    table(alloc, tally, &mut text)?;
+    Ok(text)
 }
