@@ -7,6 +7,9 @@ use Rattle.trace_check.specs.declared.misfit.Misfit.TheVariants as causes
 use Rattle.trace_read.specs.declared.verdict.Verdict.{Verdict}
 use Rattle.trace_read.specs.declared.verdict.Verdict.TheVariants as verdicts
 use Rattle.trace_read.specs.Lines.{HasVerdict, LinesFit, events_in, has_timer_event, trace_lines}
+use Rattle.trace_text.specs.declared.event.KernelEvent.{KernelEvent}
+use Rattle.trace_read.specs.Readers.{told_by}
+use Rattle.trace_read.specs.Tallies.{NamesProcessors, NamesTimers}
 use Rattle.hulayban_c.specs.declared.codes.TheConstants.{FITS, MISFIT, UNREADABLE, NO_EVENTS, NO_MEMORY}
 use Rattle.hulayban_c.specs.declared.causes.TheConstants.{CAUSE_SET_UP_ARMED, CAUSE_SET_UP_RUNNING, CAUSE_SOFT_AFTER_HARD, CAUSE_PAST_TIME, CAUSE_WAS_NOT_ARMED, CAUSE_WAS_ARMED, CAUSE_NOT_ARMED, CAUSE_RUNNING, CAUSE_OTHER_PROCESSOR, CAUSE_OTHER_CONTEXT, CAUSE_TOO_EARLY, CAUSE_SECOND_FUNCTION, CAUSE_OUT_OF_ORDER, CAUSE_NOT_RUNNING, CAUSE_NO_HRTIMER, CAUSE_NO_PROCESSOR, CAUSE_NO_CLOCKID, CAUSE_NO_MODE, CAUSE_NO_SOFTEXPIRES, CAUSE_NO_EXPIRES, CAUSE_NO_WAS_ARMED, CAUSE_NO_NOW, CAUSE_NO_TIMER_EVENTS}
 use Rattle.hulayban_c.specs.declared.checking.CheckAnswer.{CheckAnswer}
@@ -56,12 +59,20 @@ check_tells verdicts.NoEvents timers processors = (NO_EVENTS, of_line 0 CAUSE_NO
 check_tells (verdicts.Refused line cause) timers processors = (MISFIT, misfit_tells line cause)
 check_tells (verdicts.Unreadable line what) timers processors = (UNREADABLE, of_line line (what_number what))
 
+-- where a text fits, these are how many timers and processors its events name
+abbrev pub CountsNamed : Verdict → List KernelEvent → ℕ → ℕ → Type 0
+CountsNamed (verdicts.Fits events) past timers processors = NamesTimers past timers × NamesProcessors past processors
+CountsNamed verdicts.NoEvents past timers processors = Unit {0}
+CountsNamed (verdicts.Refused line cause) past timers processors = Unit {0}
+CountsNamed (verdicts.Unreadable line what) past timers processors = Unit {0}
+
 -- what is told tells how a text is answered, and the answer means what it says
 pub record IsChecked (text : List ℕ) (told : ℤ × CheckAnswer) : Type 0 where
   pub verdict : Verdict
   pub answers : HasVerdict text verdict
   pub timers : ℕ
   pub processors : ℕ
+  pub named : CountsNamed verdict (told_by text) timers processors
   pub tells : told ≡ check_tells verdict timers processors
 
 -- the check of a text: it is answered so, or memory has run out; as one that fits exactly where each line can be read, all that they tell fits, and one
