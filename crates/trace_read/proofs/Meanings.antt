@@ -11,7 +11,7 @@ use Rattle.trace_check.proofs.Histories.{fitting_fits, fits_without_misfit}
 use Rattle.trace_read.specs.declared.verdict.Verdict.{Verdict}
 use Rattle.trace_read.specs.declared.verdict.Verdict.TheVariants as verdicts
 use Rattle.trace_read.specs.Lines as lines_spec
-use Rattle.trace_read.specs.Lines.{HasVerdict, AreReadable, LinesFit, Means, ended, events_in, has_timer_event, is_of_timer, judged, known_after, line_verdict, trace_lines, event_told, verdict_on, verdict_or}
+use Rattle.trace_read.specs.Lines.{HasVerdict, AreReadable, LinesFit, Means, verdict_at_end, events_in, has_timer_event, is_of_timer, judged, known_after, line_verdict, trace_lines, event_told, verdict_on, verdict_or}
 
 -- lines can be read, and what they tell has no misfit behind what is known
 abbrev Passes : Knowledge → List (List ℕ) → Type 0
@@ -186,7 +186,7 @@ fits_by n k line lines (Ok (Some event)) is p =
 fits_by n k line lines (Err what) is p = absurd (not_readable what (subst (λ r. IsOk r) is p.0.0))
 
 passes_fits : (n : ℕ) (k : Knowledge) (timed : Bool) (lines : List (List ℕ)) → Passes k lines → (events : ℕ)
-    × (judged n k timed lines ≡ ended (timed || has_timer_event (events_in lines)) events)
+    × (judged n k timed lines ≡ verdict_at_end (timed || has_timer_event (events_in lines)) events)
 passes_fits n k true [] p = (k.count, refl)
 passes_fits n k false [] p = (k.count, refl)
 passes_fits n k timed (line ∷ lines) p =
@@ -196,18 +196,18 @@ passes_fits n k timed (line ∷ lines) p =
     (
       more.0,
       ap (λ v. verdict_or v (judged (n + 1) (known_after k r) (timed_after timed r) lines)) first.0 ∙ more.1
-      ∙ ap (λ b. ended b more.0) (sym (timed_there timed line lines r refl)),
+      ∙ ap (λ b. verdict_at_end b more.0) (sym (timed_there timed line lines r refl)),
     )
 
 -- the answer to a text whose lines can all be read and fit
 pub fit_verdict : (bytes : List ℕ) → LinesFit (trace_lines bytes) → (events : ℕ)
-    × (verdict_on bytes ≡ ended (has_timer_event (events_in (trace_lines bytes))) events)
+    × (verdict_on bytes ≡ verdict_at_end (has_timer_event (events_in (trace_lines bytes))) events)
 fit_verdict bytes fit = passes_fits 1 (no_knowledge 0) false (trace_lines bytes) (fit.0, fits_without_misfit (events_in (trace_lines bytes)) fit.1)
 
 abbrev IsAnsweredBy : Verdict → Bool → Type 0
 IsAnsweredBy v timed = MatchBool timed ((events : ℕ) × (v ≡ verdicts.Fits events)) (v ≡ verdicts.NoEvents)
 
-fit_answer : (v : Verdict) (timed : Bool) (events : ℕ) → v ≡ ended timed events → IsAnsweredBy v timed
+fit_answer : (v : Verdict) (timed : Bool) (events : ℕ) → v ≡ verdict_at_end timed events → IsAnsweredBy v timed
 fit_answer v true events is = (events, is)
 fit_answer v false events is = is
 
@@ -219,8 +219,8 @@ pub fits_as : (bytes : List ℕ) (v : Verdict) → verdict_on bytes ≡ v → Li
     → (events : ℕ) × (v ≡ verdicts.Fits events)
 fits_as bytes v is fit timed =
     let found = fit_verdict bytes fit in
-    (found.0, sym is ∙ found.1 ∙ ap (λ b. ended b found.0) timed)
+    (found.0, sym is ∙ found.1 ∙ ap (λ b. verdict_at_end b found.0) timed)
 
 pub empty_as : (bytes : List ℕ) (v : Verdict) → verdict_on bytes ≡ v → LinesFit (trace_lines bytes) → has_timer_event (events_in (trace_lines bytes)) ≡ false
     → v ≡ verdicts.NoEvents
-empty_as bytes v is fit untimed = let found = fit_verdict bytes fit in sym is ∙ found.1 ∙ ap (λ b. ended b found.0) untimed
+empty_as bytes v is fit untimed = let found = fit_verdict bytes fit in sym is ∙ found.1 ∙ ap (λ b. verdict_at_end b found.0) untimed

@@ -72,12 +72,12 @@ verdict_or None later = later
 verdict_or (Some verdict) later = verdict
 
 -- the answer behind the last line, by whether a line told a timer's event
-abbrev pub ended : Bool → ℕ → Verdict
-ended timed events = if timed then verdicts.Fits events else verdicts.NoEvents
+abbrev pub verdict_at_end : Bool → ℕ → Verdict
+verdict_at_end timed events = if timed then verdicts.Fits events else verdicts.NoEvents
 
 -- the answer to lines, numbered on from n, behind those that told this
 abbrev pub judged : ℕ → Knowledge → Bool → List (List ℕ) → Verdict
-judged n k timed [] = ended timed k.count
+judged n k timed [] = verdict_at_end timed k.count
 judged n k timed (line ∷ lines) = verdict_or (line_verdict n k (event_line line))
     (judged (n + 1) (known_after k (event_line line)) (timed || has_timer_event (event_told (event_line line))) lines)
 

@@ -59,32 +59,32 @@ NamesProcessors past n = IsHowMany (λ p. list_any (names_processor p) past) n
 abbrev pub no_counts : EventCounts
 no_counts = record { set_ups = 0; starts = 0; cancels = 0; expiries = 0; returns = 0; losses = 0 }
 
-abbrev pub counted : KernelEvent → EventCounts → EventCounts
-counted (kernel.SetUp u clock context) c = record c { set_ups = c.set_ups + 1 }
-counted (kernel.Start u soft expires was_armed) c = record c { starts = c.starts + 1 }
-counted (kernel.Cancel u) c = record c { cancels = c.cancels + 1 }
-counted (kernel.Entry u site now) c = record c { expiries = c.expiries + 1 }
-counted (kernel.Exit u site) c = record c { returns = c.returns + 1 }
-counted kernel.Lost c = record c { losses = c.losses + 1 }
+abbrev pub with_event : KernelEvent → EventCounts → EventCounts
+with_event (kernel.SetUp u clock context) c = record c { set_ups = c.set_ups + 1 }
+with_event (kernel.Start u soft expires was_armed) c = record c { starts = c.starts + 1 }
+with_event (kernel.Cancel u) c = record c { cancels = c.cancels + 1 }
+with_event (kernel.Entry u site now) c = record c { expiries = c.expiries + 1 }
+with_event (kernel.Exit u site) c = record c { returns = c.returns + 1 }
+with_event kernel.Lost c = record c { losses = c.losses + 1 }
 
 abbrev pub counts_of : List KernelEvent → EventCounts
 counts_of [] = no_counts
-counts_of (e ∷ past) = counted e (counts_of past)
+counts_of (e ∷ past) = with_event e (counts_of past)
 
 -- ---- which timers are armed
 
 -- the hard expiry that a timer is armed for behind an event, where that is known; nothing is known behind a loss
-abbrev pub armed_by : ℕ → KernelEvent → Option ℕ → Option ℕ
-armed_by t (kernel.SetUp u clock context) before = if nat_eq t u then None else before
-armed_by t (kernel.Start u soft expires was_armed) before = if nat_eq t u then Some expires else before
-armed_by t (kernel.Cancel u) before = if nat_eq t u then None else before
-armed_by t (kernel.Entry u site now) before = if nat_eq t u then None else before
-armed_by t (kernel.Exit u site) before = before
-armed_by t kernel.Lost before = None
+abbrev pub armed_behind : ℕ → KernelEvent → Option ℕ → Option ℕ
+armed_behind t (kernel.SetUp u clock context) before = if nat_eq t u then None else before
+armed_behind t (kernel.Start u soft expires was_armed) before = if nat_eq t u then Some expires else before
+armed_behind t (kernel.Cancel u) before = if nat_eq t u then None else before
+armed_behind t (kernel.Entry u site now) before = if nat_eq t u then None else before
+armed_behind t (kernel.Exit u site) before = before
+armed_behind t kernel.Lost before = None
 
 abbrev pub armed_for : List KernelEvent → ℕ → Option ℕ
 armed_for [] t = None
-armed_for (e ∷ past) t = armed_by t e (armed_for past t)
+armed_for (e ∷ past) t = armed_behind t e (armed_for past t)
 
 -- so many timers at most were known to be armed at once
 abbrev pub IsMostArmed : List KernelEvent → ℕ → Type 0

@@ -4,7 +4,7 @@ ghost use Rattle.std.specs.List.{list_any};
 ghost use Rattle.std.specs.HashMap.{get};
 ghost use Rattle.std.specs.HashSet.{contains};
 ghost use Rattle.trace_text.specs.declared.event.KernelEvent.{KernelEvent};
-ghost use Rattle.trace_read.specs.Tallies.{IsHowMany, IsTallyOf, NamesProcessors, NamesTimers, armed_by, counted, later, later_by, latest_in, names_processor, names_timer, no_counts};
+ghost use Rattle.trace_read.specs.Tallies.{IsHowMany, IsTallyOf, NamesProcessors, NamesTimers, armed_behind, with_event, later, later_by, latest_in, names_processor, names_timer, no_counts};
 
 use seq_timer::Context;
 use std::alloc::{AllocError, Global};
@@ -39,7 +39,7 @@ impl EventCounts {
 
     /// With one more event; `None` where a number would pass its end.
     fn with(self, event: &KernelEvent) -> Option<EventCounts>
-        ensures { IfSome result (λ c. c ≡ counted event.now self) }
+        ensures { IfSome result (λ c. c ≡ with_event event.now self) }
     {
         Some(match event {
             KernelEvent::SetUp { .. } => EventCounts {
@@ -145,7 +145,7 @@ fn note_armed(
     armed: &mut HashMap<u64, u64>,
     event: &KernelEvent,
 ) -> Result<(), AllocError>
-    ensures { OnOk result ((t : ℕ) → get nat_eq armed.new t ≡ armed_by t event.now (get nat_eq armed.old t)) }
+    ensures { OnOk result ((t : ℕ) → get nat_eq armed.new t ≡ armed_behind t event.now (get nat_eq armed.old t)) }
 {
     match *event {
         KernelEvent::Start { timer, expires, .. } => {

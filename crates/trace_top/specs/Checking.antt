@@ -36,7 +36,7 @@ pub record IsFitsText (past : List KernelEvent) (events : ℕ) (text : List ℕ)
   pub line : text ≡ fits_text events timers processors
 
 -- that line, and behind it the table of the numbers that the events have in them
-pub record IsSummaryText (past : List KernelEvent) (events : ℕ) (text : List ℕ) : Type 0 where
+pub record IsFitsTable (past : List KernelEvent) (events : ℕ) (text : List ℕ) : Type 0 where
   pub line : List ℕ
   pub fits : IsFitsText past events line
   pub tally : Tally
@@ -46,7 +46,7 @@ pub record IsSummaryText (past : List KernelEvent) (events : ℕ) (text : List �
 -- what is written for a verdict
 abbrev pub IsToldAs : Asked → List KernelEvent → Verdict → List ℕ → Type 0
 IsToldAs asks.Line past (verdicts.Fits events) text = IsFitsText past events text
-IsToldAs asks.Summary past (verdicts.Fits events) text = IsSummaryText past events text
+IsToldAs asks.Summary past (verdicts.Fits events) text = IsFitsTable past events text
 IsToldAs asked past verdict text = text ≡ verdict_text verdict
 
 -- a text was read, this is its answer, and the program ends by it
@@ -63,7 +63,7 @@ pub record HasTold (asked : Asked) (left left_now taken taken_now : Option (List
   pub written : GrowsBy taken taken_now text
 
 -- a text was read, and a prefix of its answer was written
-pub record HasStopped (asked : Asked) (left left_now taken taken_now : Option (List ℕ)) : Type 0 where
+pub record HasToldInPart (asked : Asked) (left left_now taken taken_now : Option (List ℕ)) : Type 0 where
   pub status : Status
   pub text : List ℕ
   pub answer : HasAnswered asked left left_now status text

@@ -2,7 +2,7 @@
 ghost use Rattle.std.specs.Prelude.{◌≡◌, ◌++◌, List, IfOk, OnOk, string_bytes};
 ghost use Rattle.trace_text.specs.declared.event.KernelEvent.{KernelEvent};
 ghost use Rattle.trace_read.specs.Tallies.{IsTallyOf};
-ghost use Rattle.trace_top.specs.Checking.{IsFitsText, IsSummaryText};
+ghost use Rattle.trace_top.specs.Checking.{IsFitsText, IsFitsTable};
 ghost use Rattle.trace_top.specs.Texts.{counts_text, fits_text, late_text, latest_text, row_text, rows_of, with_events, with_table};
 
 use std::alloc::{AllocError, Global};
@@ -103,7 +103,7 @@ fn table(alloc: Global, tally: &Tally, text: &mut String) -> Result<(), AllocErr
 
 /// The line for a trace that fits, and the table behind it.
 pub fn summary(alloc: Global, events: u64, tally: &Tally) -> Result<String, AllocError>
-    ensures { IfOk result (λ t. (past : List KernelEvent) → IsTallyOf tally.now past → IsSummaryText past events (string_bytes t)) }
+    ensures { IfOk result (λ t. (past : List KernelEvent) → IsTallyOf tally.now past → IsFitsTable past events (string_bytes t)) }
 {
     let mut text = line(alloc, events, tally)?;
     table(alloc, tally, &mut text)?;
