@@ -1,5 +1,5 @@
 -- What one more expiry changes.
-use Rattle.std.proofs.Common.{◌≡◌, ◌≢◌, ◌<◌, ℕ, zero, suc, ◌+◌, ◌*◌, true, false, not, ◌&&◌, ◌||◌, List, [], ◌∷◌, ◌++◌, get_or, Some, refl, sym, ap, subst, ◌∙◌, inl, inr, arith, nat_lt, nat_eq}
+use Rattle.std.proofs.Common.{◌≡◌, ◌≢◌, ◌<◌, ℕ, ◌+◌, ◌*◌, true, false, not, ◌&&◌, ◌||◌, List, ◌∷◌, Some, refl, sym, ap, subst, ◌∙◌, inl, inr, arith, nat_lt, nat_eq}
 use Rattle.std.specs.Prelude.{OnOk, Result, Ok, Err}
 use Rattle.std.specs.HashMap.{HashMap}
 use Rattle.std.specs.List.{list_any}
@@ -87,5 +87,5 @@ tells_after_put (Ok x) old mid new q claims n was marks is tells taken out noted
     tells_one_more old new q claims tells
     (λ m other. others m (λ same. other (same ∙ is)) ∙ out m (λ same. other (same ∙ is)))
     (λ expires order. ap (λ ms. list_any (is_late expires order) ms) (ap (λ m. marks_in new m) (sym is) ∙ put) ∙ noted expires order
-        ∙ ap (λ ms. is_late expires order (mark_of q) || list_any (is_late expires order) ms) (taken ∙ ap (λ m. marks_in old m) is))
+    ∙ ap (λ ms. is_late expires order (mark_of q) || list_any (is_late expires order) ms) (taken ∙ ap (λ m. marks_in old m) is))
 tells_after_put (Err e) old mid new q claims n was marks is tells taken out noted put others = tt

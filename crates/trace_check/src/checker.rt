@@ -9,9 +9,7 @@ ghost use Rattle.trace_check.specs.Traced.{context_at};
 use crate::known::{HalfKnown, KnownTimer, OrderedExpiry};
 use crate::learning::context_at;
 use crate::misfit::Misfit;
-use crate::places::{
-    HalfTable, QueueTable, half, half_number, is_passed, note_claim, note_half,
-};
+use crate::places::{HalfTable, QueueTable, half, half_number, is_passed, note_claim, note_half};
 use crate::timers::{TimerTable, known, note};
 use std::alloc::{AllocError, Global};
 use std::collections::HashMap;

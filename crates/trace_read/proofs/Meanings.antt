@@ -192,11 +192,10 @@ passes_fits n k false [] p = (k.count, refl)
 passes_fits n k timed (line ∷ lines) p =
     let r = event_line line in
     let first = fits_by n k line lines r refl p in
-    let more = passes_fits (n + 1) (known_after k r) (timed_after timed r) lines first.1 in
-    (
+    let more = passes_fits (n + 1) (known_after k r) (timed_after timed r) lines first.1 in (
       more.0,
       ap (λ v. verdict_or v (judged (n + 1) (known_after k r) (timed_after timed r) lines)) first.0 ∙ more.1
-      ∙ ap (λ b. verdict_at_end b more.0) (sym (timed_there timed line lines r refl)),
+          ∙ ap (λ b. verdict_at_end b more.0) (sym (timed_there timed line lines r refl)),
     )
 
 -- the answer to a text whose lines can all be read and fit

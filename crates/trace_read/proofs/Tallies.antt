@@ -42,11 +42,17 @@ tally_with old mid new e past was same late latest counts timers processors arme
       processors = λ p. processors p ∙ ap (λ (m : Tally). names_processor p e || contains nat_eq m.processors p) same
           ∙ ap (λ b. names_processor p e || b) (was.processors p);
       armed = armed_now;
-      most = (old.most_armed, hash_map_len new.armed, was.most, record {
-        each = keys new.armed;
-        once = once;
-        all = λ t. sym (is_some-lookup (nat_eq t) new.armed.entries) ∙ ap is_some (armed_now t);
-        number = as_many_keys new.armed.entries;
-      }, most ∙ ap (λ (m : Tally). max (hash_map_len new.armed) m.most_armed) same);
+      most = (
+        old.most_armed,
+        hash_map_len new.armed,
+        was.most,
+        record {
+          each = keys new.armed;
+          once = once;
+          all = λ t. sym (is_some-lookup (nat_eq t) new.armed.entries) ∙ ap is_some (armed_now t);
+          number = as_many_keys new.armed.entries;
+        },
+        most ∙ ap (λ (m : Tally). max (hash_map_len new.armed) m.most_armed) same,
+      );
       latest = λ p. ap (λ m. latest_in m p) latest ∙ late p ∙ later_same p e _ _ _ _ was.armed (was.latest p);
     }

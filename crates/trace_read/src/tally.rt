@@ -163,11 +163,7 @@ fn note_armed(
 }
 
 /// Notes how late an expiry comes on its processor.
-fn note_expiry(
-    latest: &mut BTreeMap<u32, Latest>,
-    site: Site,
-    late: u64,
-) -> Result<(), AllocError>
+fn note_expiry(latest: &mut BTreeMap<u32, Latest>, site: Site, late: u64) -> Result<(), AllocError>
     ensures here { OnOk result (latest_in latest.new site.processor ≡ later site.context late (latest_in latest.old site.processor)) }
     ensures others { OnOk result ((p : ℕ) → nat_eq p site.processor ≡ false → latest_in latest.new p ≡ latest_in latest.old p) }
 {

@@ -23,10 +23,9 @@ returns-then-self c = λ answer told stands.
     let judged_is = c.in_ok-verdict.ensures.answer k stands.past stands.holds stands.events stands.tallies in
     let taken = judged_is.1 c.in_default.is in
     let none : line_verdict c.args.self.now.number k line ≡ None = sym judged_is.0 ∙ c.in_default.is in
-    let count = (known_after k line).count in
-    (
+    let count = (known_after k line).count in (
       stands.answers [] ∙ ap (λ v. verdict_or v (verdict_at_end timed count)) none ∙ ap (λ b. verdict_at_end b count) (sym taken.timed ∙ c.if-self.true)
-      ∙ ap (λ n. verdicts.Fits n) (sym taken.events),
+          ∙ ap (λ n. verdicts.Fits n) (sym taken.events),
       subst (λ past. IsTallyOf c.judge.new.self.tally past) (sym (stands.tells [] ∙ onto_both stands.past (event_told line) [])) taken.tallies,
     )
 
@@ -38,8 +37,7 @@ returns-else-self c = λ answer told stands.
     let judged_is = c.in_ok-verdict.ensures.answer k stands.past stands.holds stands.events stands.tallies in
     let taken = judged_is.1 c.in_default.is in
     let none : line_verdict c.args.self.now.number k line ≡ None = sym judged_is.0 ∙ c.in_default.is in
-    let count = (known_after k line).count in
-    (
+    let count = (known_after k line).count in (
       stands.answers [] ∙ ap (λ v. verdict_or v (verdict_at_end timed count)) none ∙ ap (λ b. verdict_at_end b count) (sym taken.timed ∙ c.if-self.false),
       tt,
     )

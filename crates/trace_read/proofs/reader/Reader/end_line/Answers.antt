@@ -11,8 +11,7 @@ returns-in-Some c = λ answer told stands.
     let line = event_line c.args.self.now.begun.items in
     let judged_is = c.in_ok-verdict.ensures.answer k stands.past stands.holds stands.events stands.tallies in
     let is : line_verdict c.args.self.now.number k line ≡ Some c.in-Some.verdict = sym judged_is.0 ∙ c.in-Some.is in
-    let timed = c.args.self.now.timed || has_timer_event (event_told line) in
-    (
+    let timed = c.args.self.now.timed || has_timer_event (event_told line) in (
       of_line c.args.self.now.number k line c.in-Some.verdict is,
       λ rest. stands.answers (10 ∷ rest)
           ∙ ap (λ v. verdict_or v (judged (c.args.self.now.number + 1) (known_after k line) timed (lines_from [] rest))) is,
