@@ -9,7 +9,7 @@ use Rattle.trace_text.specs.declared.event.KernelEvent.{KernelEvent}
 use Rattle.trace_read.specs.declared.tally.Tally.{Tally}
 use Rattle.trace_read.specs.Readers.{IsTallied}
 use Rattle.trace_read.specs.Tallies.{IsTallyOf, NamesProcessors, NamesTimers}
-use Rattle.hulayban_c.specs.declared.codes.TheConstants.{FITS, MISFIT, UNREADABLE, NO_EVENTS, NO_MEMORY}
+use Rattle.hulayban_c.specs.declared.codes.TheConstants.{MISFIT, UNREADABLE, NO_MEMORY}
 use Rattle.hulayban_c.specs.declared.checking.CheckAnswer.{CheckAnswer}
 use Rattle.hulayban_c.specs.Checks.{AnswersCheck, CountsNamed, IsChecked, check_tells}
 
