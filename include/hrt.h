@@ -31,6 +31,7 @@ enum {
     HRT_FITS = 8,         /* hrt_check: the trace is a history that the model gives */
     HRT_MISFIT = 9,       /* hrt_check: with a line of it no history shows the lines so far */
     HRT_UNREADABLE = 10,  /* hrt_check: a line of a timer's event can't be read */
+    HRT_NO_EVENTS = 11,   /* hrt_check: no line tells an event of a timer */
 
     HRT_NO_TIMERS = -1,   /* the handle has no timers */
     HRT_IN_USE = -2,      /* hrt_new: the handle has timers already */
@@ -46,7 +47,8 @@ enum {
     HRT_NOT_RUNNING = -12 /* hrt_forward, hrt_finish: the timer's function isn't running */
 };
 
-/* What is wrong with a line of a trace (docs/TRACES.md): with it no history shows the lines so far, or, from 101 on, it can't be read. */
+/* What is wrong with a line of a trace (docs/TRACES.md): with it no history shows the lines so far, or, from 101 on, it can't be read; and what is
+ * wrong with a whole text. */
 enum {
     HRT_CAUSE_SET_UP_ARMED = 1,      /* sets up a timer that is armed */
     HRT_CAUSE_SET_UP_RUNNING = 2,    /* sets up a timer whose function runs */
@@ -70,7 +72,9 @@ enum {
     HRT_CAUSE_NO_SOFTEXPIRES = 105,  /* softexpires= and a time up to 2^63 - 1 */
     HRT_CAUSE_NO_EXPIRES = 106,      /* expires= and such a time */
     HRT_CAUSE_NO_WAS_ARMED = 107,    /* was_armed= is there, and neither 0 nor 1 behind it */
-    HRT_CAUSE_NO_NOW = 108           /* now= and a time up to 2^63 - 1 */
+    HRT_CAUSE_NO_NOW = 108,          /* now= and a time up to 2^63 - 1 */
+
+    HRT_CAUSE_NO_TIMER_EVENTS = 201  /* no line tells an event of a timer */
 };
 
 /* How a start gives its time: HRTIMER_MODE_ABS and HRTIMER_MODE_REL of Linux, and a time of the clock that the timer is kept on
@@ -154,9 +158,11 @@ int32_t hrt_peek(hrt_timers *timers, uint32_t timer, hrt_answer *out);
 
 /* Checks a trace of a Linux kernel's own timers, as tracefs, trace-cmd and perf print it: whether it is a history that the model gives. text is
  * length bytes, and may be any; it may not be null even where length is 0. It needs no handle, and several threads may call at once.
- * HRT_FITS: events, timers and processors that the trace has. HRT_MISFIT: line, from 1 on: the first with which no history shows the lines so far,
- * and cause; with HRT_CAUSE_TOO_EARLY soft and now too, and with HRT_CAUSE_SECOND_FUNCTION timer. HRT_UNREADABLE: line, the first that can't be
- * read, all before it fit; and cause. HRT_NO_MEMORY, and *out is left as it was. */
+ * HRT_FITS: events, timers that they name, and processors that expiries and returns name. HRT_MISFIT: line, from 1 on: the first with which no
+ * history shows the lines so far, and cause; with HRT_CAUSE_TOO_EARLY soft and now too, and with HRT_CAUSE_SECOND_FUNCTION timer. HRT_UNREADABLE:
+ * line, the first that can't be read, all before it fit; and cause. HRT_NO_EVENTS: cause; all lines can be read and none tells an event of a timer,
+ * so that nothing was checked: a text of another kind, or a trace of other events. HRT_NO_MEMORY, and *out is left as it was. Memory goes with the
+ * bytes of the text, whatever numbers stand in it (docs/TRACES.md has the bound). */
 int32_t hrt_check(const void *text, size_t length, hrt_verdict *out);
 
 #ifdef __cplusplus

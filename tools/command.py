@@ -97,6 +97,7 @@ STATUSES = (
     (5, "a write failed; a part of the text was printed"),
     (6, "out of memory; nothing was printed"),
     (7, "the trace doesn't fit: 'line N: CAUSE' is printed"),
+    (8, "the trace has no event of a timer, so that nothing was checked: 'no timer events' is printed"),
 )
 
 INTRODUCTION = (

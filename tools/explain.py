@@ -3,11 +3,13 @@
 
     tools/explain.py words WORD..      what is wrong with the words of a command line; status 2 where they ask for nothing
     tools/explain.py script [PLACE]    what refuses the script on standard input, which begins at this place of it
+    tools/explain.py trace STATUS [PLACE]      what a trace is, on standard input, that hrt_check answered with status 3 or 8; it begins at this place
     tools/explain.py input [FILE]      the system's reason why a file can't be read, or standard input, which is lent as handle 3
 
 The script is read by the model of model/, whose refusals are compared with the program's (`.ci/compare`)."""
 import difflib
 import os
+import re
 import sys
 
 sys.dont_write_bytecode = True
@@ -238,6 +240,54 @@ def script_faults(data):
         yield f"line {refused.line}: {refusal(refused, line, script)}"
 
 
+# ---- traces
+
+TIMER_EVENT = re.compile(rb"(?:^| )(?:timer:)?hrtimer_(?:setup|init|start|cancel|expire_entry|expire_exit):(?= |\r|$)")
+WANTED = "wanted is the text that tracefs' file trace, 'trace-cmd report' or 'perf script' gives"
+BEGINNINGS = (
+    (b"\x1f\x8b", "packed by gzip: gzip -dc FILE | bin/hrt check"),
+    (b"\x28\xb5\x2f\xfd", "packed by zstd: zstd -dc FILE | bin/hrt check"),
+    (b"\xfd7zXZ", "packed by xz: xz -dc FILE | bin/hrt check"),
+    (b"\x17\x08Dtracing", "a trace.dat: trace-cmd report FILE | bin/hrt check"),
+    (b"PERFILE2", "a perf.data: perf script -i FILE | bin/hrt check"),
+    (b"\x7fELF", f"a program; {WANTED}"),
+    (b"hrt ", "a script: bin/hrt run FILE"),
+    (b"record ", "a record of bin/hrt run"),
+)
+
+
+def empty_fault(data):
+    """What a text is in which no line tells an event of a timer."""
+    if not data:
+        return f"nothing was read; {WANTED}"
+    for beginning, what in BEGINNINGS:
+        if data.startswith(beginning):
+            return f"this is {what}"
+    if b"\0" in data:
+        return f"line {data[: data.index(0)].count(10) + 1} has a zero byte: this is binary; {WANTED}"
+    if data.startswith(b"# tracer:"):
+        return "a trace without the events timer:hrtimer_*; docs/TRACES.md says how to record them"
+    return f"no line has an event of timer:hrtimer_*; {WANTED}"
+
+
+def line_faults(lines):
+    """What may be wrong with the first line of a timer's event that can't be read: a carriage return, or the text's end."""
+    number, line = 0, b"\n"
+    for number, line in enumerate(lines, 1):
+        if b"\r" in line and TIMER_EVENT.search(line.rstrip(b"\n")):
+            yield f"line {number}: column {line.index(13) + 1}: a carriage return (byte 13): lines end with a newline alone"
+            return
+    if not line.endswith(b"\n"):
+        yield f"line {number} has no newline: the text ends in mid-line"
+
+
+def trace_faults(status, stream):
+    if status == "8":
+        yield empty_fault(stream.read(1 << 16))
+    else:
+        yield from line_faults(stream)
+
+
 # ---- input that can't be read
 
 
@@ -258,6 +308,10 @@ def main(words):
         if rest:
             os.lseek(0, int(rest[0]), os.SEEK_SET)
         faults = list(script_faults(sys.stdin.buffer.read(scripts.MOST_BYTES + 1)))
+    elif kind == "trace" and rest:
+        if rest[1:]:
+            os.lseek(0, int(rest[1]), os.SEEK_SET)
+        faults = list(trace_faults(rest[0], sys.stdin.buffer))
     elif kind == "input":
         faults = list(input_faults(rest[0] if rest else None))
     else:

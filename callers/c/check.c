@@ -36,6 +36,9 @@ static void print(int32_t code, const hrt_verdict *v) {
     case HRT_UNREADABLE:
         printf("line %" PRIu64 " can't be read: %" PRIu32 "\n", v->line, v->cause);
         break;
+    case HRT_NO_EVENTS:
+        printf("no timer events: %" PRIu32 "\n", v->cause);
+        break;
     default:
         printf("no memory\n");
     }

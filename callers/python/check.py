@@ -1,7 +1,7 @@
 """callers/c/check.c, from Python: check.py LIBRARY FILE.."""
 import sys
 
-from hrt import FITS, MISFIT, UNREADABLE, Verdict, check
+from hrt import FITS, MISFIT, NO_EVENTS, UNREADABLE, Verdict, check
 
 for name in sys.argv[2:]:
     with open(name, "rb") as file:
@@ -14,5 +14,7 @@ for name in sys.argv[2:]:
         print(f"line {v.line}: cause {v.cause}, soft {v.soft}, now {v.now}, timer {v.timer:x}")
     elif code == UNREADABLE:
         print(f"line {v.line} can't be read: {v.cause}")
+    elif code == NO_EVENTS:
+        print(f"no timer events: {v.cause}")
     else:
         print("no memory")

@@ -2,7 +2,7 @@
 from ctypes import CDLL, POINTER, Structure, byref, c_char_p, c_int32, c_size_t, c_uint32, c_uint64, c_void_p
 
 CLAIMED = 5
-FITS, MISFIT, UNREADABLE = 8, 9, 10
+FITS, MISFIT, UNREADABLE, NO_EVENTS = 8, 9, 10, 11
 ABS, REL, KEEP = 0, 1, 2
 REALTIME, MONOTONIC, BOOTTIME = 0, 1, 7
 HARD, SOFT = 0, 1

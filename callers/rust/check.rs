@@ -1,7 +1,7 @@
 //! `callers/c/check.c`, from Rust.
 mod hrt;
 
-use hrt::{FITS, MISFIT, UNREADABLE, Verdict, check};
+use hrt::{FITS, MISFIT, NO_EVENTS, UNREADABLE, Verdict, check};
 
 fn main() -> std::io::Result<()> {
     for name in std::env::args().skip(1) {
@@ -16,6 +16,7 @@ fn main() -> std::io::Result<()> {
                 v.line, v.cause, v.soft, v.now, v.timer
             ),
             UNREADABLE => println!("line {} can't be read: {}", v.line, v.cause),
+            NO_EVENTS => println!("no timer events: {}", v.cause),
             _ => println!("no memory"),
         }
     }

@@ -52,6 +52,7 @@ pub const CLAIMED: i32 = 5;
 pub const FITS: i32 = 8;
 pub const MISFIT: i32 = 9;
 pub const UNREADABLE: i32 = 10;
+pub const NO_EVENTS: i32 = 11;
 pub const ABS: u32 = 0;
 pub const REL: u32 = 1;
 pub const REALTIME: u32 = 0;

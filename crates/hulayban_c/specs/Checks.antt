@@ -1,14 +1,17 @@
 -- What the check of a trace answers.
-use Rattle.std.specs.Prelude.{ℕ, ℤ, ◌≡◌, ◌⊎◌, List}
+use Rattle.std.specs.Prelude.{ℕ, ℤ, ◌≡◌, ◌⊎◌, true, false, List}
 use Rattle.trace_text.specs.declared.unreadable.Unreadable.{Unreadable}
 use Rattle.trace_text.specs.declared.unreadable.Unreadable.TheVariants as wrong
 use Rattle.trace_check.specs.declared.misfit.Misfit.{Misfit}
 use Rattle.trace_check.specs.declared.misfit.Misfit.TheVariants as causes
 use Rattle.trace_read.specs.declared.verdict.Verdict.{Verdict}
 use Rattle.trace_read.specs.declared.verdict.Verdict.TheVariants as verdicts
-use Rattle.trace_read.specs.Lines.{HasVerdict, LinesFit, trace_lines}
-use Rattle.hulayban_c.specs.declared.codes.TheConstants.{FITS, MISFIT, UNREADABLE, NO_MEMORY}
-use Rattle.hulayban_c.specs.declared.causes.TheConstants.{CAUSE_SET_UP_ARMED, CAUSE_SET_UP_RUNNING, CAUSE_SOFT_AFTER_HARD, CAUSE_PAST_TIME, CAUSE_WAS_NOT_ARMED, CAUSE_WAS_ARMED, CAUSE_NOT_ARMED, CAUSE_RUNNING, CAUSE_OTHER_PROCESSOR, CAUSE_OTHER_CONTEXT, CAUSE_TOO_EARLY, CAUSE_SECOND_FUNCTION, CAUSE_OUT_OF_ORDER, CAUSE_NOT_RUNNING, CAUSE_NO_HRTIMER, CAUSE_NO_PROCESSOR, CAUSE_NO_CLOCKID, CAUSE_NO_MODE, CAUSE_NO_SOFTEXPIRES, CAUSE_NO_EXPIRES, CAUSE_NO_WAS_ARMED, CAUSE_NO_NOW}
+use Rattle.trace_read.specs.Lines.{HasVerdict, LinesFit, events_in, has_timer_event, trace_lines}
+use Rattle.trace_text.specs.declared.event.KernelEvent.{KernelEvent}
+use Rattle.trace_read.specs.Readers.{told_by}
+use Rattle.trace_read.specs.Tallies.{NamesProcessors, NamesTimers}
+use Rattle.hulayban_c.specs.declared.codes.TheConstants.{FITS, MISFIT, UNREADABLE, NO_EVENTS, NO_MEMORY}
+use Rattle.hulayban_c.specs.declared.causes.TheConstants.{CAUSE_SET_UP_ARMED, CAUSE_SET_UP_RUNNING, CAUSE_SOFT_AFTER_HARD, CAUSE_PAST_TIME, CAUSE_WAS_NOT_ARMED, CAUSE_WAS_ARMED, CAUSE_NOT_ARMED, CAUSE_RUNNING, CAUSE_OTHER_PROCESSOR, CAUSE_OTHER_CONTEXT, CAUSE_TOO_EARLY, CAUSE_SECOND_FUNCTION, CAUSE_OUT_OF_ORDER, CAUSE_NOT_RUNNING, CAUSE_NO_HRTIMER, CAUSE_NO_PROCESSOR, CAUSE_NO_CLOCKID, CAUSE_NO_MODE, CAUSE_NO_SOFTEXPIRES, CAUSE_NO_EXPIRES, CAUSE_NO_WAS_ARMED, CAUSE_NO_NOW, CAUSE_NO_TIMER_EVENTS}
 use Rattle.hulayban_c.specs.declared.checking.CheckAnswer.{CheckAnswer}
 
 -- the number of a cause
@@ -52,8 +55,16 @@ misfit_tells line cause = of_line line (cause_number cause)
 -- what the check of a trace tells that is answered so, with so many timers and processors
 abbrev pub check_tells : Verdict → ℕ → ℕ → ℤ × CheckAnswer
 check_tells (verdicts.Fits events) timers processors = (FITS, record (of_line 0 0) { events = events; timers = timers; processors = processors })
+check_tells verdicts.NoEvents timers processors = (NO_EVENTS, of_line 0 CAUSE_NO_TIMER_EVENTS)
 check_tells (verdicts.Refused line cause) timers processors = (MISFIT, misfit_tells line cause)
 check_tells (verdicts.Unreadable line what) timers processors = (UNREADABLE, of_line line (what_number what))
+
+-- where a text fits, these are how many timers and processors its events name
+abbrev pub CountsNamed : Verdict → List KernelEvent → ℕ → ℕ → Type 0
+CountsNamed (verdicts.Fits events) past timers processors = NamesTimers past timers × NamesProcessors past processors
+CountsNamed verdicts.NoEvents past timers processors = Unit {0}
+CountsNamed (verdicts.Refused line cause) past timers processors = Unit {0}
+CountsNamed (verdicts.Unreadable line what) past timers processors = Unit {0}
 
 -- what is told tells how a text is answered, and the answer means what it says
 pub record IsChecked (text : List ℕ) (told : ℤ × CheckAnswer) : Type 0 where
@@ -61,10 +72,13 @@ pub record IsChecked (text : List ℕ) (told : ℤ × CheckAnswer) : Type 0 wher
   pub answers : HasVerdict text verdict
   pub timers : ℕ
   pub processors : ℕ
+  pub named : CountsNamed verdict (told_by text) timers processors
   pub tells : told ≡ check_tells verdict timers processors
 
--- the check of a text: it is answered so, or memory has run out; as one that fits exactly where each line can be read and all that they tell fits
+-- the check of a text: it is answered so, or memory has run out; as one that fits exactly where each line can be read, all that they tell fits, and one
+-- tells an event of a timer
 pub record AnswersCheck (text : List ℕ) (returned : ℤ) (before after : CheckAnswer) : Type 0 where
   pub answer : IsChecked text (returned, after) ⊎ ((returned ≡ NO_MEMORY) × (after ≡ before))
-  pub fits : LinesFit (trace_lines text) → (returned ≡ FITS) ⊎ (returned ≡ NO_MEMORY)
+  pub fits : LinesFit (trace_lines text) → has_timer_event (events_in (trace_lines text)) ≡ true → (returned ≡ FITS) ⊎ (returned ≡ NO_MEMORY)
+  pub empty : LinesFit (trace_lines text) → has_timer_event (events_in (trace_lines text)) ≡ false → (returned ≡ NO_EVENTS) ⊎ (returned ≡ NO_MEMORY)
   pub unfit : (LinesFit (trace_lines text) → ⊥) → (returned ≡ MISFIT) ⊎ ((returned ≡ UNREADABLE) ⊎ (returned ≡ NO_MEMORY))

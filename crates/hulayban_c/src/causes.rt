@@ -44,3 +44,6 @@ pub const CAUSE_NO_EXPIRES: u32 = 106;
 pub const CAUSE_NO_WAS_ARMED: u32 = 107;
 /// The same of `now=` and a time up to 2^63 - 1.
 pub const CAUSE_NO_NOW: u32 = 108;
+
+/// No line of the text tells an event of a timer.
+pub const CAUSE_NO_TIMER_EVENTS: u32 = 201;

@@ -4,13 +4,13 @@ ghost use Rattle.hulayban_c.specs.Checks.{AnswersCheck, IsChecked, cause_number,
 
 use crate::causes::{
     CAUSE_NO_CLOCKID, CAUSE_NO_EXPIRES, CAUSE_NO_HRTIMER, CAUSE_NO_MODE, CAUSE_NO_NOW,
-    CAUSE_NO_PROCESSOR, CAUSE_NO_SOFTEXPIRES, CAUSE_NO_WAS_ARMED, CAUSE_NOT_ARMED,
-    CAUSE_NOT_RUNNING, CAUSE_OTHER_CONTEXT, CAUSE_OTHER_PROCESSOR, CAUSE_OUT_OF_ORDER,
-    CAUSE_PAST_TIME, CAUSE_RUNNING, CAUSE_SECOND_FUNCTION, CAUSE_SET_UP_ARMED,
+    CAUSE_NO_PROCESSOR, CAUSE_NO_SOFTEXPIRES, CAUSE_NO_TIMER_EVENTS, CAUSE_NO_WAS_ARMED,
+    CAUSE_NOT_ARMED, CAUSE_NOT_RUNNING, CAUSE_OTHER_CONTEXT, CAUSE_OTHER_PROCESSOR,
+    CAUSE_OUT_OF_ORDER, CAUSE_PAST_TIME, CAUSE_RUNNING, CAUSE_SECOND_FUNCTION, CAUSE_SET_UP_ARMED,
     CAUSE_SET_UP_RUNNING, CAUSE_SOFT_AFTER_HARD, CAUSE_TOO_EARLY, CAUSE_WAS_ARMED,
     CAUSE_WAS_NOT_ARMED,
 };
-use crate::codes::{FITS, MISFIT, NO_MEMORY, UNREADABLE};
+use crate::codes::{FITS, MISFIT, NO_EVENTS, NO_MEMORY, UNREADABLE};
 use std::alloc::{AllocError, Global};
 use trace_check::Misfit;
 use trace_read::{Verdict, read_whole};
@@ -110,6 +110,7 @@ fn check_tells(verdict: Verdict, timers: u64, processors: u64) -> (i32, CheckAns
             };
             (FITS, found)
         }
+        Verdict::NoEvents => (NO_EVENTS, of_line(0, CAUSE_NO_TIMER_EVENTS)),
         Verdict::Refused { line, cause } => (MISFIT, misfit_tells(line, cause)),
         Verdict::Unreadable { line, what } => (UNREADABLE, of_line(line, what_number(what))),
     }
@@ -133,7 +134,7 @@ fn check(alloc: Global, text: &[u8]) -> Result<(i32, CheckAnswer), AllocError>
 }
 
 /// Checks a trace: whether it is a history that the model gives, or else which line is the first that can't be read, or with which no history shows
-/// the lines so far, and why.
+/// the lines so far, and why, or that no line tells an event of a timer.
 #[unsafe(no_mangle)]
 #[tactic(auto, using(crate::proofs::Checked::checked))]
 pub extern "C" fn hrt_check(alloc: Global, text: &[u8], out: &mut CheckAnswer) -> i32

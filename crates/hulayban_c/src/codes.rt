@@ -21,6 +21,8 @@ pub const FITS: i32 = 8;
 pub const MISFIT: i32 = 9;
 /// A line of a trace is of a timer's event and can't be read.
 pub const UNREADABLE: i32 = 10;
+/// A trace has no event of a timer.
+pub const NO_EVENTS: i32 = 11;
 
 /// The handle has no timers.
 pub const NO_TIMERS: i32 = -1;

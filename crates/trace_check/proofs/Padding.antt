@@ -1,6 +1,7 @@
--- Lists with a default at each place past their end, and what one more expiry changes.
-use Rattle.std.proofs.Common.{◌≡◌, ◌≢◌, ◌<◌, ℕ, zero, suc, ◌+◌, ◌*◌, true, false, not, ◌&&◌, ◌||◌, List, [], ◌∷◌, ◌++◌, get_or, Some, refl, sym, ap, subst, ◌∙◌, inl, inr, arith, nat_lt, nat_eq}
+-- What one more expiry changes.
+use Rattle.std.proofs.Common.{◌≡◌, ◌≢◌, ◌<◌, ℕ, ◌+◌, ◌*◌, true, false, not, ◌&&◌, ◌||◌, List, ◌∷◌, Some, refl, sym, ap, subst, ◌∙◌, inl, inr, arith, nat_lt, nat_eq}
 use Rattle.std.specs.Prelude.{OnOk, Result, Ok, Err}
+use Rattle.std.specs.HashMap.{HashMap}
 use Rattle.std.specs.List.{list_any}
 use Rattle.std.proofs.lemmas.Bool.{and_parts, cases_eq, eq-eqb, eqb-true, false_from_ne_true}
 use Rattle.ktime.specs.declared.clock_id.ClockId.{ClockId}
@@ -14,13 +15,6 @@ use Rattle.trace_check.specs.Holding.{is_late, marks_in, queue_number, TellsPass
 use Rattle.trace_check.specs.Knowledge.{half_number, is_passed, passes}
 use Rattle.trace_check.specs.Traced.{is_ahead}
 use Rattle.trace_check.proofs.Parts.{half_number-injective}
-
--- one more default at the end changes nothing
-pub get_or_pad : {X : Type 0} (xs : List X) (d : X) (g : ℕ) → get_or (xs ++ d ∷ []) g d ≡ get_or xs g d
-get_or_pad [] d zero = refl
-get_or_pad [] d (suc g) = refl
-get_or_pad (x ∷ xs) d zero = refl
-get_or_pad (x ∷ xs) d (suc g) = get_or_pad xs d g
 
 small_rank : (c : ClockId) → rank c < 3
 small_rank clocks.Monotonic = omega arith
@@ -62,7 +56,7 @@ passes_same q claim same =
     rw (at, within, on) refl
 
 -- with one more expiry in its queue, the queues tell of it too
-pub tells_one_more : (old new : List (List Mark)) (q : OrderedExpiry) (claims : List OrderedExpiry) → TellsPassed old claims
+pub tells_one_more : {S : Type 0} (old new : HashMap ℕ (List Mark) S) (q : OrderedExpiry) (claims : List OrderedExpiry) → TellsPassed old claims
     → ((n : ℕ) → n ≢ number_of q → marks_in new n ≡ marks_in old n)
     → ((expires order : ℕ) → list_any (is_late expires order) (marks_in new (number_of q))
     ≡ (is_late expires order (mark_of q) || list_any (is_late expires order) (marks_in old (number_of q))))
@@ -83,3 +77,15 @@ tells_one_more old new q claims tells others here claim =
 pub OnOk_then : {T E P Q : Type 0} (r : Result T E) → OnOk r P → (P → Q) → OnOk r Q
 OnOk_then (Ok x) h f = f h
 OnOk_then (Err e) h f = tt
+
+-- the queues behind a call that takes out the expiries of a queue, notes one more, and puts them in
+pub tells_after_put : {S E : Type 0} (r : Result (Unit {0}) E) (old mid new : HashMap ℕ (List Mark) S) (q : OrderedExpiry) (claims : List OrderedExpiry) (n : ℕ)
+    (was marks : List Mark) → n ≡ number_of q → TellsPassed old claims → was ≡ marks_in old n → ((m : ℕ) → m ≢ n → marks_in mid m ≡ marks_in old m)
+    → ((expires order : ℕ) → list_any (is_late expires order) marks ≡ (is_late expires order (mark_of q) || list_any (is_late expires order) was))
+    → OnOk r (marks_in new n ≡ marks) → OnOk r ((m : ℕ) → m ≢ n → marks_in new m ≡ marks_in mid m) → OnOk r (TellsPassed new (q ∷ claims))
+tells_after_put (Ok x) old mid new q claims n was marks is tells taken out noted put others =
+    tells_one_more old new q claims tells
+    (λ m other. others m (λ same. other (same ∙ is)) ∙ out m (λ same. other (same ∙ is)))
+    (λ expires order. ap (λ ms. list_any (is_late expires order) ms) (ap (λ m. marks_in new m) (sym is) ∙ put) ∙ noted expires order
+    ∙ ap (λ ms. is_late expires order (mark_of q) || list_any (is_late expires order) ms) (taken ∙ ap (λ m. marks_in old m) is))
+tells_after_put (Err e) old mid new q claims n was marks is tells taken out noted put others = tt

@@ -7,6 +7,6 @@ use Rattle.trace_check.specs.Knowledge.{Knowledge}
 -- a checker holds what is known
 pub record HoldsKnowledge (c : Checker) (k : Knowledge) : Type 0 where
   pub timers : (t : ℕ) → known_in c.timers t ≡ k.timers t
-  pub halves : (h : ℕ) → half_in c.halves.items h ≡ k.halves h
-  pub queues : TellsPassed c.queues.items k.claims
+  pub halves : (h : ℕ) → half_in c.halves h ≡ k.halves h
+  pub queues : TellsPassed c.queues k.claims
   pub count : c.count ≡ k.count

@@ -1,5 +1,5 @@
 -- What a checker holds of what is known.
-use Rattle.std.specs.Prelude.{ℕ, ◌≡◌, ◌≢◌, ◌+◌, ◌*◌, Bool, not, ◌&&◌, nat_eq, nat_le, nat_lt, List, [], get_or, Some}
+use Rattle.std.specs.Prelude.{ℕ, ◌≡◌, ◌≢◌, ◌+◌, ◌*◌, Bool, not, ◌&&◌, nat_eq, nat_le, nat_lt, List, [], Some}
 use Rattle.std.specs.HashMap.{get, HashMap}
 use Rattle.std.specs.List.{list_any}
 use Rattle.std.specs.Option.{unwrap_or}
@@ -36,22 +36,24 @@ is_covered mark later = nat_le mark.at later.at && not (is_ahead later.expires l
 abbrev pub queue_number : ℕ → Context → ClockId → ℕ
 queue_number processor context clock = 3 * half_number processor context + rank clock
 
--- what a list has at a place, and this where it ends before
-abbrev pub half_in : List HalfKnown → ℕ → HalfKnown
-half_in list h = get_or list h halves.Untold
+module _ {S : Type 0} where
+  -- what a table has of a half, and that nothing is told where it has none
+  abbrev pub half_in : HashMap ℕ HalfKnown S → ℕ → HalfKnown
+  half_in m h = unwrap_or (get nat_eq m h) halves.Untold
 
-abbrev pub marks_in : List (List Mark) → ℕ → List Mark
-marks_in list q = get_or list q []
+  -- the expiries of a queue
+  abbrev pub marks_in : HashMap ℕ (List Mark) S → ℕ → List Mark
+  marks_in m q = unwrap_or (get nat_eq m q) []
 
--- a list has this at a place, and what it had at each other one
-pub record HasOnly (old new : List HalfKnown) (h : ℕ) (half : HalfKnown) : Type 0 where
-  pub here : half_in new h ≡ half
-  pub others : (g : ℕ) → g ≢ h → half_in new g ≡ half_in old g
+  -- a table has this of a half, and of each other one what it had
+  pub record HasOnly (old new : HashMap ℕ HalfKnown S) (h : ℕ) (half : HalfKnown) : Type 0 where
+    pub here : half_in new h ≡ half
+    pub others : (g : ℕ) → g ≢ h → half_in new g ≡ half_in old g
 
--- whether one of the expiries of a claim's queue passed it
-abbrev pub is_late_for : List (List Mark) → OrderedExpiry → Bool
-is_late_for queues claim = list_any (is_late claim.expires claim.order) (marks_in queues (queue_number claim.processor claim.context claim.clock))
+  -- whether one of the expiries of a claim's queue passed it
+  abbrev pub is_late_for : HashMap ℕ (List Mark) S → OrderedExpiry → Bool
+  is_late_for queues claim = list_any (is_late claim.expires claim.order) (marks_in queues (queue_number claim.processor claim.context claim.clock))
 
--- the queues tell of each claim whether one of these expiries passed it
-abbrev pub TellsPassed : List (List Mark) → List OrderedExpiry → Type 0
-TellsPassed queues claims = (claim : OrderedExpiry) → is_late_for queues claim ≡ is_passed claims (Some claim)
+  -- the queues tell of each claim whether one of these expiries passed it
+  abbrev pub TellsPassed : HashMap ℕ (List Mark) S → List OrderedExpiry → Type 0
+  TellsPassed queues claims = (claim : OrderedExpiry) → is_late_for queues claim ≡ is_passed claims (Some claim)

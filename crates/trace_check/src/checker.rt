@@ -9,8 +9,7 @@ ghost use Rattle.trace_check.specs.Traced.{context_at};
 use crate::known::{HalfKnown, KnownTimer, OrderedExpiry};
 use crate::learning::context_at;
 use crate::misfit::Misfit;
-use crate::places::{half, half_number, is_passed, note_claim, note_half};
-use crate::queue::MarkList;
+use crate::places::{HalfTable, QueueTable, half, half_number, is_passed, note_claim, note_half};
 use crate::timers::{TimerTable, known, note};
 use std::alloc::{AllocError, Global};
 use std::collections::HashMap;
@@ -20,8 +19,8 @@ use trace_text::{KernelEvent, Site};
 #[derive(Drop)]
 pub struct Checker {
     timers: TimerTable,
-    halves: Vec<HalfKnown>,
-    queues: Vec<MarkList>,
+    halves: HalfTable,
+    queues: QueueTable,
     count: u64,
     alloc: Global,
 }
@@ -33,8 +32,8 @@ impl Checker {
     {
         Checker {
             timers: HashMap::new(alloc),
-            halves: Vec::new(alloc),
-            queues: Vec::new(alloc),
+            halves: HashMap::new(alloc),
+            queues: HashMap::new(alloc),
             count: 0,
             alloc,
         }
@@ -64,7 +63,7 @@ impl Checker {
 
     /// What is known of the half that a line was told in.
     fn half_at(&self, site: Site, known: KnownTimer) -> HalfKnown
-        ensures { result ≡ half_in self.now.halves.items (half_number site.processor (context_at site.context known.context)) }
+        ensures { result ≡ half_in self.now.halves (half_number site.processor (context_at site.context known.context)) }
     {
         let context = context_at(site.context, known.context);
         half(&self.halves, half_number(site.processor, context))
@@ -119,8 +118,8 @@ impl Checker {
     {
         self.count = self.count.checked_add(1).ok_or(AllocError)?;
         self.timers = HashMap::new(self.alloc);
-        self.halves.clear();
-        self.queues.clear();
+        self.halves = HashMap::new(self.alloc);
+        self.queues = HashMap::new(self.alloc);
         Ok(())
     }
 

@@ -1,6 +1,5 @@
 //! What is known of the halves of processors, and the expiries of their queues.
-ghost use Rattle.std.specs.Prelude.{◌≡◌, ◌≤◌, ◌<◌, ◌^◌, ℕ, OnOk, Some, List};
-ghost use Rattle.std.specs.Vec.{vec_len};
+ghost use Rattle.std.specs.Prelude.{◌≡◌, ◌≢◌, ℕ, OnOk, Some, List};
 ghost use Rattle.trace_check.specs.declared.known.OrderedExpiry.{OrderedExpiry};
 ghost use Rattle.trace_check.specs.Holding.{half_in, is_late_for, marks_in, queue_number, HasOnly, TellsPassed};
 ghost use Rattle.trace_check.specs.Knowledge.{half_number, is_passed, with_claim};
@@ -11,11 +10,11 @@ use crate::queue::MarkList;
 use ktime::ClockId;
 use seq_timer::Context;
 use std::alloc::{AllocError, Global};
+use std::collections::HashMap;
 
 /// The number of a processor's half for a context.
 pub fn half_number(processor: u32, context: Context) -> u64
-    ensures number { result ≡ half_number processor context }
-    ensures small { result < 2 ^ 33 }
+    ensures { result ≡ half_number processor context }
 {
     match context {
         Context::Hard => 2 * u64::from(processor),
@@ -35,72 +34,69 @@ pub fn queue_number(processor: u32, context: Context, clock: ClockId) -> u64
     }
 }
 
+/// What is known of each half that a line has named.
+pub type HalfTable = HashMap<u64, HalfKnown>;
+
+/// The expiries of each queue that has any.
+pub type QueueTable = HashMap<u64, MarkList>;
+
 /// What is known of a half.
-pub fn half(halves: &[HalfKnown], h: u64) -> HalfKnown
+pub fn half(halves: &HalfTable, h: u64) -> HalfKnown
     ensures { result ≡ half_in halves.now h }
 {
-    halves.get(h as usize).copied().unwrap_or(HalfKnown::Untold)
-}
-
-/// Makes room for so many halves.
-#[tactic(auto, using(crate::proofs::Padding::get_or_pad))]
-fn reach_half(halves: &mut Vec<HalfKnown>, count: u64) -> Result<(), AllocError>
-    ensures same { OnOk result ((g : ℕ) → half_in halves.new.items g ≡ half_in halves.old.items g) }
-    ensures long { OnOk result (count ≤ vec_len halves.new) }
-{
-    while (halves.len() as u64) < count {
-        halves.push(HalfKnown::Untold)?;
-    }
-    Ok(())
+    halves.get(&h).copied().unwrap_or(HalfKnown::Untold)
 }
 
 /// Notes what is known of a half now.
-pub fn note_half(halves: &mut Vec<HalfKnown>, h: u64, half: HalfKnown) -> Result<(), AllocError>
-    requires { h < 2 ^ 63 }
-    ensures { OnOk result (HasOnly halves.old.items halves.new.items h half) }
+pub fn note_half(halves: &mut HalfTable, h: u64, half: HalfKnown) -> Result<(), AllocError>
+    ensures { OnOk result (HasOnly halves.old halves.new h half) }
 {
-    reach_half(halves, h + 1)?;
-    halves[h as usize] = half;
+    halves.insert(h, half)?;
     Ok(())
 }
 
 /// Whether an earlier expiry passed this one.
-pub fn is_passed(queues: &[MarkList], claim: &OrderedExpiry) -> bool
+pub fn is_passed(queues: &QueueTable, claim: &OrderedExpiry) -> bool
     ensures { result ≡ is_late_for queues.now claim.now }
 {
     let q = queue_number(claim.processor, claim.context, claim.clock);
-    match queues.get(q as usize) {
+    match queues.get(&q) {
         Some(queue) => queue.has_late(claim.expires, claim.order),
         None => false,
     }
 }
 
-/// Makes room for so many queues.
-#[tactic(auto, using(crate::proofs::Padding::get_or_pad))]
-fn reach_queue(alloc: Global, queues: &mut Vec<MarkList>, count: u64) -> Result<(), AllocError>
-    ensures same { OnOk result ((n : ℕ) → marks_in queues.new.items n ≡ marks_in queues.old.items n) }
-    ensures long { OnOk result (count ≤ vec_len queues.new) }
+/// Takes out the expiries of a queue.
+fn take_queue(alloc: Global, queues: &mut QueueTable, q: u64) -> MarkList
+    ensures taken { result ≡ marks_in queues.old q }
+    ensures others { (n : ℕ) → n ≢ q → marks_in queues.new n ≡ marks_in queues.old n }
 {
-    while (queues.len() as u64) < count {
-        queues.push(MarkList::new(alloc))?;
-    }
+    queues.remove(&q).unwrap_or(MarkList::new(alloc))
+}
+
+/// Puts in the expiries of a queue.
+fn put_queue(queues: &mut QueueTable, q: u64, queue: MarkList) -> Result<(), AllocError>
+    ensures put { OnOk result (marks_in queues.new q ≡ queue) }
+    ensures others { OnOk result ((n : ℕ) → n ≢ q → marks_in queues.new n ≡ marks_in queues.old n) }
+{
+    queues.insert(q, queue)?;
     Ok(())
 }
 
 /// Notes one more expiry of a queue.
 pub fn note_claim(
     alloc: Global,
-    queues: &mut Vec<MarkList>,
+    queues: &mut QueueTable,
     claim: OrderedExpiry,
 ) -> Result<(), AllocError>
-    ensures { (claims : List OrderedExpiry) → TellsPassed queues.old.items claims → OnOk result (TellsPassed queues.new.items (with_claim (Some claim) claims)) }
+    ensures { (claims : List OrderedExpiry) → TellsPassed queues.old claims → OnOk result (TellsPassed queues.new (with_claim (Some claim) claims)) }
 {
     let q = queue_number(claim.processor, claim.context, claim.clock);
-    reach_queue(alloc, queues, q + 1)?;
-    let queue = &mut queues[q as usize];
+    let mut queue = take_queue(alloc, queues, q);
     queue.note(Mark {
         expires: claim.expires,
         order: claim.order,
         at: claim.at,
-    })
+    })?;
+    put_queue(queues, q, queue)
 }

@@ -1,1 +1,3 @@
 pub mod Meanings
+pub mod Tallies
+pub mod Lines

@@ -3,7 +3,7 @@
 
 pub use laws::{an_answer_means_what_it_says, what_fits_is_answered_so};
 pub use reader::Reader;
-pub use tally::Tally;
+pub use tally::{EventCounts, Latest, Tally};
 pub use verdict::Verdict;
 pub use whole::read_whole;
 

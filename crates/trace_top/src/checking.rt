@@ -1,9 +1,9 @@
 //! Checks the text of a source.
 ghost use Rattle.std.specs.Prelude.{◌≡◌, ◌≤◌, ◌++◌, List, ℕ, IfOk, OnOk, IsErrOf};
 ghost use Rattle.std.specs.Io.KnownBytes.{Consumes};
-ghost use Rattle.trace_top.specs.Checking.{IsJudged};
+ghost use Rattle.trace_top.specs.Checking.{HasChecked};
 ghost use Rattle.trace_read.specs.Lines.{verdict_on};
-ghost use Rattle.trace_read.specs.Readers.{HasReadSoFar};
+ghost use Rattle.trace_read.specs.Readers.{HasReadSoFar, told_by};
 ghost use Rattle.byte_streams.specs.Streams.{Rose};
 ghost use Rattle.trace_top.specs.declared.checking.CheckFault.TheVariants.{OutOfMemory};
 
@@ -31,8 +31,8 @@ impl From<AllocError> for CheckFault {
 
 /// Reads a source until its text can be answered: to its end, or to a line that can't be read or with which no history shows the lines so far.
 pub fn check<S: Source>(reader: &mut Reader, source: &mut S) -> Result<Verdict, CheckFault>
-    requires new { HasReadSoFar reader.old verdict_on }
-    ensures read { IfOk result (λ verdict. IsJudged (S.left source.old) (S.left source.new) verdict) }
+    requires new { HasReadSoFar reader.old verdict_on told_by }
+    ensures read { IfOk result (λ verdict. HasChecked (S.left source.old) (S.left source.new) verdict reader.new.tally) }
     ensures ok { OnOk result (S.faults source.new ≡ S.faults source.old) }
     ensures failed { IsErrOf result CheckFault.Failed → Rose (S.faults source.old) (S.faults source.new) }
     ensures later { S.faults source.old ≤ S.faults source.new }

@@ -21,6 +21,8 @@ pub enum Status {
     OutOfMemory,
     /// The trace doesn't fit, and why was written.
     Refused,
+    /// The trace has no event of a timer, and that was written.
+    NoEvents,
 }
 
 impl Status {
@@ -30,6 +32,7 @@ impl Status {
     {
         match verdict {
             Verdict::Fits { .. } => Status::Fits,
+            Verdict::NoEvents => Status::NoEvents,
             Verdict::Refused { .. } => Status::Refused,
             Verdict::Unreadable { .. } => Status::Unreadable,
         }
@@ -47,6 +50,7 @@ impl Status {
             Status::WriteFault => 5,
             Status::OutOfMemory => 6,
             Status::Refused => 7,
+            Status::NoEvents => 8,
         }
     }
 
@@ -55,7 +59,7 @@ impl Status {
         ensures { option_map (λ text. text.now) result ≡ check_message self }
     {
         match self {
-            Status::Fits | Status::Unreadable | Status::Refused => None,
+            Status::Fits | Status::Unreadable | Status::Refused | Status::NoEvents => None,
             Status::Usage => Some("usage: hrt_check [--summary] < TRACE"),
             Status::ReadFault => Some("hrt_check: read fault"),
             Status::WriteFault => Some("hrt_check: write fault"),

@@ -1,6 +1,7 @@
-//! The line for a trace that doesn't fit or can't be read.
+//! The line for a trace that isn't answered as one that fits.
 ghost use Rattle.std.specs.Prelude.{◌≡◌, ◌++◌, false, IfOk, codes, string_bytes};
 ghost use Rattle.std.specs.Fmt.{decimal, digits};
+ghost use Rattle.trace_read.specs.declared.verdict.Verdict.TheVariants.{NoEvents};
 ghost use Rattle.trace_top.specs.Texts.{cause_rest, misfit_word, told_line, verdict_text, what_word};
 
 use std::alloc::{AllocError, Global};
@@ -79,12 +80,20 @@ fn cause_text(alloc: Global, cause: Misfit) -> Result<String, AllocError>
     }
 }
 
-/// The line that tells how a trace is answered, where it doesn't fit or can't be read.
+/// The line that tells that a trace has no event of a timer.
+fn empty_text(alloc: Global) -> Result<String, AllocError>
+    ensures { IfOk result (λ t. string_bytes t ≡ verdict_text NoEvents) }
+{
+    String::from_str(alloc, "no timer events\n")
+}
+
+/// The line that tells how a trace is answered, where that isn't that it fits.
 pub fn text_of(alloc: Global, verdict: Verdict) -> Result<String, AllocError>
     ensures { IfOk result (λ t. string_bytes t ≡ verdict_text verdict) }
 {
     match verdict {
         Verdict::Fits { .. } => Ok(String::new(alloc)),
+        Verdict::NoEvents => empty_text(alloc),
         Verdict::Refused { line, cause } => {
             let reason = cause_text(alloc, cause)?;
             line_text(alloc, line, &reason)

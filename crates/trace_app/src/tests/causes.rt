@@ -109,12 +109,19 @@ const REFUSED: [Case; 20] = [
     ),
 ];
 
-const FIT: [Case; 9] = [
-    ("", Status::Fits, "ok 0 events, 0 timers, 0 processors\n"),
+const EMPTY: [&str; 5] = [
+    "",
+    "# tracer: nop\n\nkworker-7 [001] ..... 4.5: sched_switch: prev_comm=a\n",
+    "CPU:3 [LOST 12 EVENTS]\n##### CPU 2 buffer started ####\n",
+    "hrt 1\nbases 1\nlanes 1\n",
+    "\x1f\x08\0\0\0\n\x17\x08Dtracing",
+];
+
+const FIT: [Case; 8] = [
     (
-        "# tracer: nop\n\nkworker-7 [001] ..... 4.5: sched_switch: prev_comm=a\n",
+        "x [4294967295] d.h. 1: hrtimer_expire_entry: hrtimer=1 now=1",
         Status::Fits,
-        "ok 0 events, 0 timers, 0 processors\n",
+        "ok 1 events, 1 timers, 1 processors\n",
     ),
     (
         "hrtimer_setup: hrtimer=a clockid=CLOCK_MONOTONIC mode=ABS\nhrtimer_setup: hrtimer=b clockid=CLOCK_REALTIME mode=ABS\nhrtimer_start: hrtimer=a expires=7 softexpires=7\nhrtimer_start: hrtimer=b expires=8 softexpires=8\n[0] d.h. 1: hrtimer_expire_entry: hrtimer=b now=9\n[0] d.h. 1: hrtimer_expire_exit: hrtimer=b\n[0] d.h. 1: hrtimer_expire_entry: hrtimer=a now=9\n",
@@ -159,6 +166,20 @@ fn each_cause_refuses_a_trace_at_its_line(rt: HostRuntime) -> Result<(), Fail> {
         let answer = answered(rt.alloc(), &["hrt_check"], text.as_bytes())?;
         assert_eq!(rt; answer.0, status, "{text}");
         assert_eq!(rt; answer.1.as_slice(), told.as_bytes(), "{text}");
+    }
+    Ok(())
+}
+
+#[test]
+fn a_text_without_a_timers_event_is_told(rt: HostRuntime) -> Result<(), Fail> {
+    for text in EMPTY {
+        let answer = answered(rt.alloc(), &["hrt_check"], text.as_bytes())?;
+        assert_eq!(rt; answer.0, Status::NoEvents, "{text}");
+        assert_eq!(rt;
+            answer.1.as_slice(),
+            b"no timer events\n".as_slice(),
+            "{text}"
+        );
     }
     Ok(())
 }

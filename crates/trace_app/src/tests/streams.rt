@@ -66,6 +66,18 @@ fn a_summary_has_a_line_for_each_kind_and_each_processor(rt: HostRuntime) -> Res
 }
 
 #[test]
+fn a_summary_counts_nothing_over_a_loss(rt: HostRuntime) -> Result<(), Fail> {
+    let text =
+        "hrtimer_start: hrtimer=a expires=5 softexpires=5\nhrtimer_start: hrtimer=b expires=5 softexpires=5\nCPU:0 [LOST 3 EVENTS]\nhrtimer_start: hrtimer=a expires=7 softexpires=7\nhrtimer_start: hrtimer=c expires=7 softexpires=7\nhrtimer_start: hrtimer=d expires=7 softexpires=7\n[4294967295] d.h. 1: hrtimer_expire_entry: hrtimer=b now=9\n[1] d.h. 1: hrtimer_expire_exit: hrtimer=c\n";
+    let told =
+        "ok 8 events, 4 timers, 2 processors\nset-ups                 0\nstarts                  5\ncancels                 0\nexpiries                1\nreturns                 1\nlosses                  1\nmost queued at once     3\nlatest on 4294967295 hard       0 ns\n";
+    let answer = answered(rt.alloc(), &["hrt_check", "--summary"], text.as_bytes())?;
+    assert_eq!(rt; answer.0, Status::Fits);
+    assert_eq!(rt; answer.1.as_slice(), told.as_bytes());
+    Ok(())
+}
+
+#[test]
 fn each_status_has_its_number_and_its_line(rt: HostRuntime) {
     let cases = [
         (Status::Fits, 0, None),
@@ -79,6 +91,7 @@ fn each_status_has_its_number_and_its_line(rt: HostRuntime) {
         (Status::WriteFault, 5, Some("hrt_check: write fault")),
         (Status::OutOfMemory, 6, Some("hrt_check: out of memory")),
         (Status::Refused, 7, None),
+        (Status::NoEvents, 8, None),
     ];
     for (status, code, message) in cases {
         assert_eq!(rt; status.code(), code);

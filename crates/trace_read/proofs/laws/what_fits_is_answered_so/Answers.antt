@@ -1,5 +1,5 @@
-use Rattle.trace_read.proofs.Meanings.{fit_verdict}
+use Rattle.trace_read.proofs.Meanings.{fit_answered}
 use Rattle.trace_read.proofs.laws.what_fits_is_answered_so.Goals as goal
 
 pub returns : goal.returns
-returns c = fit_verdict
+returns c = fit_answered

@@ -8,6 +8,6 @@ pub returns-in-Some : goal.returns-in-Some
 returns-in-Some c = λ k h. OnOk_then c.note_claim.result (c.note_claim.ensures k.claims h.queues) (λ tells. record {
   timers = h.timers;
   halves = h.halves;
-  queues = subst (λ claim. TellsPassed c.note_claim.new.queues.items (with_claim claim k.claims)) (sym c.in-Some.is) tells;
+  queues = subst (λ claim. TellsPassed c.note_claim.new.queues (with_claim claim k.claims)) (sym c.in-Some.is) tells;
   count = h.count;
 })
