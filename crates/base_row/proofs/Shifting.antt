@@ -19,7 +19,7 @@ use Rattle.seq_timer.specs.declared.system.BaseEntry.{BaseEntry}
 use Rattle.seq_timer.specs.declared.system.SystemEntry.{SystemEntry}
 use Rattle.seq_timer.specs.declared.system.SystemEntry.TheVariants as entries
 use Rattle.seq_timer.specs.Standings.{MayShift, first_standing, standing_after, standing_after_all}
-use Rattle.seq_timer.specs.Systems.{BaseContent, HasHeirOnLine, System, first_system, after_shift, shifted, shifts_of, IsClear, system_after}
+use Rattle.seq_timer.specs.Systems.{BaseContent, HasHeirOnLine, System, first_system, after_shift, shifted, IsClear, system_after}
 use Rattle.base_row.specs.declared.view.HeldContent.{HeldContent}
 use Rattle.base_row.specs.declared.view.Opening.{Opening}
 use Rattle.base_row.specs.declared.view.BaseView.{BaseView}

@@ -25,7 +25,7 @@ use Rattle.hr_timers.specs.declared.answer.StartAnswer.{StartAnswer}
 use Rattle.hr_timers.specs.declared.answer.StartAnswer.TheVariants as starts
 use Rattle.hr_timers.specs.declared.answer.ClaimAnswer.TheVariants as claimings
 use Rattle.hr_timers.specs.declared.numbers.ClaimNumbers.{ClaimNumbers}
-use Rattle.hr_timers.specs.Known.{AddsBehind, KnownOfTimers, OnlySeesMore, MadeAt, claimed_as, count_of, timer_then}
+use Rattle.hr_timers.specs.Known.{AddsBehind, KnownOfTimers, OnlySeesMore, claimed_as, count_of, timer_then}
 use Rattle.hr_timers.specs.Calls.{StartFits, entry_by, start_entries}
 use Rattle.hr_timers.specs.Ways.{IsWay, asking, most_to_start}
 use Rattle.hr_timers.specs.Moves.{known_from}

@@ -45,7 +45,7 @@ use Rattle.base_row.specs.declared.view.HeldContent.{HeldContent}
 use Rattle.base_row.specs.Plays.{KnowsBases}
 use Rattle.base_row.proofs.Placed.{tells_running}
 use Rattle.hr_timers.proofs.Keeping.{keeps_trans, terms_kept}
-use Rattle.hr_timers.proofs.Making.{looks_on, looks_seen, looks_trans, made_then}
+use Rattle.hr_timers.proofs.Making.{looks_on, looks_seen, looks_trans}
 
 pub only_looks : {A : Type 0} (u v w : BaseView BaseContent) (s : A) → OnlySeesMore u v → Steady u v → OnlySeesMore v w
     → KeepsBases (rows.known_of v) (rows.known_of w) → OnlyLooks (rows.known_of u) (rows.known_of w) s s
@@ -212,9 +212,12 @@ module _ {A : Type 0} (put : A → Receipt → A) (o : Opening) (base heir : ℕ
   -- one more timer was moved
   pub moved_then : (v : KnownOfTimers) (ts : List ℕ) (x w : KnownOfTimers) (t : ℕ) (s r s' : A) → AreMoved put o base heir reading v ts x s r
       → MovesTimer put o base heir reading x w t r s' → AreMoved put o base heir reading v (ts ++ t ∷ []) w s s'
-  moved_then v [] x w t s r s' moves more =
-      (w, s', subst (λ k. MovesTimer put o base heir reading k w t s s') moves.0 (subst (λ k. MovesTimer put o base heir reading x w t k s') moves.1 more),
-      (refl, refl))
+  moved_then v [] x w t s r s' moves more = (
+    w,
+    s',
+    subst (λ k. MovesTimer put o base heir reading k w t s s') moves.0 (subst (λ k. MovesTimer put o base heir reading x w t k s') moves.1 more),
+    (refl, refl),
+  )
   moved_then v (u ∷ us) x w t s r s' moves more = (moves.0, moves.1, moves.2, moved_then moves.0 us x w t moves.1 r s' moves.3 more)
 
 -- ---- the pass stays the same

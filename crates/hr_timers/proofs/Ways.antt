@@ -1,5 +1,5 @@
 -- Ways from base to base.
-use Rattle.std.proofs.Common.{◌≡◌, ℕ, ◌+◌, ◌≤◌, List, [], ◌∷◌, ◌++◌, Option, Some, None, length, append_assoc, subst, sym, ap, refl, ◌∙◌}
+use Rattle.std.proofs.Common.{◌≡◌, ℕ, ◌≤◌, List, [], ◌∷◌, ◌++◌, Option, Some, None, length, append_assoc, subst, sym, ap, refl, ◌∙◌}
 use Rattle.pass_names.specs.Passes.{Begins}
 use Rattle.pass_names.proofs.Passes.{begins_more, begins_refl, begins_trans}
 use Rattle.seq_timer.specs.Systems.{AreSystemSteps, System, after_entries, first_system, system_after}
@@ -8,8 +8,7 @@ use Rattle.seq_timer.proofs.OffLine.{heir_on_line}
 use Rattle.seq_timer.proofs.Systems.{after_entries-append, steps_rest}
 use Rattle.base_row.specs.declared.view.Opening.{Opening}
 use Rattle.hr_timers.specs.Known.{timer_then}
-use Rattle.hr_timers.specs.Ways.{Finds, IsSentBy, IsSentOn, IsWay, Stood, standing_then}
-use Rattle.hr_timers.proofs.Moments.{stamp_rises}
+use Rattle.hr_timers.specs.Ways.{Finds, IsSentBy, IsWay, standing_then}
 
 -- ---- ways
 

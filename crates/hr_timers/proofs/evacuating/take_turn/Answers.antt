@@ -3,7 +3,7 @@ use Rattle.seq_timer.specs.Steps.{Timer}
 use Rattle.seq_timer.specs.Tables.{IsUnused, is_armed_on}
 use Rattle.seq_timer.specs.declared.standing.BaseEvent.TheVariants as shifts
 use Rattle.base_row.specs.Calls.{known_of, timer_seen}
-use Rattle.hr_timers.specs.Moves.{RunsNone, ShiftsBase}
+use Rattle.hr_timers.specs.Moves.{ShiftsBase}
 use Rattle.hr_timers.proofs.Shifts.{stamp_shifts}
 use Rattle.hr_timers.proofs.Standing.{knows_in}
 use Rattle.hr_timers.proofs.Turning.{front_left, held_idle, left_first, left_idle, may_turn, moves_after, only_looks, spent_then}
