@@ -1,5 +1,5 @@
-"""Twenty-seven records that no order of all moves explains, each beside one of the same script that fits. In both each list by itself is a right history, and each
-call did what its words say: what is wrong shows only where the lists are put beside each other."""
+"""Twenty-seven records that no order of all moves explains, each beside one of the same script that fits. In both each list by itself is a right history, and
+each call did what its words say: what is wrong shows only where the lists are put beside each other."""
 from typing import NamedTuple, Tuple
 
 
