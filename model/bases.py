@@ -79,6 +79,8 @@ class Bases:
             return not self.running.get((base, False))
         if kind in ("front", "full"):
             return not self.runs(base) and self.front(base) == rest[0]
+        if kind == "clear" and self.heirs.get(rest[0]) is not None:
+            return False
         has_timer = self.front(base) is not None
         return not self.runs(base) and has_timer == (kind == "more")
 
@@ -91,6 +93,8 @@ class Bases:
             return f"base {base} is off line"
         if kind == "might":
             return f"base {base if self.heirs.get(base) is not None else rest[0]} is off line"
+        if kind == "clear" and self.heirs.get(rest[0]) is not None:
+            return f"its heir, base {rest[0]}, is off line"
         runs = self.running.get((base, rest[0] if kind in ("claim", "done") else False)) or self.runs(base)
         if runs:
             return f"the function of timer {runs[0]} runs on base {base}"
@@ -179,10 +183,12 @@ class Spoils:
             return True
         if not needs:
             return False
-        if other.kind == "apart":
-            return node.label == other.label
-        if other.kind in ("way begins", "way", "online", "might"):
-            return bool(node.shifts)
+        if other.kind == "front" and node.label == other.label:
+            return True
+        if node.shifts:
+            return other.kind in ("way begins", "found", "online", "might", "clear")
+        if other.kind in ("way begins", "found", "online", "might"):
+            return False
         return any((
             node.runs and node.runs[1] and self.spoils_by_running(node.runs[0], other),
             node.joins and self.spoils_by_joining(*node.joins, other),

@@ -18,11 +18,10 @@ class CallSteps(ObjectSteps):
         return [self.step(f"its reading {self.reading}", bounds=((("clock",), self.reading, self.reading),)), *self.steps]
 
     def look_for_heirs(self):
-        """A start that goes to another base goes by heirs that the call saw, of an object's call in its turn."""
+        """From here on the call looks for bases on line, and for heirs of those that aren't: an object's call in its turn."""
         ahead, behind = self.steps[:self.way_from], self.steps[self.way_from:]
-        begin = self.step("its first look for an heir", turn=behind[0].turn, needs=("way begins", self.label))
-        end = self.step("its start, by heirs of bases that it saw off line", needs=("way", self.label, tuple(self.ways)))
-        self.steps = [*ahead, begin, behind[0]._replace(turn=None), *behind[1:], end]
+        begin = self.step("its first look for a base on line", turn=behind[0].turn, needs=("way begins", self.label, tuple(self.ways)))
+        self.steps = [*ahead, begin, behind[0]._replace(turn=None), *behind[1:]]
 
     # ---- timers
 
@@ -221,15 +220,13 @@ class CallSteps(ObjectSteps):
         self.need(kept.armed is not None and kept.base == base and not kept.moving, f"{out.says()}, is of a timer that isn't armed on the base")
         times = ("keep", kept.soft, kept.expires - kept.soft)
         self.need((given["mode"], given["ns"], given.get("slack", 0)) == times, f"{start.says()}, doesn't keep the timer's times")
-        says = f"timer {timer} first on base {base}"
-        self.add(says, branch=branch, bounds=((out.name, out.number - 1, out.number - 1),), needs=("front", base, timer))
-        self.enter(out, branch=branch, needs=("apart", self.label) if branch else None)
+        self.enter(out, branch=branch, needs=("front", base, timer))
         self.enter(start, branch=branch, needs=("online", heir))
 
     def shift(self, base, event, number, heir=None):
         line = self.take(("base", base), event)
         self.need(line.number == number and line.fields.get("heir") == heir, f"{line.says()}, isn't what it is told")
-        self.enter(line, needs=("clear", base) if event == "offline" else None)
+        self.enter(line, needs=("clear", base, heir) if event == "offline" else None)
 
     def do_online(self, B):
         self.answers("on", "already")

@@ -14,6 +14,8 @@ FAULTS = {
     "look": "a look at an object takes no lock",
     "signal": "a wait takes the newest signal",
     "turn": "an object's lock is let go before its entry",
+    "heir": "a start takes a base off line for one on line",
+    "leave": "a base's lock is let go before a timer leaves it",
 }
 
 
@@ -67,7 +69,7 @@ class Interleaved(World):
     def starting(self, timer, mode, ns, slack, base, reading):
         """A start: it follows heirs, takes the lock of the timer's base, and where it moves the timer, that of the other base. The answer comes with its last
         step."""
-        while self.heirs[base] is not None:
+        while self.heirs[base] is not None and not self.goes_wrong("heir"):
             base = self.heirs[base]
             yield
         while self.timers[timer].moving:
@@ -294,6 +296,8 @@ class Interleaved(World):
                 return f"more {moved}"
             if self.stamp_of(timer) >= self.terms.limit + self.terms.reach:
                 return f"spent {moved} {timer} {self.stamp_of(timer)}"
+            if self.goes_wrong("leave"):
+                yield
             kept = self.timers[timer]
             self.enter(timer, Out(H))
             yield

@@ -1,4 +1,6 @@
 """The search for one order of all steps of a record: what may come next, what can be taken at once, and which ways were tried already."""
+from typing import NamedTuple
+
 from bases import OF_BASES, Bases, Spoils
 from histories import Misfit
 
@@ -10,8 +12,35 @@ class Undecided(Exception):
     """So many moments were looked at that the search was given up."""
 
 
+class Way(NamedTuple):
+    """How far the way of a start has come: the bases that it has to find on line in turn, how many of them it found, and which bases it has reached since."""
+
+    named: tuple
+    reached: frozenset
+    found: int = 0
+
+    def by(self, heirs):
+        """The way one moment later, with these heirs."""
+        if self.found == len(self.named):
+            return self
+        reached, to = self.reached_by(heirs), self.named[self.found]
+        if to not in reached or heirs.get(to) is not None:
+            return self._replace(reached=reached)
+        return Way(self.named, frozenset(), self.found + 1).by(heirs)
+
+    def reached_by(self, heirs):
+        """To the first base any heirs lead in turn, and to each later one that of the base before."""
+        if self.found:
+            return self.reached | {heirs.get(self.named[self.found - 1])}
+        reached = set(self.reached)
+        for base in range(max(reached), 0, -1):
+            if base in reached and heirs.get(base) is not None:
+                reached.add(heirs[base])
+        return frozenset(reached)
+
+
 class Moment:
-    """How far each chain has come, what bases have then, and for each call whose start may go to an heir the pairs of a base and its heir that it saw."""
+    """How far each chain has come, what bases have then, and how far the ways of starts have come whose calls have begun to look for bases on line."""
 
     __slots__ = ("places", "round", "bases", "ways", "taken", "behind")
 
@@ -91,19 +120,19 @@ class Search:
 
     def is_given(self, moment, node):
         needs = node.step.needs
+        if node.kind == "front" and any(self.is_on_its_way(moment, node, chain) for chain in range(len(self.chains))):
+            return False
         if node.kind in OF_BASES:
             return moment.bases.give(needs)
         if node.kind == "among":
             return any((not n or self.is_made(moment, (needs[1], n))) and not self.is_begun(moment, (needs[1], n + 1)) for n in needs[2])
-        if node.kind == "apart":
-            return not any(self.is_on_its_way(moment, node, chain) for chain in range(len(self.chains)))
-        return node.kind == "way begins" or all(is_way(moment.ways[node.label], *way) for way in needs[2])
+        return node.kind == "way begins" or moment.ways[needs[1]].found > needs[2]
 
     def is_on_its_way(self, moment, node, number):
         """Another branch of the call has sent a timer off that it hasn't started yet."""
         place = moment.places[number]
         last = self.chains[number][place - 1] if place and number != node.chain else None
-        return last is not None and last.label == node.label and last.kind == "apart"
+        return last is not None and last.label == node.label and last.kind == "front"
 
     def take(self, moment, node):
         moment.places[node.chain] += 1
@@ -112,13 +141,19 @@ class Search:
             moment.bases.take(node)
         if node.kind in ("push", "pop"):
             moment.bases.signal(node)
-        if node.kind == "way begins":
-            moment.ways[node.label] = frozenset(moment.bases.heirs.items())
-        elif node.kind == "way":
-            del moment.ways[node.label]
-        if node.shifts and node.shifts[1] is not None:
-            for label in moment.ways:
-                moment.ways[label] |= {node.shifts}
+        if node.kind in ("way begins", "found"):
+            self.take_look(moment, *node.step.needs)
+        if node.shifts:
+            moment.ways = {start: way.by(moment.bases.heirs) for start, way in moment.ways.items()}
+
+    @staticmethod
+    def take_look(moment, kind, of, rest):
+        """A call begins to look for bases on line, or a start has found one. Behind its last one nothing more is kept of it."""
+        if kind == "way begins":
+            for start, base, named in rest:
+                moment.ways[start] = Way(named, frozenset([base])).by(moment.bases.heirs)
+        elif rest + 1 == len(moment.ways[of].named):
+            del moment.ways[of]
 
     def take_all(self, moment):
         """Takes all that can be taken at once, through the rounds."""
@@ -148,14 +183,6 @@ class Search:
         node = min(waiting, key=lambda it: it.label)
         why = moment.bases.lack(node.step.needs) if node.kind in OF_BASES else "what it tells holds at no moment"
         raise Misfit(f"{node.says()} finds no moment: at the furthest that any order comes, {why}", node.label)
-
-
-def is_way(seen, base, to, pairs):
-    """From the base the other is reached by heirs that were seen, and each of these pairs is one that was."""
-    reached = {base}
-    for _ in range(len(seen) + 1):
-        reached |= {heir for off, heir in seen if off in reached}
-    return to in reached and all(pair in seen for pair in pairs)
 
 
 def nodes_up_to(moment):

@@ -29,7 +29,7 @@ class Steps:
         self.told = self.answer["answer"]
         self.left = list(histories.left[self.label])
         self.steps, self.reading, self.turn = [], None, None
-        # The starts that went to another base than the one asked for, and behind how many steps the call looked for heirs.
+        # The ways of its starts: of which entry, from which base, and the bases to be found on line in turn; and behind how many steps it looked for them.
         self.ways, self.way_from = [], 0
 
     # ---- what is asked
@@ -118,24 +118,36 @@ class Steps:
         sent = []
         while self.is_next(timer, "out"):
             sent.append(self.take(("timer", timer), "out"))
-            self.enter(sent[-1])
         line = self.take(("timer", timer), "start")
-        given = line.fields
+        given, lines = line.fields, [*sent, line]
         self.need((given["mode"], given["ns"], given.get("slack", 0)) == (mode, ns, slack), f"{line.says()}, has other arguments than the call")
-        self.enter(line, needs=("online", given["base"]))
-        lines = [*sent, line]
         self.need(lines[0].number <= self.h.script.limit, f"{lines[0].says()}, comes when the history is full")
         self.need([it.number for it in lines] == list(range(lines[0].number, line.number + 1)), f"{line.says()}, isn't just behind its moves")
-        self.look_at_way(base, [it.fields["base"] for it in sent], given["asked_base"])
+        finds = self.finds_of(base, [it.fields["base"] for it in sent], line)
+        for out in sent:
+            self.find(finds)
+            self.enter(out)
+        self.find(finds)
+        self.enter(line, needs=("online", given["base"]))
         return lines[0], line
 
-    def look_at_way(self, base, sent, asked):
-        """A start is sent to the base that is asked for, or by heirs of bases that are off line to another."""
+    def finds_of(self, base, sent, line):
+        """The bases that a start has to find on line in turn, each before the entry that names it, and the need of each."""
+        asked = line.fields["asked_base"]
         self.need(not sent or asked == sent[-1], "its start asks for another base than that of its last move")
         self.need(all(one > other for one, other in zip(sent, sent[1:])), "its start is sent on to a base of no lower number")
-        first = sent[0] if sent else asked
-        if first != base or len(sent) > 1:
-            self.ways.append((base, first, tuple(zip(sent, sent[1:]))))
+        named, start = tuple(sent or [asked]), (line.name, line.number)
+        # A base that never goes off line is found at once, and one on which the start itself keeps its timer is found just before it.
+        if named == (base,) and (len(self.h.heirs[base]) == 1 or not sent and line.fields["base"] == base):
+            return []
+        self.ways.append((start, base, named))
+        return [(found, ("found", start, place)) for place, found in enumerate(named)]
+
+    def find(self, finds):
+        """The next look of a start at a base that it has to find on line, where any is left."""
+        if finds:
+            base, needs = finds.pop(0)
+            self.add(f"base {base} found on line", needs=needs)
 
     def refusal(self, timer, number):
         state = self.state(timer, number)

@@ -20,8 +20,7 @@ class Walk:
 
     def key(self):
         """All that matters of what has come, beside which steps it was."""
-        ways = tuple(sorted((label, frozenset(seen)) for label, seen in self.ways.items()))
-        return tuple(sorted(self.armed_at, key=self.armed_at.get)), ways, tuple(self.signals)
+        return tuple(sorted(self.armed_at, key=self.armed_at.get)), tuple(sorted(self.ways.items())), tuple(self.signals)
 
     def count(self, name):
         return self.counts.get(name, 0)
@@ -32,6 +31,9 @@ class Walk:
     def heir(self, base):
         return self.h.heirs[base][self.count(("base", base))]
 
+    def all_heirs(self):
+        return tuple(self.heir(base) for base in range(self.h.script.bases))
+
     # ---- whether a step may come next
 
     def may_come(self, step):
@@ -41,6 +43,8 @@ class Walk:
         if name and name[0] == "object" and not (step.turn or self.turns.get(name) == number):
             return False
         if step.turn and (step.turn[0] in self.turns or step.turn[1] != self.count(step.turn[0]) + 1):
+            return False
+        if step.needs and step.needs[0] == "front" and self.on_the_way.get(step.label):
             return False
         # What is told of an object is told between turns.
         for of, low, high in step.bounds:
@@ -55,12 +59,10 @@ class Walk:
             return (self.signals[0] == on if self.signals else False) if kind == "pop" else not self.signals
         if kind == "among":
             return self.count(on) in rest[0]
-        if kind == "apart":
-            return not self.on_the_way.get(on)
         if kind == "way begins":
             return True
-        if kind == "way":
-            return all(self.leads(on, *way) for way in rest[0])
+        if kind == "found":
+            return self.has_found(*self.ways[on], rest[0])
         if kind == "online":
             return self.heir(on) is None
         if kind == "might":
@@ -73,14 +75,17 @@ class Walk:
         if self.running(on, False) or self.running(on, True):
             return False
         front = self.front(on)
-        return {"clear": front is None, "more": front is not None}.get(kind, front == (rest[0] if rest else None))
+        if kind == "clear":
+            return front is None and self.heir(rest[0]) is None
+        return front is not None if kind == "more" else front == rest[0]
 
-    def leads(self, label, base, to, pairs):
-        """There is a way by heirs that were seen in the call."""
-        seen, reached = self.ways[label], [base]
-        for one in reached:
-            reached += [heir for off, heir in seen if off == one and heir not in reached]
-        return to in reached and all(pair in seen for pair in pairs)
+    @staticmethod
+    def has_found(base, named, seen, place):
+        """By the heirs at each moment, the base at this place was found on line behind those before it: all moments are tried at which each may have been."""
+        ends = {end for heirs in range(base + 1) for end in moments_found(seen, 0, base, named[0], heirs)}
+        for one, other in zip(named, named[1:place + 1]):
+            ends = {end for at in ends for end in moments_found(seen, at, one, other, 1)}
+        return bool(ends)
 
     def of_context(self, soft):
         return [t for t, it in enumerate(self.h.script.declarations) if (it.kind == "soft") == soft]
@@ -108,9 +113,10 @@ class Walk:
         if step.turn:
             self.turns[step.turn[0]] = step.turn[1]
         if step.needs and step.needs[0] == "way begins":
-            self.ways[step.label] = {(base, self.heir(base)) for base in range(self.h.script.bases) if self.heir(base) is not None}
-        if step.needs and step.needs[0] == "way":
-            del self.ways[step.label]
+            for start, base, named in step.needs[2]:
+                self.ways[start] = base, named, (self.all_heirs(),)
+        if step.needs and step.needs[0] == "found" and step.needs[2] + 1 == len(self.ways[step.needs[1]][1]):
+            del self.ways[step.needs[1]]
         if step.needs and step.needs[0] == "push":
             self.signals.append(step.needs[1])
         if step.needs and step.needs[0] == "pop":
@@ -130,8 +136,16 @@ class Walk:
                 self.armed_at.pop(name[1], None)
             elif new.armed != old.armed:
                 self.armed_at[name[1]] = self.moves
-        elif name[0] == "base" and self.heir(name[1]) is not None:
-            self.ways = {label: seen | {(name[1], self.heir(name[1]))} for label, seen in self.ways.items()}
+        elif name[0] == "base":
+            self.ways = {start: (base, named, (*seen, self.all_heirs())) for start, (base, named, seen) in self.ways.items()}
+
+
+def moments_found(seen, low, base, to, heirs):
+    """At which moments from `low` on the base may have been found on line to which so many heirs in turn lead from another."""
+    if heirs == 0:
+        return {at for at in range(low, len(seen)) if base == to and seen[at][to] is None}
+    ways = [(at, seen[at][base]) for at in range(low, len(seen)) if seen[at][base] is not None]
+    return {end for at, heir in ways for end in moments_found(seen, at, heir, to, heirs - 1)}
 
 
 def stands_apart(node):

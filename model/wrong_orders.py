@@ -1,5 +1,5 @@
-"""Twenty records that no order of all moves explains, each beside one of the same script that fits. In both each list by itself is a right history, and each
-call did what its words say: what is wrong shows only where the lists are put beside each other."""
+"""Twenty-seven records that no order of all moves explains, each beside one of the same script that fits. In both each list by itself is a right history, and
+each call did what its words say: what is wrong shows only where the lists are put beside each other."""
 from typing import NamedTuple, Tuple
 
 
@@ -20,8 +20,8 @@ class Pair(NamedTuple):
         return "\n".join(lines)
 
 
-def script(declarations, *rounds, limit=100, version=1, bases=1):
-    lines = [f"hrt {version}", f"bases {bases}", "lanes 2", f"limit {limit}", *declarations]
+def script(declarations, *rounds, limit=100, version=1, bases=1, lanes=2):
+    lines = [f"hrt {version}", f"bases {bases}", f"lanes {lanes}", f"limit {limit}", *declarations]
     for calls in rounds:
         lines += ["round", *calls]
     return "\n".join([*lines, ""])
@@ -299,5 +299,115 @@ PAIRS = [
         ),
         (("call 1 0 spent 0 2", "call 1 0 stale 0 2"),),
         (),
+    ),
+    Pair(
+        "a start sends its timer to a base that is off line since before the call, and on to the heir",
+        script(["raw 0 monotonic once"], ["0 offline 1 0 4", "0 start 0 abs 50 1"], version=2, bases=2),
+        record(
+            "base 1 1 0 0 offline 0", "timer 0 1 0 1 start abs 50 0 0 0 0 monotonic 50 50 0", "call 0 0 off 0 1", "call 0 1 started 1 0 0", version=2,
+        ),
+        (
+            (
+                "timer 0 1 0 1 start abs 50 0 0 0 0 monotonic 50 50 0",
+                "timer 0 1 0 1 out 1 0\ntimer 0 2 0 1 out 0 0\ntimer 0 3 0 1 start abs 50 0 0 0 0 monotonic 50 50 0",
+            ),
+            ("call 0 1 started 1 0 0", "call 0 1 started 3 0 0"),
+        ),
+        ("0 1",),
+    ),
+    Pair(
+        "a function starts its timer for a base that is off line since an earlier round",
+        script(
+            ["raw 0 monotonic starts 50 1"], ["0 start 0 abs 5 0", "0 advance 10", "0 offline 1 0 4"], ["1 expire 0 4"], version=2, bases=2,
+        ),
+        record(
+            "clock 1 0 1 advance 10 10 10 10 0", "base 1 1 0 2 offline 0",
+            "timer 0 1 0 0 start abs 5 0 0 0 0 monotonic 5 5 0", "timer 0 2 1 0 claim 0 1 1", "timer 0 3 1 0 start rel 50 0 1 0 0 monotonic 60 60 0",
+            "timer 0 4 1 0 finish again 1 none", "call 0 0 started 1 0 0", "call 0 1 clock 1", "call 0 2 off 0 1", "call 1 0 done 1 1 0", version=2,
+        ),
+        (("timer 0 3 1 0 start rel 50 0 1 0 0 monotonic 60 60 0", "timer 0 3 1 0 start rel 50 0 1 1 0 monotonic 60 60 0"),),
+        ("1 0",),
+    ),
+    Pair(
+        "a start sends an armed timer to the heir before its base goes off line, which has to be empty then",
+        script(["raw 0 monotonic once"], ["0 start 0 abs 50 1"], ["0 offline 1 0 0", "1 start 0 abs 60 1"], version=2, bases=2),
+        record(
+            "timer 0 1 0 0 out 1 0", "timer 0 2 0 0 start abs 50 0 0 1 1 monotonic 50 50 0", "timer 0 3 1 0 start abs 60 0 0 1 1 monotonic 60 60 1",
+            "call 0 0 started 2 1 0", "call 0 1 more 0", "call 1 0 started 3 1 1", version=2,
+        ),
+        (
+            ("timer 0 1 0 0 out 1 0", "base 1 1 0 1 offline 0\ntimer 0 1 0 0 out 1 0"),
+            (
+                "timer 0 3 1 0 start abs 60 0 0 1 1 monotonic 60 60 1",
+                "timer 0 3 1 0 out 0 1\ntimer 0 4 1 0 start abs 60 0 0 0 0 monotonic 60 60 0",
+            ),
+            ("call 0 1 more 0", "call 0 1 off 0 1"), ("call 1 0 started 3 1 1", "call 1 0 started 4 0 1"),
+        ),
+        ("0 1",),
+    ),
+    Pair(
+        "a start sends its timer on from a base that was off line before the timer came there, and no more",
+        script(["raw 0 monotonic once"], ["0 offline 1 0 4"], ["0 online 1", "1 start 0 abs 50 1"], version=2, bases=2),
+        record(
+            "base 1 1 0 0 offline 0", "base 1 2 0 1 online", "timer 0 1 1 0 out 1 0", "timer 0 2 1 0 start abs 50 0 0 1 1 monotonic 50 50 0",
+            "call 0 0 off 0 1", "call 0 1 on 2", "call 1 0 started 2 1 0", version=2,
+        ),
+        (
+            (
+                "timer 0 2 1 0 start abs 50 0 0 1 1 monotonic 50 50 0",
+                "timer 0 2 1 0 out 0 0\ntimer 0 3 1 0 start abs 50 0 0 0 0 monotonic 50 50 0",
+            ),
+            ("call 1 0 started 2 1 0", "call 1 0 started 3 0 0"),
+        ),
+        ("1 0",),
+    ),
+    Pair(
+        "of two timers the one that expires later is moved off a base first",
+        script(["raw 0 monotonic once", "raw 1 monotonic once"], ["0 start 0 abs 50 1", "0 start 1 abs 60 1", "0 offline 1 0 1"], version=2, bases=2),
+        record(
+            "timer 0 1 0 0 out 1 0", "timer 0 2 0 0 start abs 50 0 0 1 1 monotonic 50 50 0",
+            "timer 0 3 0 2 out 0 1", "timer 0 4 0 2 start keep 50 0 0 0 0 monotonic 50 50 0",
+            "timer 1 1 0 1 out 1 0", "timer 1 2 0 1 start abs 60 0 0 1 1 monotonic 60 60 0",
+            "call 0 0 started 2 1 0", "call 0 1 started 2 1 0", "call 0 2 more 1", version=2,
+        ),
+        (
+            ("timer 1 2 0 1 start abs 60 0 0 1 1 monotonic 60 60 0", "timer 1 4 0 2 start keep 60 0 0 0 0 monotonic 60 60 0"),
+            ("timer 1 1 0 1 out 1 0", "timer 1 3 0 2 out 0 1"),
+            ("timer 0 4 0 2 start keep 50 0 0 0 0 monotonic 50 50 0", "timer 1 2 0 1 start abs 60 0 0 1 1 monotonic 60 60 0"),
+            ("timer 0 3 0 2 out 0 1", "timer 1 1 0 1 out 1 0"),
+        ),
+        ("0 2",),
+    ),
+    Pair(
+        "a timer leaves its base behind the start of one that is ahead of it there",
+        script(
+            ["raw 0 monotonic once", "raw 1 monotonic once"], ["0 start 0 abs 60 1"], ["0 offline 1 0 1", "1 start 1 abs 50 1", "1 peek 0"],
+            version=2, bases=2,
+        ),
+        record(
+            "timer 0 1 0 0 out 1 0", "timer 0 2 0 0 start abs 60 0 0 1 1 monotonic 60 60 0",
+            "timer 0 3 0 1 out 0 1", "timer 0 4 0 1 start keep 60 0 0 0 0 monotonic 60 60 0",
+            "timer 1 1 1 0 out 1 0", "timer 1 2 1 0 start abs 50 0 0 1 1 monotonic 50 50 0",
+            "call 0 0 started 2 1 0", "call 0 1 more 1", "call 1 0 started 2 1 0", "call 1 1 peek 4 0 1 0 0", version=2,
+        ),
+        (("call 1 1 peek 4 0 1 0 0", "call 1 1 peek 2 1 1 0 0"),),
+        ("0 1",),
+    ),
+    Pair(
+        "a timer leaves its base between two looks at which one function runs there",
+        script(
+            ["soft 0 monotonic once", "raw 1 monotonic once"], ["0 start 0 abs 0 1", "0 start 1 abs 50 1"],
+            ["0 offline 1 0 1", "1 softexpire 1 4", "2 peek 0", "2 peek 1", "2 peek 1", "2 peek 0"], version=2, bases=2, lanes=3,
+        ),
+        record(
+            "timer 0 1 0 0 out 1 0", "timer 0 2 0 0 start abs 0 0 0 1 1 monotonic 0 0 0",
+            "timer 0 3 1 0 claim 1 0 2", "timer 0 4 1 0 finish stop 2 none",
+            "timer 1 1 0 1 out 1 0", "timer 1 2 0 1 start abs 50 0 0 1 1 monotonic 50 50 0",
+            "timer 1 3 0 2 out 0 1", "timer 1 4 0 2 start keep 50 0 0 0 0 monotonic 50 50 0",
+            "call 0 0 started 2 1 0", "call 0 1 started 2 1 0", "call 0 2 busy 1 0 2", "call 1 0 done 1 0 0",
+            "call 2 0 peek 2 1 1 0 0", "call 2 1 peek 2 1 1 0 0", "call 2 2 peek 4 0 1 0 0", "call 2 3 peek 3 1 0 1 0", version=2,
+        ),
+        (("call 2 0 peek 2 1 1 0 0", "call 2 0 peek 3 1 0 1 0"),),
+        ("0 2",),
     ),
 ]
