@@ -1,3 +1,4 @@
+pub mod AskedOff
 pub mod BusyBase
 pub mod Calls
 pub mod CrowdedQueue

@@ -61,7 +61,7 @@ heir_witness = witness_along heir_script heir_record
     ∷ did 0 (Entered 0 5 (case_start_entry modes.Abs 200 0 0 0 200 true) ∷ []) 5 6 ∷ did 0 (Shifted 1 2 shifts.Online ∷ []) 6 7 ∷ []) ∷ [])
 
 -- what holds of the one timer that is there
-of_one : (P : ℕ → Type 0) → P 0 → (t : ℕ) → t < 1 → P t
+pub of_one : (P : ℕ → Type 0) → P 0 → (t : ℕ) → t < 1 → P t
 of_one P here zero less = here
 of_one P here (suc t) less = absurd (omega (arith, less))
 

@@ -35,7 +35,7 @@ sent_by (OfBase b event) = 0
 sent_by (OfRise k) = 0
 
 -- at the end of a way the base is on line
-ends_on_line : (sight : Sight) (low base : ℕ) (path : List ℕ) (to n : ℕ) → HeirsLeadTo sight low base path to n → (low ≤ n) × (sight.heir n to ≡ None)
+pub ends_on_line : (sight : Sight) (low base : ℕ) (path : List ℕ) (to n : ℕ) → HeirsLeadTo sight low base path to n → (low ≤ n) × (sight.heir n to ≡ None)
 ends_on_line sight low base [] to n way = (way.1, subst (λ b. sight.heir n b ≡ None) way.0 way.2)
 ends_on_line sight low base (heir ∷ heirs) to n way =
     let rest = ends_on_line sight way.0 heir heirs to n way.3 in (omega (arith, way.1, rest.0), rest.1)

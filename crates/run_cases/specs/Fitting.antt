@@ -481,6 +481,24 @@ abbrev pub heir_record : RunRecord
 heir_record = off_line_record ([] ∷ (base_entry_line 1 (shifts.Offline 0) ∷ base_entry_line 3 shifts.Online ∷ []) ∷ []) (heir_lines ∷ [])
     (answers.Started 2 1 false ∷ answers.Offline 1 1 ∷ answers.Started 5 0 true ∷ answers.Online 2 ∷ [])
 
+-- ---- a base is taken off line; a callback then starts its timer there, and the heir is asked for, while the timer stays where its function runs
+
+-- the script
+abbrev pub asking_script : Script
+asking_script = case_script_in versions.Two 2 1 (hard_raw (callbacks.Starts 50 1) ∷ [])
+    (map (by 0) (calls.Offline 1 0 4 ∷ case_start 0 modes.Abs 0 0 ∷ hard_expire 0 1 ∷ []) ∷ [])
+
+-- the record, by the base that the callback's start asks for
+abbrev pub asking_by : ℕ → RunRecord
+asking_by base = off_line_record ([] ∷ (base_entry_line 0 (shifts.Offline 0) ∷ []) ∷ [])
+    ((line 0 1 (start modes.Abs 0 0) ∷ line 0 2 (claim_entry 0 0 1) ∷ line 0 2 (case_start_entry modes.Rel 50 0 base 0 50 false)
+    ∷ line 0 2 (finish_entry true 1) ∷ []) ∷ [])
+    (answers.Offline 0 1 ∷ answers.Started 1 0 false ∷ answers.More 0 (0 ∷ []) ∷ [])
+
+-- its record
+abbrev pub asking_record : RunRecord
+asking_record = asking_by 0
+
 -- ---- a base is taken off line, and then another is asked to go off line with that one as its heir
 
 -- the script

@@ -118,6 +118,12 @@ pub fn a_start_goes_to_the_heir()
     ensures { Fits fitting.heir_script fitting.heir_record }
 {}
 
+/// A callback's start asks for the heir of a base that is off line; the timer stays on the base where its function runs.
+#[tactic(auto, using(crate::proofs::AskedOff::asking_fits))]
+pub fn a_callbacks_start_asks_for_the_heir()
+    ensures { Fits fitting.asking_script fitting.asking_record }
+{}
+
 /// A base isn't taken off line with an heir that is off line.
 #[tactic(auto, using(crate::proofs::RefusedHeir::refused_fits))]
 pub fn an_heir_off_line_is_refused()

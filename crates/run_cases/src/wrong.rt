@@ -154,6 +154,12 @@ pub fn no_start_is_sent_to_a_base_off_line()
     ensures { Fits wrong.stranded_script wrong.sent_off_record → ⊥ }
 {}
 
+/// A callback's start doesn't tell that it asked for a base that is off line since before its run.
+#[tactic(auto, using(crate::proofs::AskedOff::asking_off_doesnt_fit))]
+pub fn no_callback_asks_for_a_base_off_line()
+    ensures { Fits fitting.asking_script wrong.asking_off_record → ⊥ }
+{}
+
 /// A base doesn't go off line with a timer armed on it.
 #[tactic(auto, using(crate::proofs::OffLine::left_doesnt_fit))]
 pub fn a_base_goes_off_line_empty()
