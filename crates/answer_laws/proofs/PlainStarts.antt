@@ -1,6 +1,6 @@
--- Where no base is off line a start is sent to the base that it asks for, or to none, and the timer says which.
+-- While bases stay off line or on line as they are, a start asks for one base, is sent there or nowhere, and the timer says which.
 use Rattle.std.proofs.Common.{◌≡◌, ℕ, List, [], ◌∷◌, ap, sym, ◌∙◌, subst, refl, length, arith, ◌⊎◌, inl, inr}
-use Rattle.std.specs.Prelude.{◌+◌, ◌++◌, IsSome}
+use Rattle.std.specs.Prelude.{◌+◌, ◌++◌, IsSome, Some, None}
 use Rattle.seq_timer.specs.Calls.{entries_along, step_all}
 use Rattle.pass_names.specs.Passes.{Begins, places}
 use Rattle.pass_names.proofs.Passes.{begins_refl, begins_trans}
@@ -17,10 +17,10 @@ use Rattle.hr_timers.specs.declared.answer.StartAnswer.{StartAnswer}
 use Rattle.hr_timers.specs.declared.answer.StartAnswer.TheVariants as starts
 use Rattle.hr_timers.specs.Calls.{StartsTimer, start_answer}
 use Rattle.hr_timers.specs.Known.{KnownOfTimers, KnowsTimers, MadeAt, timer_then}
-use Rattle.hr_timers.specs.Ways.{IsSentBy, IsWay, asking, start_on}
-use Rattle.hr_timers.proofs.Ways.{way_rises}
+use Rattle.hr_timers.specs.Ways.{Finds, IsSentBy, IsWay, asking, standing_then, start_on}
+use Rattle.hr_timers.proofs.Ways.{way_ends, way_rises}
 use Rattle.hr_timers.proofs.Moments.{timer_own}
-use Rattle.answer_laws.specs.Outcomes.{SameOutcome, SameOwn, StartMoment, WasOff, unasked}
+use Rattle.answer_laws.specs.Outcomes.{BasesStay, SameOutcome, SameOwn, StartMoment, unasked}
 use Rattle.answer_laws.proofs.Outcomes.{made_once, own_same}
 use Rattle.answer_laws.proofs.TimerCalls.{start_once}
 
@@ -34,30 +34,48 @@ own_steps : (o : Opening) (v w : KnownOfTimers) (t : ℕ) (x : List SystemEntry)
 own_steps o v w t x es knows made = subst (λ u. seq.AreSteps u es) (sym (timer_own o x t)) (second_steps (timer_at o.timers t) (entries_of t x) es
     (subst (seq.AreSteps (timer_at o.timers t)) made.own (parts o.bases (length o.timers) (first_system o.timers) w.seen knows.history t)))
 
-module _ (o : Opening) (low high : List SystemEntry) (t n : ℕ) (none : (b h : ℕ) → WasOff o low high b h → ⊥) where
-  no_way : (from : List SystemEntry) (a b : ℕ) (path : List ℕ) (at : List SystemEntry) → Begins low from → Begins at high → IsWay o from a path b at
-      → (path ≡ []) × (a ≡ b)
-  no_way from a b [] at down up way = (refl, way.0)
-  no_way from a b (c ∷ cs) at down up way =
-      let x = way.0 in
-      absurd (none a c (record {
-        at = x;
-        from = begins_trans down way.1.from;
-        to = begins_trans (way_rises o x c cs b at way.2) up;
-        off = way.1.stood;
-      }))
+no_heir : {heir : ℕ} → Some heir ≡ None → ⊥
+no_heir wrong = cc
 
-  straight : (asked last : ℕ) (sent : List ℕ) → IsSentBy o high t low n asked sent last → (asked ≡ last) × ((sent ≡ []) ⊎ (sent ≡ last ∷ []))
-  straight asked last [] s = ((no_way low asked last s.path s.at (begins_refl low) s.seen s.way).1, inl refl)
-  straight asked last (b ∷ []) s =
-      ((no_way low asked b s.0.path s.0.at (begins_refl low) s.0.seen s.0.way).1 ∙ s.1, inr (ap (λ z. z ∷ []) s.1))
-  straight asked last (b ∷ c ∷ cs) s =
-      let f = s.1.0 in
-      let first = way_rises o low asked s.0.path b s.0.at s.0.way in
-      absurd (not_both c (sym s.1.1 ∙ (no_way s.0.at b c f.path f.at first f.seen f.way).0))
+some_same : (a b : ℕ) → Some a ≡ Some b → a ≡ b
+some_same a b e = cc
+
+module _ (o : Opening) (low high : List SystemEntry) (t : ℕ) (stay : BasesStay o low high) where
+  -- a start is sent to one base at most, which it found on line
+  straight : (n asked last : ℕ) (sent : List ℕ) → IsSentBy o high t low n asked sent last
+      → Finds o high t low n asked last × ((sent ≡ []) ⊎ (sent ≡ last ∷ []))
+  straight n asked last [] s = (s, inl refl)
+  straight n asked last (b ∷ []) s = (subst (Finds o high t low n asked) s.1 s.0, inr (ap (λ z. z ∷ []) s.1))
+  straight n asked last (b ∷ c ∷ cs) s =
+      let f = s.0 in
+      let g = s.1.0 in
+      let way : IsWay o f.at b (c ∷ []) c g.at = subst (λ path. IsWay o f.at b path c g.at) s.1.1 g.way in
+      let from = way_rises o low asked f.path b f.at f.way in
+      let x = way.0 in
+      absurd (no_heir (sym way.1.stood ∙ (stay x b (begins_trans from way.1.from) (begins_trans (way_rises o x c [] c g.at way.2) g.seen)
+      ∙ (sym (stay f.at b from f.seen) ∙ way_ends o low asked f.path b f.at f.way))))
+
+-- while bases stay as they are, all ways from a base end where one does
+module _ (o : Opening) (low high high' : List SystemEntry) (stay : BasesStay o low high) (stay' : BasesStay o low high') where
+  one_end : (x x' : List SystemEntry) (a b b' : ℕ) (path path' : List ℕ) (at at' : List SystemEntry) → Begins low x → Begins low x' → Begins at high
+      → Begins at' high' → IsWay o x a path b at → IsWay o x' a path' b' at' → b ≡ b'
+  one_end x x' a b b' [] [] at at' down down' up up' way way' = sym way.0 ∙ way'.0
+  one_end x x' a b b' [] (d ∷ ds) at at' down down' up up' way way' =
+      absurd (no_heir (sym (heir_at x' a d ds b' at' down' up' way') ∙ (sym (stay at a (begins_trans down way.1.from) up) ∙ way.1.stood)))
     where
-      not_both : (c : ℕ) → c ∷ [] ≡ [] → ⊥
-      not_both c wrong = cc
+      heir_at : (x : List SystemEntry) (a d : ℕ) (ds : List ℕ) (b : ℕ) (at : List SystemEntry) → Begins low x → Begins at high' → IsWay o x a (d ∷ ds) b at
+          → (standing_then o low a).heir ≡ Some d
+      heir_at x a d ds b at down up way =
+          sym (stay' way.0 a (begins_trans down way.1.from) (begins_trans (way_rises o way.0 d ds b at way.2) up)) ∙ way.1.stood
+  one_end x x' a b b' (c ∷ cs) [] at at' down down' up up' way way' =
+      absurd (no_heir (sym way.1.stood ∙ (stay way.0 a (begins_trans down way.1.from) (begins_trans (way_rises o way.0 c cs b at way.2) up)
+      ∙ (sym (stay' at' a (begins_trans down' way'.1.from) up') ∙ way'.1.stood))))
+  one_end x x' a b b' (c ∷ cs) (d ∷ ds) at at' down down' up up' way way' =
+      let here = begins_trans down way.1.from in
+      let there = begins_trans down' way'.1.from in
+      let same = some_same c d (sym way.1.stood ∙ (stay way.0 a here (begins_trans (way_rises o way.0 c cs b at way.2) up)
+      ∙ (sym (stay' way'.0 a there (begins_trans (way_rises o way'.0 d ds b' at' way'.2) up')) ∙ way'.1.stood))) in
+      one_end way.0 way'.0 c b b' cs ds at at' here there up up' way.2 (subst (λ k. IsWay o way'.0 k ds b' at') (sym same) way'.2)
 
 -- a timer isn't both started where it is and sent there
 not_both_ways : (t u : Timer) (asked : Asked) (b c : ℕ) → t ≡ u → b ≡ c → Needs t (events.Start (asking asked b)) → Needs u (events.Out c) → ⊥
@@ -74,7 +92,7 @@ moment_same : (x y : List SystemEntry) (s r : List ℕ) (l k : ℕ) → x ≡ y 
 moment_same x y s r l k e f g = cc
 
 module _ (o : Opening) (v w w' : KnownOfTimers) (t : ℕ) (asked : Asked) (knows : KnowsTimers o w) (knows' : KnowsTimers o w')
-    (none : (b h : ℕ) → WasOff o v.seen w.seen b h → ⊥) (none' : (b h : ℕ) → WasOff o v.seen w'.seen b h → ⊥) where
+    (stay : BasesStay o v.seen w.seen) (stay' : BasesStay o v.seen w'.seen) where
   mixed : (k k' : KnownOfTimers) (x y : List SystemEntry) (s r : List ℕ) (b c : ℕ) → KnowsTimers o k → KnowsTimers o k' → x ≡ y → b ≡ c → s ≡ [] → r ≡ c ∷ []
       → MadeAt v k t x (entries_along (timer_then o x t) (start_on asked s b)) → MadeAt v k' t y (entries_along (timer_then o y t) (start_on asked r c)) → ⊥
   mixed k k' x y s r b c p q e f g h made made' =
@@ -94,14 +112,15 @@ module _ (o : Opening) (v w w' : KnownOfTimers) (t : ℕ) (asked : Asked) (knows
       absurd (omega (arith, c.fits.1, d.fits.1, ap (λ x. (timer_then o x t).stamp) e, ap (λ x. (timer_then o x t).terms.limit) e))
   plain_start_once (starts.Started x g b s p) (starts.Started x' g' b' s' p') c d e = by_way way.1 way'.1
     where
-      way : (asked.base ≡ c.last) × ((c.sent ≡ []) ⊎ (c.sent ≡ c.last ∷ []))
-      way = straight o v.seen w.seen t (timer_then o c.at t).stamp none asked.base c.last c.sent c.on_way
+      way : Finds o w.seen t v.seen (timer_then o c.at t).stamp asked.base c.last × ((c.sent ≡ []) ⊎ (c.sent ≡ c.last ∷ []))
+      way = straight o v.seen w.seen t stay (timer_then o c.at t).stamp asked.base c.last c.sent c.on_way
 
-      way' : (asked.base ≡ d.last) × ((d.sent ≡ []) ⊎ (d.sent ≡ d.last ∷ []))
-      way' = straight o v.seen w'.seen t (timer_then o d.at t).stamp none' asked.base d.last d.sent d.on_way
+      way' : Finds o w'.seen t v.seen (timer_then o d.at t).stamp asked.base d.last × ((d.sent ≡ []) ⊎ (d.sent ≡ d.last ∷ []))
+      way' = straight o v.seen w'.seen t stay' (timer_then o d.at t).stamp asked.base d.last d.sent d.on_way
 
       last : c.last ≡ d.last
-      last = sym way.0 ∙ way'.0
+      last = one_end o v.seen w.seen w'.seen stay stay' v.seen v.seen asked.base c.last d.last way.0.path way'.0.path way.0.at way'.0.at
+          (begins_refl v.seen) (begins_refl v.seen) way.0.seen way'.0.seen way.0.way way'.0.way
 
       alike : c.sent ≡ d.sent → (starts.Started x g b s p ≡ starts.Started x' g' b' s' p') × SameOutcome w w' t
       alike sent = start_once o v v w w' (own_same v) t asked asked _ _ c d refl (moment_same _ _ _ _ _ _ e sent last)

@@ -1,5 +1,5 @@
 -- What two passes of timers have in common after one call, where one may have seen more of what others did; and the moment of each call.
-use Rattle.std.specs.Prelude.{ℕ, ◌≡◌, Bool, true, false, List, Some}
+use Rattle.std.specs.Prelude.{ℕ, ◌≡◌, Bool, true, false, List}
 use Rattle.pass_names.specs.Passes.{Begins}
 use Rattle.ktime.specs.Readings.{ClockReading}
 use Rattle.seq_timer.specs.Events.{Asked}
@@ -28,12 +28,9 @@ pub record SameOutcome (w w' : KnownOfTimers) (t : ℕ) : Type 0 where
   pub own : SameOwn w w'
   pub entries : entries_of t w.seen ≡ entries_of t w'.seen
 
--- at a moment between these two the base was off line with this heir
-pub record WasOff (o : Opening) (low high : List SystemEntry) (base heir : ℕ) : Type 0 where
-  pub at : List SystemEntry
-  pub from : Begins low at
-  pub to : Begins at high
-  pub off : (standing_then o at base).heir ≡ Some heir
+-- between these two moments no base went off line or on line
+abbrev pub BasesStay : Opening → List SystemEntry → List SystemEntry → Type 0
+BasesStay o low high = (x : List SystemEntry) (base : ℕ) → Begins low x → Begins x high → (standing_then o x base).heir ≡ (standing_then o low base).heir
 
 -- the moment of a start, the bases that it was sent to, and the one that it asked for last
 pub record StartMoment : Type 0 where

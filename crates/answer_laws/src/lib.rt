@@ -31,7 +31,7 @@ pub use signals::{a_pop_is_fixed, a_push_is_fixed};
 pub use timers::{
     a_cancel_behind_a_rise_is_fixed, a_cancel_is_fixed, a_cancel_now_is_fixed, a_claim_is_fixed,
     a_finish_is_fixed, a_forward_is_fixed, a_peek_is_fixed, a_start_is_fixed,
-    a_start_of_a_running_timer_is_fixed, a_start_with_all_bases_on_line_is_fixed,
+    a_start_of_a_running_timer_is_fixed, a_start_while_bases_stay_is_fixed,
     taking_a_base_off_line_is_fixed, taking_a_base_on_line_is_fixed,
     what_passes_of_timers_tell_is_fixed,
 };

@@ -23,7 +23,7 @@ ghost use Rattle.seq_timer.specs.declared.observation.Peek as peek;
 ghost use Rattle.hr_timers.specs.Logged.{StartsLogged};
 ghost use Rattle.hr_timers.specs.Moves.{OfflineFits, OnlineFits, TakesOffline};
 ghost use Rattle.answer_laws.specs.Offline.{offline_at, plain_offline_at};
-ghost use Rattle.answer_laws.specs.Outcomes.{SameOutcome, SameOwn, WasOff, claim_moment, is_contended, now_moment, start_moment, unasked};
+ghost use Rattle.answer_laws.specs.Outcomes.{BasesStay, SameOutcome, SameOwn, claim_moment, is_contended, now_moment, start_moment, unasked};
 
 use hr_timers::ReceiptSink;
 
@@ -50,11 +50,11 @@ pub fn a_start_of_a_running_timer_is_fixed()
         → (unasked a ≡ unasked a') × SameOwn w w' }
 {}
 
-/// Where no base is off line while it goes on, a start is fixed by its moment alone.
-pub fn a_start_with_all_bases_on_line_is_fixed()
+/// Where no base goes off line or on line while it goes on, a start is fixed by its moment alone.
+pub fn a_start_while_bases_stay_is_fixed()
     ensures { (o : Opening) (v w w' : KnownOfTimers) (t : ℕ) (asked : Asked) (a a' : starts.StartAnswer) (c : StartsTimer o v w t asked a)
-        (d : StartsTimer o v w' t asked a') → KnowsTimers o w → KnowsTimers o w' → ((b h : ℕ) → WasOff o v.seen w.seen b h → ⊥)
-        → ((b h : ℕ) → WasOff o v.seen w'.seen b h → ⊥) → c.at ≡ d.at → (a ≡ a') × SameOutcome w w' t }
+        (d : StartsTimer o v w' t asked a') → KnowsTimers o w → KnowsTimers o w' → BasesStay o v.seen w.seen → BasesStay o v.seen w'.seen
+        → c.at ≡ d.at → (a ≡ a') × SameOutcome w w' t }
 {}
 
 /// At one moment a cancel has one answer, and makes the same entries.
