@@ -73,6 +73,8 @@ class Bases:
             return not self.running.get((base, rest[0])) and self.next_of(base, *rest) is None
         if kind == "online":
             return self.heirs.get(base) is None
+        if kind == "heir":
+            return self.heirs.get(base) == rest[0]
         if kind == "might":
             return self.heirs.get(base) is None and self.heirs.get(rest[0]) is None
         if kind == "first":
@@ -91,6 +93,8 @@ class Bases:
             return f"{len(self.signals)} signals wait" + (f", and the oldest is {self.signals[0][1]} of object {self.signals[0][0]}" if self.signals else "")
         if kind == "online":
             return f"base {base} is off line"
+        if kind == "heir":
+            return f"base {base} isn't off line with the heir {rest[0]}"
         if kind == "might":
             return f"base {base if self.heirs.get(base) is not None else rest[0]} is off line"
         if kind == "clear" and self.heirs.get(rest[0]) is not None:
@@ -110,7 +114,7 @@ def gives(signals, kind, what):
 
 
 OF_SIGNALS = ("push", "pop", "empty", "no room")
-OF_BASES = ("claim", "done", "online", "might", "first", "front", "full", "more", "clear", *OF_SIGNALS)
+OF_BASES = ("claim", "done", "online", "heir", "might", "first", "front", "full", "more", "clear", *OF_SIGNALS)
 
 
 def look_at_effects(histories, node):
@@ -186,8 +190,8 @@ class Spoils:
         if other.kind == "front" and node.label == other.label:
             return True
         if node.shifts:
-            return other.kind in ("way begins", "found", "online", "might", "clear")
-        if other.kind in ("way begins", "found", "online", "might"):
+            return other.kind in ("way begins", "found", "online", "heir", "might", "clear")
+        if other.kind in ("way begins", "found", "online", "heir", "might"):
             return False
         return any((
             node.runs and node.runs[1] and self.spoils_by_running(node.runs[0], other),

@@ -18,10 +18,10 @@ class CallSteps(ObjectSteps):
         return [self.step(f"its reading {self.reading}", bounds=((("clock",), self.reading, self.reading),)), *self.steps]
 
     def look_for_heirs(self):
-        """From here on the call looks for bases on line, and for heirs of those that aren't: an object's call in its turn."""
+        """From here on the call looks for bases on line, and for heirs of those that aren't: an object's call in its turn, a function behind its claim."""
         ahead, behind = self.steps[:self.way_from], self.steps[self.way_from:]
         begin = self.step("its first look for a base on line", turn=behind[0].turn, needs=("way begins", self.label, tuple(self.ways)))
-        self.steps = [*ahead, begin, behind[0]._replace(turn=None), *behind[1:]]
+        self.steps, self.ways = [*ahead, begin, behind[0]._replace(turn=None), *behind[1:]], []
 
     # ---- timers
 
@@ -125,7 +125,10 @@ class CallSteps(ObjectSteps):
             self.need(line.fields["interval"] == declared.number, f"{line.says()}, has another interval than its timer")
             self.enter(line)
         elif declared.callback == "starts" and (self.is_next(timer, "start") or self.is_next(timer, "out")):
+            self.way_from = len(self.steps)
             self.start(timer, "rel", declared.number, 0, declared.base)
+            if self.ways:
+                self.look_for_heirs()
         elif declared.callback != "once":
             self.callback_look(timer, declared.callback, generation)
 

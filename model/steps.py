@@ -124,9 +124,10 @@ class Steps:
         self.need(lines[0].number <= self.h.script.limit, f"{lines[0].says()}, comes when the history is full")
         self.need([it.number for it in lines] == list(range(lines[0].number, line.number + 1)), f"{line.says()}, isn't just behind its moves")
         finds = self.finds_of(base, [it.fields["base"] for it in sent], line)
-        for out in sent:
+        for at, out in enumerate(sent):
             self.find(finds)
-            self.enter(out)
+            # Who brings a timer to a base sends it on under that base's lock.
+            self.enter(out, needs=("heir", sent[at - 1].fields["base"], out.fields["base"]) if at else None)
         self.find(finds)
         self.enter(line, needs=("online", given["base"]))
         return lines[0], line

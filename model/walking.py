@@ -65,6 +65,8 @@ class Walk:
             return self.has_found(*self.ways[on], rest[0])
         if kind == "online":
             return self.heir(on) is None
+        if kind == "heir":
+            return self.heir(on) == rest[0]
         if kind == "might":
             return self.heir(on) is None and self.heir(rest[0]) is None
         if kind in ("claim", "done"):

@@ -1,4 +1,4 @@
-"""Twenty-seven records that no order of all moves explains, each beside one of the same script that fits. In both each list by itself is a right history, and
+"""Twenty-nine records that no order of all moves explains, each beside one of the same script that fits. In both each list by itself is a right history, and
 each call did what its words say: what is wrong shows only where the lists are put beside each other."""
 from typing import NamedTuple, Tuple
 
@@ -359,6 +359,33 @@ PAIRS = [
             ),
             ("call 1 0 started 2 1 0", "call 1 0 started 3 0 0"),
         ),
+        ("1 0",),
+    ),
+    Pair(
+        "a start sends its timer on from a base that goes off line and on line before the timer comes there",
+        script(["raw 0 monotonic once"], ["0 offline 1 0 4", "0 online 1", "0 peek 0", "1 start 0 abs 50 1"], version=2, bases=2),
+        record(
+            "base 1 1 0 0 offline 0", "base 1 2 0 1 online", "timer 0 1 1 0 out 1 0", "timer 0 2 1 0 start abs 50 0 0 1 1 monotonic 50 50 0",
+            "call 0 0 off 0 1", "call 0 1 on 2", "call 0 2 peek 0 0 0 0 0", "call 1 0 started 2 1 0", version=2,
+        ),
+        (
+            (
+                "timer 0 2 1 0 start abs 50 0 0 1 1 monotonic 50 50 0",
+                "timer 0 2 1 0 out 0 0\ntimer 0 3 1 0 start abs 50 0 0 0 0 monotonic 50 50 0",
+            ),
+            ("call 1 0 started 2 1 0", "call 1 0 started 3 0 0"),
+        ),
+        ("1 0",),
+    ),
+    Pair(
+        "a function starts its timer for a base that went off line before its claim, and within its run",
+        script(["raw 0 monotonic starts 50 1"], ["0 offline 1 0 4", "0 start 0 abs 0 0", "1 expire 0 4"], version=2, bases=2),
+        record(
+            "base 1 1 0 0 offline 0", "timer 0 1 0 1 start abs 0 0 0 0 0 monotonic 0 0 0", "timer 0 2 1 0 claim 0 0 1",
+            "timer 0 3 1 0 start rel 50 0 0 0 0 monotonic 50 50 0", "timer 0 4 1 0 finish again 1 none",
+            "call 0 0 off 0 1", "call 0 1 started 1 0 0", "call 1 0 done 1 0 0", version=2,
+        ),
+        (("timer 0 3 1 0 start rel 50 0 0 0 0 monotonic 50 50 0", "timer 0 3 1 0 start rel 50 0 0 1 0 monotonic 50 50 0"),),
         ("1 0",),
     ),
     Pair(
