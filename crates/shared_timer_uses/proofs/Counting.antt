@@ -4,7 +4,7 @@ use Rattle.std.proofs.lemmas.Bool.{ne_eqb}
 use Rattle.pass_names.specs.Counts.{count, one_if}
 use Rattle.pass_names.specs.Passes.{is_place, places}
 use Rattle.pass_names.proofs.Counts.{total-append}
-use Rattle.pass_names.proofs.Passes.{begins_refl, begins_trans, places_of_one}
+use Rattle.pass_names.proofs.Passes.{begins_trans, places_of_one}
 use Rattle.seq_timer.specs.Events.{Asked}
 use Rattle.seq_timer.specs.declared.observation.Peek.{Peek}
 use Rattle.seq_timer.specs.declared.system.SystemEntry.{SystemEntry}
