@@ -68,7 +68,7 @@ pub record HoldsLock (lock : LockOf) (slot : Option SeatOfQueue) (seat : SeatOfL
   pub me : seat.me ≡ (record { of = lock.of; holds = true; past = New }, (0, slot) ∷ [])
 
 -- the seat came when somebody else had the end
-pub record WasRefused (lock : LockOf) (seat : SeatOfLock) : Type 0 where
+pub record FoundLent (lock : LockOf) (seat : SeatOfLock) : Type 0 where
   pub same : seat.table_id ≡ lock.id
   pub me : seat.me ≡ (idle_lock_view Refused lock.of, [])
 

@@ -1,7 +1,7 @@
 //! The lock by which an end of a queue is lent: a word, 1 while the end is lent, and a slot in which the end lies while it isn't.
 ghost use Rattle.std.specs.Prelude.{◌≡◌, IfErr, IfOk, Option, Some, None};
 ghost use Rattle.signal_queue.specs.Ends.{SeatOfQueue};
-ghost use Rattle.signal_queue.specs.Locks.{HasGivenBack, HoldsLock, WasRefused};
+ghost use Rattle.signal_queue.specs.Locks.{FoundLent, HasGivenBack, HoldsLock};
 
 use crate::ends::Side;
 use crate::pass::QueueSeat;
@@ -134,7 +134,7 @@ impl<S: Side> EndLock<S> {
     /// One try to take the end. Where there is none, the seat is one that came when somebody else had it.
     fn try_take(&self) -> Result<(QueueSeat, Hold), LockSeat>
         ensures taken { IfOk result (λ r. S.is_end self.now.of r.0 × HoldsLock self.now None r.1) }
-        ensures refused { IfErr result (λ seat. WasRefused self.now seat) }
+        ensures refused { IfErr result (λ seat. FoundLent self.now seat) }
     {
         let Hold { mut seat } = self.try_lock()?;
         match self.exchange(&mut seat, None) {
@@ -146,7 +146,7 @@ impl<S: Side> EndLock<S> {
     /// One try to take the lock, which then has the end in its slot.
     fn try_lock(&self) -> Result<Hold, LockSeat>
         ensures taken { IfOk result (λ hold. (end : SeatOfQueue) × (S.is_end self.now.of end × HoldsLock self.now (Some end) hold)) }
-        ensures refused { IfErr result (λ seat. WasRefused self.now seat) }
+        ensures refused { IfErr result (λ seat. FoundLent self.now seat) }
     {
         let shared = &self.table.shared;
         let (word, seat) = shared.load_new_seat::<Sees>(0);
