@@ -26,8 +26,8 @@ fn give_and_take_back<R: Threads + Wait + Sync>(
 /// No wake is lost between two threads: else both would sleep for ever, and the test's time would run out.
 #[test]
 fn two_threads_lose_no_wake(rt: HostRuntime) -> Result<(), Fail> {
-    let done = give_and_take_back(&rt, rt.alloc(), 100_000)?;
-    assert_equal(&rt, done, 100_000);
+    let done = give_and_take_back(&rt, rt.alloc(), 1_000_000)?;
+    assert_equal(&rt, done, 1_000_000);
     Ok(())
 }
 
@@ -38,10 +38,10 @@ fn sixteen_threads_lose_no_wake(rt: HostRuntime) -> Result<(), Fail> {
         &rt,
         rt.alloc(),
         8,
-        &|_| give_and_take_back(&rt, rt.alloc(), 10_000),
+        &|_| give_and_take_back(&rt, rt.alloc(), 100_000),
     )?;
     for count in &counts {
-        assert_equal(&rt, *count, Ok(10_000));
+        assert_equal(&rt, *count, Ok(100_000));
     }
     Ok(())
 }
