@@ -37,9 +37,13 @@ pub record IsBasePassOf (r : BaseRowOf) (p : BasePassOf) : Type 0 where
   pub row : p.row ≡ r.id
   pub about : p.knows.opening ≡ r.about
 
--- what a row of so many bases, of timers that are declared so, and of so many counters begins with
+-- what a row of so many bases, of timers that are declared so, of so many counters, and of rings with so much room begins with
+abbrev pub opening_ringed : ℕ → List Declared → Terms → ℕ → List ℕ → Opening
+opening_ringed bases declareds terms counters rings = record { bases = bases; timers = openings declareds terms; counters = counters; rings = rings }
+
+-- the same without rings
 abbrev pub opening_with : ℕ → List Declared → Terms → ℕ → Opening
-opening_with bases declareds terms counters = record { bases = bases; timers = openings declareds terms; counters = counters }
+opening_with bases declareds terms counters = opening_ringed bases declareds terms counters []
 
 -- the same without counters
 abbrev pub opening_of : ℕ → List Declared → Terms → Opening

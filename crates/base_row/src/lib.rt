@@ -9,6 +9,7 @@ mod laws;
 mod log;
 mod parts;
 mod plays;
+mod rings;
 mod row;
 mod slot;
 mod slots;

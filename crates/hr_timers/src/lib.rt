@@ -14,6 +14,7 @@ mod laws;
 mod logged;
 mod moving;
 mod numbers;
+mod rings;
 mod starting;
 mod timers;
 mod tokens;

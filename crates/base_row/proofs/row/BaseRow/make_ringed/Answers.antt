@@ -1,7 +1,7 @@
 use Rattle.std.proofs.Common.{sym, subst}
 use Rattle.base_row.specs.Calls.{AreFresh}
 use Rattle.seq_timer.proofs.Agreement.{all_fresh, rooms_within}
-use Rattle.base_row.proofs.row.BaseRow.make_counting.Goals as goal
+use Rattle.base_row.proofs.row.BaseRow.make_ringed.Goals as goal
 
 pub with_timers-requires-clause-fresh : goal.with_timers-requires-clause-fresh
 with_timers-requires-clause-fresh c =
