@@ -1,13 +1,13 @@
 -- Before an expiry and a return that are no misfits there were timers that agree with what was known.
-use Rattle.std.proofs.Common.{◌≡◌, ◌≢◌, ℕ, true, false, not, Option, Some, None, List, refl, sym, ap, subst, ◌∙◌, inl, inr, nat_eq}
+use Rattle.std.proofs.Common.{◌≡◌, ◌≢◌, ℕ, Bool, true, false, not, ◌&&◌, ◌||◌, ◌⊎◌, if◌then◌else◌, Option, Some, None, List, refl, sym, ap, subst, ◌∙◌, inl, inr, nat_eq}
 use Rattle.std.specs.Prelude.{IfSome, is_some}
 use Rattle.std.specs.List.{AllByRecursion}
-use Rattle.std.proofs.lemmas.Bool.{and_parts, both_ways, cases_eq, eqb-true, ltb-false, not-false}
+use Rattle.std.proofs.lemmas.Bool.{both_ways, cases_Bool, cases_eq, eqb-true, false_from_ne_true, ltb-false, not-false}
 use Rattle.ktime.specs.declared.clock_id.ClockId.{ClockId}
 use Rattle.seq_timer.specs.declared.context.Context.{Context}
+use Rattle.seq_timer.specs.declared.context.Context.TheVariants as contexts
 use Rattle.seq_timer.specs.Systems.{updated}
-use Rattle.seq_timer.specs.Tables.{is_context, rank}
-use Rattle.seq_timer.proofs.Contents.{same_context}
+use Rattle.seq_timer.specs.Tables.{rank}
 use Rattle.seq_timer.proofs.Systems.{updated_here, updated_else}
 use Rattle.trace_text.specs.declared.event.KernelEvent.TheVariants as kernel
 use Rattle.trace_text.specs.declared.event.Site.{Site}
@@ -18,80 +18,217 @@ use Rattle.trace_check.specs.declared.known.FunctionKnown.{FunctionKnown}
 use Rattle.trace_check.specs.declared.known.FunctionKnown.TheVariants as functions
 use Rattle.trace_check.specs.declared.known.HalfKnown.{HalfKnown}
 use Rattle.trace_check.specs.declared.known.HalfKnown.TheVariants as halves
+use Rattle.trace_check.specs.declared.known.KnownProcessor.{KnownProcessor}
 use Rattle.trace_check.specs.declared.known.KnownTimer.{KnownTimer}
-use Rattle.trace_check.specs.Knowledge.{Knowledge, claim_by, known_entered, known_exited, misfit, misfits_of, half_number, home_after, is_passed, is_untold, learned, may_run, soft_of, with_claim}
+use Rattle.trace_check.specs.Knowledge.{Knowledge, claim_by, closed, closed_in, entered_there, exited_there, half_without, home_after, is_inside, is_passed, is_untold, known_entered, known_exited, known_outer, learned, left_by, left_for, may_be_left, may_run, misfit, misfits_of, outer_by, soft_of, with_claim, with_outer, without}
 use Rattle.trace_check.specs.Traced.{is_ahead, context_at}
-use Rattle.trace_check.proofs.Plain.{IsEntered, IsExited, Plain, PlainTimers}
-use Rattle.trace_check.proofs.Agreement.{Agrees, AgreesAt, Allows, ArmedAs, HasTurnBefore, RunsAs, Sound, SoundFunction}
-use Rattle.trace_check.proofs.Parts.{AreAlone, all_fail, context_same, half_number-injective, home_same, turns_from-none, waits_without}
-use Rattle.trace_check.proofs.Forth.{elsewhere, same_half}
-use Rattle.trace_check.proofs.Before.{Led, agree_before, alone_before, armed_before, at_before, at_rest, before, else_known, hard_of, here_known, home_is, if_unarmed, no_home, rest_agrees, spared_before, still_moves}
+use Rattle.trace_check.proofs.Plain.{HasTurn, IsEntered, IsExited, IsHidden, LeavesOne, Plain, PlainTimers, RunsOn}
+use Rattle.trace_check.proofs.Agreement.{Agrees, AgreesAt, ArmedAs, HasTurnBefore, Holds, RunsAs, Sound, SoundFunction, half_of, is_open}
+use Rattle.trace_check.proofs.Parts.{IsAs, all_fail, before_entered, before_left, both_untold, elsewhere, hard_soft, home_same, inside_loose, inside_or, inside_soft, is_as, known_as, known_kept, line_known, none_some, outer_of, same_half, turns_from-none, unblocked, untold_half, waits_without, with_context}
+use Rattle.trace_check.proofs.Soundness.{entered_by, outer_is, same_some, same_timer}
+use Rattle.trace_check.proofs.Before.{Led, agree_before, armed_before, at_before, at_rest, before, else_known, hard_of, here_known, home_is, if_unarmed, no_home, not_running, rest_agrees, spared_before}
 
 -- ---- an expiry
 
 -- no earlier expiry passed it, so each had its turn before it
-turns_before : (claims : List OrderedExpiry) (n processor : ℕ) (x : Context) (a : ArmedKnown) (c : Option ClockId) (o : Option ℕ) (p : Plain) (m : ℕ)
-    → is_passed claims (claim_by n processor x a c o) ≡ false → o ≡ Some m → (soft expires : ℕ) → a ≡ arms.Until soft expires → (clock : ClockId) → c ≡ Some clock
-    → p.base ≡ processor → p.context ≡ x → p.clock ≡ clock → p.expires ≡ expires → AllByRecursion (λ q. HasTurnBefore q p m) claims
-turns_before claims n processor x a c o p m fails order soft expires armed clock on at context is until =
-    turns_from-none claims (record { processor = processor; context = x; clock = clock; expires = expires; order = m; at = n }) p m (sym at) (sym context)
+turns_before : (claims : List OrderedExpiry) (n processor : ℕ) (x : Option Context) (a : ArmedKnown) (c : Option ClockId) (o : Option ℕ) (p : Plain) (m : ℕ)
+    → is_passed claims (claim_by n processor x a c o) ≡ false → (y : Context) → x ≡ Some y → o ≡ Some m → (soft expires : ℕ) → a ≡ arms.Until soft expires
+    → (clock : ClockId) → c ≡ Some clock → p.base ≡ processor → p.context ≡ y → p.clock ≡ clock → p.expires ≡ expires
+    → AllByRecursion (λ q. HasTurnBefore q p m) claims
+turns_before claims n processor x a c o p m fails y told order soft expires armed clock on at context is until =
+    turns_from-none claims (record { processor = processor; context = y; clock = clock; expires = expires; order = m; at = n }) p m (sym at) (sym context)
     (ap rank (sym is)) (sym until) refl
-    (subst (λ y. is_passed claims (claim_by n processor x (arms.Until soft expires) (Some clock) y) ≡ false) order
-    (subst (λ y. is_passed claims (claim_by n processor x (arms.Until soft expires) y o) ≡ false) on
-    (subst (λ y. is_passed claims (claim_by n processor x y c o) ≡ false) armed fails)))
+    (subst (λ i. is_passed claims (claim_by n processor (Some y) (arms.Until soft expires) (Some clock) i) ≡ false) order
+    (subst (λ i. is_passed claims (claim_by n processor (Some y) (arms.Until soft expires) i o) ≡ false) on
+    (subst (λ i. is_passed claims (claim_by n processor (Some y) i c o) ≡ false) armed
+    (subst (λ i. is_passed claims (claim_by n processor i a c o) ≡ false) told fails))))
 
 if_some : {A : Type 0} (o : Option A) (x y : A) → IfSome o (λ z. x ≡ z) → o ≡ Some y → x ≡ y
 if_some o x y h is = subst (λ p. IfSome p (λ z. x ≡ z)) is h
 
 -- the expiry stands before those that waited for it
-first_in_turn : (n processor : ℕ) (x : Context) (a : ArmedKnown) (c : Option ClockId) (o : Option ℕ) (claims : List OrderedExpiry) (P : OrderedExpiry → Type 0)
-    (soft expires j : ℕ) (clock : ClockId) → a ≡ arms.Until soft expires → c ≡ Some clock → o ≡ Some j
+first_in_turn : (n processor : ℕ) (x : Option Context) (a : ArmedKnown) (c : Option ClockId) (o : Option ℕ) (claims : List OrderedExpiry)
+    (P : OrderedExpiry → Type 0) (y : Context) (soft expires j : ℕ) (clock : ClockId) → x ≡ Some y → a ≡ arms.Until soft expires → c ≡ Some clock → o ≡ Some j
     → AllByRecursion P (with_claim (claim_by n processor x a c o) claims)
-    → P (record { processor = processor; context = x; clock = clock; expires = expires; order = j; at = n })
-first_in_turn n processor x a c o claims P soft expires j clock armed on order all =
-    let one = subst (λ y. AllByRecursion P (with_claim (claim_by n processor x y c o) claims)) armed all in
-    let two = subst (λ y. AllByRecursion P (with_claim (claim_by n processor x (arms.Until soft expires) y o) claims)) on one in
-    let three = subst (λ y. AllByRecursion P (with_claim (claim_by n processor x (arms.Until soft expires) (Some clock) y) claims)) order two in
+    → P (record { processor = processor; context = y; clock = clock; expires = expires; order = j; at = n })
+first_in_turn n processor x a c o claims P y soft expires j clock told armed on order all =
+    let zero = subst (λ i. AllByRecursion P (with_claim (claim_by n processor i a c o) claims)) told all in
+    let one = subst (λ i. AllByRecursion P (with_claim (claim_by n processor (Some y) i c o) claims)) armed zero in
+    let two = subst (λ i. AllByRecursion P (with_claim (claim_by n processor (Some y) (arms.Until soft expires) i o) claims)) on one in
+    let three = subst (λ i. AllByRecursion P (with_claim (claim_by n processor (Some y) (arms.Until soft expires) (Some clock) i) claims)) order two in
     three.0
 
-not_running : false ≡ true → ⊥
-not_running e = absurd cc
+-- a timer of which it was learned that it is soft
+soft_as : (known : Option Context) (y : Context) → y ≡ contexts.Soft → (known ≡ Some contexts.Hard → ⊥) → IsAs known y
+soft_as None y is other = tt
+soft_as (Some contexts.Hard) y is other = absurd (other refl)
+soft_as (Some contexts.Soft) y is other = is
+
+outer_before : (there : ℕ → KnownProcessor) (claims : List OrderedExpiry) (f : ℕ → KnownTimer) (o : Option ℕ) (v : ℕ) (p : Plain)
+    → AgreesAt there claims (with_outer o f v) p → (o ≡ Some v → (f v).context ≡ Some contexts.Hard → ⊥) → AgreesAt there claims (f v) p
+outer_before there claims f None v p a other = a
+outer_before there claims f (Some u) v p a other = elim (cases_eq v u) [
+  | inl same ↦
+      let is = ap Some (sym same) in
+      let b = subst (λ k. AgreesAt there claims k p) (outer_is (Some u) f v is) a in
+      with_context there claims (known_outer (f v)) (f v).context p b (soft_as (f v).context p.context b.context (other is))
+  | inr not_same ↦ subst (λ k. AgreesAt there claims k p) (updated_else f u v (known_outer (f u)) not_same) a
+]
+
+-- what is so of a function that runs since the recording began, where another one has begun
+record IsLeft (inside : Bool) (line : Option Context) (there : KnownProcessor) (y : Context) : Type 0 where
+  soft : y ≡ contexts.Soft
+  outside : inside ≡ false
+  told : line ≡ Some contexts.Soft → ⊥
+  open_ : there.soft ≡ halves.Untold
+
+taken_untold : {t : ℕ} → halves.Taken t ≡ halves.Untold → ⊥
+taken_untold e = absurd cc
+
+free_untold : halves.Free ≡ halves.Untold → ⊥
+free_untold e = absurd cc
+
+closed_untold : (h : HalfKnown) → closed h ≡ halves.Untold → ⊥
+closed_untold halves.Untold is = free_untold is
+closed_untold halves.Free is = free_untold is
+closed_untold (halves.Taken t) is = taken_untold is
+
+left_there : (inside : Bool) (t : ℕ) (line : Option Context) (there : KnownProcessor) (y : Context) → half_of (entered_by inside t line there) y ≡ halves.Untold
+    → IsLeft inside line there y
+left_there true t line there contexts.Hard is = absurd (taken_untold is)
+left_there true t line there contexts.Soft is = absurd (closed_untold there.soft is)
+left_there false t None there contexts.Hard is = absurd (free_untold is)
+left_there false t None there contexts.Soft is = record { soft = refl; outside = refl; told = λ e. none_some refl e; open_ = is }
+left_there false t (Some contexts.Hard) there contexts.Hard is = absurd (taken_untold is)
+left_there false t (Some contexts.Hard) there contexts.Soft is = record { soft = refl; outside = refl; told = λ e. hard_soft refl (same_context_of e); open_ = is }
+  where
+    same_context_of : {x y : Context} → Some x ≡ Some y → x ≡ y
+    same_context_of e = cc
+left_there false t (Some contexts.Soft) there contexts.Hard is = absurd (free_untold is)
+left_there false t (Some contexts.Soft) there contexts.Soft is = absurd (taken_untold is)
+
+not_open : (inside : Bool) (t : ℕ) (line : Option Context) (there : KnownProcessor) → is_open (entered_by inside t line there) ≡ false
+not_open true t line there = refl
+not_open false t None there = refl
+not_open false t (Some contexts.Hard) there = refl
+not_open false t (Some contexts.Soft) there = refl
+
+-- a function whose expiry was shown is known to run
+shown_runs : (f : FunctionKnown) (p : Plain) (c : ℕ) → RunsAs f p → RunsOn c p → p.shown ≡ true → f ≡ functions.Runs c
+shown_runs functions.Untold p c is run shown = absurd (both_ways p.shown (is run.running) shown)
+shown_runs functions.Rests p c is run shown = absurd (both_ways p.running is run.running)
+shown_runs (functions.Runs d) p c is run shown = ap (λ e. functions.Runs e) (sym is.1 ∙ run.at)
+
+holds_by : (there : ℕ → KnownProcessor) (t : ℕ) (known : KnownTimer) (f : FunctionKnown) (c : ℕ) → SoundFunction there t known f → f ≡ functions.Runs c
+    → Holds (there c) t
+holds_by there t known functions.Untold c s is = absurd cc
+holds_by there t known functions.Rests c s is = absurd cc
+holds_by there t known (functions.Runs d) c s is = subst (λ e. Holds (there e) t) (same_runs is) s.0
+  where
+    same_runs : {a b : ℕ} → functions.Runs a ≡ functions.Runs b → a ≡ b
+    same_runs e = cc
+
+told_some : (line : Option Context) → is_some line ≡ true → (y : Context) × (line ≡ Some y)
+told_some None is = absurd (not_running is)
+told_some (Some y) is = (y, refl)
+
+or_right : (a b : Bool) → a ≡ false → a || b ≡ true → b ≡ true
+or_right false b is both = both
+or_right true b is both = absurd (not_running (sym is))
+
+-- what runs where a function has begun: one whose expiry was shown, in the soft context or in an untold one, or one since the recording began
+record RunsAround (k : Knowledge) (c u : ℕ) : Type 0 where
+  inside : is_inside (k.processors c) ≡ true
+  place : ((k.processors c).soft ≡ halves.Taken u) ⊎ ((k.processors c).loose ≡ Some u)
+
+runs_around : (k : Knowledge) (c u : ℕ) → Sound k → ((v : ℕ) → (k.processors c).hard ≡ halves.Taken v → ⊥) → (k.timers u).function ≡ functions.Runs c
+    → RunsAround k c u
+runs_around k c u s free is = elim (holds_by k.processors u (k.timers u) (k.timers u).function c (s.each u).function is) [
+  | inl hard ↦ absurd (free u hard)
+  | inr rest ↦ elim rest [
+    | inl soft ↦ record { inside = inside_soft (k.processors c) u soft; place = inl soft }
+    | inr loose ↦ record { inside = inside_loose (k.processors c) u loose; place = inr loose }
+  ]
+]
+
+one_around : (k : Knowledge) (c u v : ℕ) → Sound k → RunsAround k c u → RunsAround k c v → u ≡ v
+one_around k c u v s a b = elim a.place [
+  | inl soft_u ↦ elim b.place [ inl soft_v ↦ same_timer (sym soft_u ∙ soft_v) | inr loose_v ↦ absurd ((s.places c).apart u v soft_u loose_v) ]
+  | inr loose_u ↦ elim b.place [ inl soft_v ↦ absurd ((s.places c).apart v u soft_v loose_u) | inr loose_v ↦ same_some (sym loose_u ∙ loose_v) ]
+]
 
 pub back_entry : (k : Knowledge) (w' : PlainTimers) (t : ℕ) (site : Site) (now : ℕ) → Sound k → misfit k (kernel.Entry t site now) ≡ None
     → Agrees (learned k (kernel.Entry t site now)) w' → Led k (kernel.Entry t site now) w'
 back_entry k w' t site now s none a =
     let fails = all_fail (misfits_of k (kernel.Entry t site now)) none in
     let known = k.timers t in
-    let x = context_at site.context known.context in
-    let h = half_number site.processor x in
-    let half' = updated k.halves h (halves.Taken t) in
-    let claims' = with_claim (claim_by k.count site.processor x known.armed known.clock known.order) k.claims in
-    let new = here_known half' claims' k.timers t (known_entered site known) (w' t) (a.each t) in
-    let there : (w' t).context ≡ x = new.function.2 in
-    let old = at_rest known true (w' t).clock (w' t).context site.processor in
-    let others : (u : ℕ) → u ≢ t → AgreesAt half' claims' u (k.timers u) (w' u) = λ u other. else_known half' claims' k.timers t u _ (w' u) other (a.each u) in
-    let alone_there : (u : ℕ) → u ≢ t → (w' u).running ≡ true → (w' u).base ≡ site.processor → (w' u).context ≡ x → ⊥ =
-    λ u other run at context. other (a.alone u t run new.function.0 (at ∙ sym new.function.1) (context ∙ sym there)) in (
+    let c = site.processor in
+    let there = k.processors c in
+    let inside = is_inside there in
+    let line = context_at site.context known.told in
+    let context = context_at site.context known.context in
+    let free = unblocked context (outer_by there.loose k.timers) there fails.1.1.1.1.1.0 in
+    let f = with_outer there.loose k.timers in
+    let entered = entered_there t line there in
+    let new_there = updated k.processors c entered in
+    let new_claims = with_claim (claim_by k.count c line known.armed known.clock known.order) k.claims in
+    let new = here_known new_there new_claims f t (known_entered site inside known) (w' t) (a.each t) in
+    let not_soft : inside ≡ true → context ≡ Some contexts.Soft → ⊥ = λ is soft. elim (outer_of there is) [
+      | inl by ↦ free.around by.0 soft by.1
+      | inr by ↦ free.loose by.0 soft by.1
+    ] in
+    let context_is : IsAs context (w' t).context = before_entered inside context (w' t).context not_soft new.context in
+    let line_is : IsAs line (w' t).context =
+    known_as line context (w' t).context (line_known site.context known.told known.context fails.1.1.1.0 (s.each t).told) context_is in
+    let old = at_rest known true (w' t).clock (w' t).context c (is_some line) in
+    let was = updated_here w' t old in
+    let learned_of : (u : ℕ) → u ≢ t → AgreesAt new_there new_claims (f u) (w' u) = λ u other. else_known new_there new_claims f t u _ (w' u) other (a.each u) in
+    let others : (u : ℕ) → u ≢ t → AgreesAt new_there new_claims (k.timers u) (w' u) = λ u other.
+    outer_before new_there new_claims k.timers there.loose u (w' u) (learned_of u other)
+    (λ is hard. free.inside u (ap (λ o. outer_by o k.timers) is ∙ hard) is) in
+    let left : (u : ℕ) → u ≢ t → IsHidden c (w' u) → IsLeft inside line there (w' u).context = λ u other hidden.
+    left_there inside t line there (w' u).context (ap (λ p. half_of p (w' u).context) (sym (updated_here k.processors c entered))
+    ∙ same_half new_there (sym hidden.runs.at) refl ∙ (others u other).hidden hidden.runs.running hidden.shown) in
+    let around : (u : ℕ) → u ≢ t → RunsOn c (w' u) → (w' u).shown ≡ true → RunsAround k c u = λ u other run shown.
+    runs_around k c u s free.hard (shown_runs (k.timers u).function (w' u) c (others u other).function run shown) in
+    let else_runs : (d u : ℕ) → RunsOn d (before w' t old u) → (u ≢ t) × RunsOn d (w' u) = λ d u run. elim (cases_eq u t) [
+      | inl same ↦ absurd (not_running (sym (ap (λ p. p.running) was) ∙ ap (λ v. (before w' t old v).running) (sym same) ∙ run.running))
+      | inr other ↦ (other, subst (λ p. RunsOn d p) (updated_else w' t u old other) run)
+    ] in
+    let else_hidden : (d u : ℕ) → IsHidden d (before w' t old u) → IsHidden d (w' u) = λ d u hidden.
+    let by = else_runs d u hidden.runs in subst (λ p. IsHidden d p) (updated_else w' t u old by.0) hidden in (
       before w' t old,
       agree_before k w' t old
-          (rest_agrees k.halves k.claims t known true _ _ _ (armed_before known (w' t).clock (w' t).context site.processor known.armed refl fails.1.0) fails.0
-          (home_same known.home site.processor site.processor fails.1.1.0 refl) new.clock (context_same known.context x (w' t).context fails.1.1.1.0 there)
-          (λ m some.
+          (rest_agrees k.processors k.claims known true _ _ _ (is_some line)
+          (armed_before known (w' t).clock (w' t).context c (is_some line) known.armed refl fails.1.0) fails.0
+          (home_same known.home c c fails.1.1.0 refl) new.clock
+          (known_as known.context context (w' t).context (known_kept site.context known.context fails.1.1.1.0) context_is)
+          (λ m some tells.
           let o = (s.each t).order m some in
-          turns_before k.claims k.count site.processor x known.armed known.clock known.order old m fails.1.1.1.1.1.1.0 some o.armed.0 o.armed.1 o.armed.2
-          o.clock.0 o.clock.1 refl there (if_some known.clock (w' t).clock o.clock.0 new.clock o.clock.1) (ap hard_of o.armed.2)))
-          (λ u other. elsewhere half' k.halves claims' k.claims u (k.timers u) (w' u) (others u other)
-          (λ run. subst (λ y. Allows y u) (updated_else k.halves h (half_number (w' u).base (w' u).context) (halves.Taken t)
-          (λ same. let is = half_number-injective (w' u).base site.processor (w' u).context x same in alone_there u other run is.0 is.1))
-          ((others u other).allowed run))
-          (λ m some. waits_without k.count site.processor x known.armed known.clock known.order k.claims _ ((others u other).waits m some)))
-          (alone_before w' t old (still_moves old (w' t) refl) a.alone),
+          let told = told_some line tells in
+          turns_before k.claims k.count c line known.armed known.clock known.order old m fails.1.1.1.1.1.1.0 told.0 told.1 some o.armed.0 o.armed.1 o.armed.2
+          o.clock.0 o.clock.1 refl (is_as line told.0 (w' t).context line_is told.1)
+          (if_some known.clock (w' t).clock o.clock.0 new.clock o.clock.1) (ap hard_of o.armed.2)))
+          (λ u other. elsewhere new_there k.processors new_claims k.claims (k.timers u) (w' u) (others u other)
+          (λ run shown. elim (cases_eq (w' u).base c) [
+            | inl at ↦
+                let l = left u other (record { runs = record { running = run; at = at }; shown = shown }) in
+                same_half k.processors at l.soft ∙ l.open_
+            | inr at ↦ ap (λ p. half_of p (w' u).context) (sym (updated_else k.processors c (w' u).base entered at)) ∙ (others u other).hidden run shown
+          ])
+          (λ m some tells. waits_without k.count c line known.armed known.clock known.order k.claims _ ((others u other).waits m some tells)))
+          (λ d u v told hidden_u hidden_v. a.alone d u v (elim (cases_eq d c) [
+            | inl same ↦ ap (λ e. is_open (new_there e)) same ∙ ap (λ p. is_open p) (updated_here k.processors c entered) ∙ not_open inside t line there
+            | inr other ↦ ap (λ p. is_open p) (updated_else k.processors c d entered other) ∙ told
+          ]) (else_hidden d u hidden_u) (else_hidden d v hidden_v)),
       (
         at_before (λ p. IsEntered site now p (w' t)) w' t old (record {
           keeps = record { clock = refl; context = refl; clocked = new.clocked };
           told = new.told;
           order = new.order;
-          context = there;
+          tells = refl;
+          shown = new.function.2;
+          context = line_is;
           armed = refl;
           rests = refl;
           at = refl;
@@ -100,176 +237,328 @@ back_entry k w' t site now s none a =
           runs = new.function.0;
           base = new.function.1;
         }),
-        record {
-          free = λ u context run at. elim (cases_eq u t) [
-            | inl same ↦ absurd (not_running (sym (ap (λ p. p.running) (updated_here w' t old)) ∙ ap (λ v. (before w' t old v).running) (sym same) ∙ run))
-            | inr other ↦
-                let is = updated_else w' t u old other in
-                alone_there u other (ap (λ p. p.running) (sym is) ∙ run) (ap (λ p. p.base) (sym is) ∙ at)
-                (ap (λ p. p.context) (sym is) ∙ context ∙ ap (λ p. p.context) (updated_here w' t old) ∙ there)
-          ];
-          first = λ u m n other order_t order_u context armed at clock.
+        subst (λ p. HasTurn (before w' t old) (context_at site.context p.told) c t) (sym was) (record {
+          alone = λ u v run_u run_v.
+              let one = else_runs c u run_u in
+              let two = else_runs c v run_v in
+              elim (cases_Bool (w' u).shown) [
+                | inl shown_u ↦
+                    let around_u = around u one.0 one.1 shown_u in
+                    elim (cases_Bool (w' v).shown) [
+                      | inl shown_v ↦ one_around k c u v s around_u (around v two.0 two.1 shown_v)
+                      | inr hidden_v ↦ absurd (both_ways inside (left v two.0 (record { runs = two.1; shown = hidden_v })).outside around_u.inside)
+                    ]
+                | inr hidden_u ↦ elim (cases_Bool (w' v).shown) [
+                  | inl shown_v ↦ absurd (both_ways inside (left u one.0 (record { runs = one.1; shown = hidden_u })).outside (around v two.0 two.1 shown_v).inside)
+                  | inr hidden_v ↦ a.alone c u v (ap (λ p. is_open p) (updated_here k.processors c entered) ∙ not_open inside t line there)
+                      (record { runs = one.1; shown = hidden_u }) (record { runs = two.1; shown = hidden_v })
+                ]
+              ];
+          inside = λ u run.
+              let one = else_runs c u run in
+              ap (λ p. p.context) (updated_else w' t u old one.0) ∙ elim (cases_Bool (w' u).shown) [
+                | inl shown ↦ elim (around u one.0 one.1 shown).place [
+                  | inl soft ↦ is_as (k.timers u).context contexts.Soft (w' u).context (others u one.0).context ((s.places c).soft u soft).1
+                  | inr loose ↦ is_as (f u).context contexts.Soft (w' u).context (learned_of u one.0).context (ap (λ i. i.context) (outer_is there.loose k.timers u loose))
+                ]
+                | inr hidden ↦ (left u one.0 (record { runs = one.1; shown = hidden })).soft
+              ];
+          within = λ u run told.
+              let one = else_runs c u run in
+              let is = updated_else w' t u old one.0 in
+              ap (λ p. p.context) was ∙ elim (cases_Bool (w' u).shown) [
+                | inl shown ↦ is_as (inside_or inside context) contexts.Hard (w' t).context new.context
+                    (ap (λ b. inside_or b context) (around u one.0 one.1 shown).inside)
+                | inr hidden ↦
+                    let l = left u one.0 (record { runs = one.1; shown = hidden }) in
+                    hard_told line (w' t).context line_is (or_right (before w' t old u).shown (is_some line) (ap (λ p. p.shown) is ∙ hidden) told) l.told
+              ];
+          first = λ u m n other told tells order_t order_u within armed at clock.
               let is = updated_else w' t u old other in
-              let was = updated_here w' t old in
               let mine : known.order ≡ Some m = ap (λ p. p.order) (sym was) ∙ order_t in
               let o = (s.each t).order m mine in
+              let some = told_some line told in
               let theirs : (w' u).order ≡ Some n = ap (λ p. p.order) (sym is) ∙ order_u in
-              let turn = first_in_turn k.count site.processor x known.armed known.clock known.order k.claims _ o.armed.0 o.armed.1 m o.clock.0
-              o.armed.2 o.clock.1 mine ((others u other).waits n theirs) in
+              let turn = first_in_turn k.count c line known.armed known.clock known.order k.claims _ some.0 o.armed.0 o.armed.1 m o.clock.0
+              some.1 o.armed.2 o.clock.1 mine ((others u other).waits n theirs (ap (λ p. p.tells) (sym is) ∙ tells)) in
               let ahead : is_ahead o.armed.1 m (w' u).expires n ≡ true =
               turn (sym at ∙ ap (λ p. p.base) is)
-              (sym there ∙ ap (λ p. p.context) (sym was) ∙ sym context ∙ ap (λ p. p.context) is)
+              (sym (is_as line some.0 (w' t).context line_is some.1) ∙ ap (λ p. p.context) (sym was) ∙ sym within ∙ ap (λ p. p.context) is)
               (ap rank (sym (if_some known.clock (w' t).clock o.clock.0 new.clock o.clock.1)) ∙ ap (λ p. rank p.clock) (sym was) ∙ sym clock ∙ ap (λ p. rank p.clock) is)
               ((s.each u).order n (sym (others u other).order ∙ theirs)).past in
               subst (λ p. is_ahead p.expires m (before w' t old u).expires n ≡ true) (sym was)
               (subst (λ p. is_ahead (hard_of known.armed) m p.expires n ≡ true) (sym is)
               (subst (λ e. is_ahead e m (w' u).expires n ≡ true) (sym (ap hard_of o.armed.2)) ahead));
-        },
+        }),
         spared_before w' t old,
       ),
     )
+  where
+    hard_told : (line : Option Context) (y : Context) → IsAs line y → is_some line ≡ true → (line ≡ Some contexts.Soft → ⊥) → y ≡ contexts.Hard
+    hard_told None y is told other = absurd (not_running told)
+    hard_told (Some contexts.Hard) y is told other = is
+    hard_told (Some contexts.Soft) y is told other = absurd (other refl)
 
 -- ---- a return
 
+-- the expiry of a function that is known to run was shown
+abbrev was_shown : FunctionKnown → Bool
+was_shown functions.Untold = false
+was_shown functions.Rests = false
+was_shown (functions.Runs c) = true
+
 -- the timer whose function was running
 abbrev before_exit : KnownTimer → ℕ → Plain → Plain
-before_exit known processor new = record new { running = true; base = processor; clocked = is_some known.clock; told = known.context; order = known.order }
+before_exit known processor new = record new {
+  running = true;
+  base = processor;
+  clocked = is_some known.clock;
+  told = known.told;
+  order = known.order;
+  shown = was_shown known.function;
+}
 
 exit_armed : (a : ArmedKnown) (known : KnownTimer) (processor : ℕ) (new : Plain) → ArmedAs a new → ArmedAs a (before_exit known processor new)
 exit_armed arms.Untold known processor new h = tt
 exit_armed arms.No known processor new h = h
 exit_armed (arms.Until soft expires) known processor new h = h
 
-exit_function : (f : FunctionKnown) (known : KnownTimer) (half : HalfKnown) (processor : ℕ) (x : Context) (new : Plain) → not (may_run processor x half f) ≡ false
-    → new.context ≡ x → RunsAs f (before_exit known processor new)
-exit_function functions.Untold known half processor x new fails there = tt
-exit_function functions.Rests known half processor x new fails there = absurd cc
-exit_function (functions.Runs c y) known half processor x new fails there =
-    let both = and_parts (nat_eq c processor) (is_context y x) (not-false _ fails) in
-    (refl, sym (eqb-true c processor both.0), there ∙ sym (same_context y x both.1))
+-- a function that may run on a processor
+abbrev MayRun : ℕ → Option Context → KnownProcessor → FunctionKnown → Type 0
+MayRun processor line there f = not (may_run processor line there f) ≡ false
 
-exit_home : (half : ℕ → HalfKnown) (t : ℕ) (known : KnownTimer) (h : HalfKnown) (processor : ℕ) (x : Context) (new : Plain) (f : FunctionKnown)
-    → not (may_run processor x h f) ≡ false → SoundFunction half t known f → ArmedAs known.armed new
+exit_function : (f : FunctionKnown) (known : KnownTimer) (line : Option Context) (there : KnownProcessor) (processor : ℕ) (new : Plain)
+    → MayRun processor line there f → known.function ≡ f → RunsAs f (before_exit known processor new)
+exit_function functions.Untold known line there processor new may is = λ run. ap was_shown is
+exit_function functions.Rests known line there processor new may is = absurd cc
+exit_function (functions.Runs c) known line there processor new may is = (refl, sym (eqb-true c processor (not-false _ may)), ap was_shown is)
+
+exit_home : (there : ℕ → KnownProcessor) (t : ℕ) (known : KnownTimer) (line : Option Context) (at : KnownProcessor) (processor : ℕ) (new : Plain)
+    (f : FunctionKnown) → MayRun processor line at f → SoundFunction there t known f → ArmedAs known.armed new
     → IfSome known.home (λ b. new.armed ≡ true → processor ≡ b)
-exit_home half t known h processor x new functions.Untold fails s armed = no_home known.home processor new.armed s.0
-exit_home half t known h processor x new functions.Rests fails s armed = absurd cc
-exit_home half t known h processor x new (functions.Runs c y) fails s armed =
-    let both = and_parts (nat_eq c processor) (is_context y x) (not-false _ fails) in
-    elim s.3 [
-      | inl no_arm ↦ if_unarmed known.home processor new.armed (subst (λ a. ArmedAs a new) no_arm armed)
-      | inr home ↦ home_is known.home c processor new.armed home (sym (eqb-true c processor both.0))
-    ]
+exit_home there t known line at processor new functions.Untold may s armed = no_home known.home processor new.armed s.0
+exit_home there t known line at processor new functions.Rests may s armed = absurd cc
+exit_home there t known line at processor new (functions.Runs c) may s armed = elim s.2 [
+  | inl no_arm ↦ if_unarmed known.home processor new.armed (subst (λ a. ArmedAs a new) no_arm armed)
+  | inr home ↦ home_is known.home c processor new.armed home (sym (eqb-true c processor (not-false _ may)))
+]
 
-untold_allows : (half : HalfKnown) (t : ℕ) → is_untold half ≡ true → Allows half t
-untold_allows halves.Untold t is = tt
-untold_allows halves.Free t is = absurd cc
-untold_allows (halves.Taken u) t is = absurd cc
-
-exit_allowed : (half : ℕ → HalfKnown) (h t : ℕ) (known : KnownTimer) (processor : ℕ) (x : Context) (f : FunctionKnown) → not (may_run processor x (half h) f) ≡ false
-    → h ≡ half_number processor x → SoundFunction half t known f → Allows (half h) t
-exit_allowed half h t known processor x functions.Untold fails number s = untold_allows (half h) t (not-false _ fails)
-exit_allowed half h t known processor x functions.Rests fails number s = absurd cc
-exit_allowed half h t known processor x (functions.Runs c y) fails number s =
-    let both = and_parts (nat_eq c processor) (is_context y x) (not-false _ fails) in
-    let there : half_number c y ≡ h = rw (eqb-true c processor both.0, same_context y x both.1) (sym number) in
-    subst (λ z. Allows z t) (sym s.0 ∙ ap half there) refl
-
-exit_stays : (half : ℕ → HalfKnown) (t : ℕ) (known : KnownTimer) (h : HalfKnown) (processor : ℕ) (x : Context) (new : Plain) (f : FunctionKnown)
-    → not (may_run processor x h f) ≡ false → SoundFunction half t known f → ArmedAs known.armed new
+exit_stays : (there : ℕ → KnownProcessor) (t : ℕ) (known : KnownTimer) (line : Option Context) (at : KnownProcessor) (processor : ℕ) (new : Plain)
+    (f : FunctionKnown) → MayRun processor line at f → SoundFunction there t known f → ArmedAs known.armed new
     → IfSome (home_after processor f known.home) (λ b. new.armed ≡ true → new.base ≡ b) → new.armed ≡ true → new.base ≡ processor
-exit_stays half t known h processor x new functions.Untold fails s armed home is = home is
-exit_stays half t known h processor x new functions.Rests fails s armed home is = absurd cc
-exit_stays half t known h processor x new (functions.Runs c y) fails s armed home is =
-    let both = and_parts (nat_eq c processor) (is_context y x) (not-false _ fails) in
-    elim s.3 [
-      | inl no_arm ↦ absurd (both_ways new.armed (subst (λ a. ArmedAs a new) no_arm armed) is)
-      | inr at ↦ (subst (λ o. IfSome o (λ b. new.armed ≡ true → new.base ≡ b)) at home) is ∙ eqb-true c processor both.0
-    ]
+exit_stays there t known line at processor new functions.Untold may s armed home is = home is
+exit_stays there t known line at processor new functions.Rests may s armed home is = absurd cc
+exit_stays there t known line at processor new (functions.Runs c) may s armed home is = elim s.2 [
+  | inl no_arm ↦ absurd (both_ways new.armed (subst (λ a. ArmedAs a new) no_arm armed) is)
+  | inr by ↦ (subst (λ o. IfSome o (λ b. new.armed ≡ true → new.base ≡ b)) by home) is ∙ eqb-true c processor (not-false _ may)
+]
 
-rests_may : (f : FunctionKnown) (processor : ℕ) (x : Context) (half : HalfKnown) → f ≡ functions.Rests → not (may_run processor x half f) ≡ false → ⊥
-rests_may functions.Untold processor x half is fails = absurd cc
-rests_may functions.Rests processor x half is fails = absurd cc
-rests_may (functions.Runs c y) processor x half is fails = absurd cc
+rests_may : (f : FunctionKnown) (processor : ℕ) (line : Option Context) (there : KnownProcessor) → f ≡ functions.Rests → MayRun processor line there f → ⊥
+rests_may functions.Untold processor line there is may = absurd cc
+rests_may functions.Rests processor line there is may = absurd cc
+rests_may (functions.Runs c) processor line there is may = absurd cc
 
--- a function that was running was alone, where no other one runs after it
-alone_exited : (w' : PlainTimers) (t : ℕ) (old : Plain) (x : Context) (processor : ℕ) → old.base ≡ processor → old.context ≡ x
-    → ((u : ℕ) → u ≢ t → (w' u).running ≡ true → (w' u).base ≡ processor → (w' u).context ≡ x → ⊥) → AreAlone w' → AreAlone (before w' t old)
-alone_exited w' t old x processor at context not_there alone u v run_u run_v base same =
-    let here = updated_here w' t old in
-    elim (cases_eq u t) [
-      | inl u_is ↦ elim (cases_eq v t) [
-        | inl v_is ↦ u_is ∙ sym v_is
-        | inr v_other ↦
-            let is = updated_else w' t v old v_other in
-            absurd (not_there v v_other (ap (λ p. p.running) (sym is) ∙ run_v)
-            (ap (λ p. p.base) (sym is) ∙ sym base ∙ ap (λ i. (before w' t old i).base) u_is ∙ ap (λ p. p.base) here ∙ at)
-            (ap (λ p. p.context) (sym is) ∙ sym same ∙ ap (λ i. (before w' t old i).context) u_is ∙ ap (λ p. p.context) here ∙ context))
-      ]
-      | inr u_other ↦
-          let is_u = updated_else w' t u old u_other in
-          elim (cases_eq v t) [
-            | inl v_is ↦ absurd (not_there u u_other (ap (λ p. p.running) (sym is_u) ∙ run_u)
-                (ap (λ p. p.base) (sym is_u) ∙ base ∙ ap (λ i. (before w' t old i).base) v_is ∙ ap (λ p. p.base) here ∙ at)
-                (ap (λ p. p.context) (sym is_u) ∙ same ∙ ap (λ i. (before w' t old i).context) v_is ∙ ap (λ p. p.context) here ∙ context))
-            | inr v_other ↦
-                let is_v = updated_else w' t v old v_other in
-                alone u v (ap (λ p. p.running) (sym is_u) ∙ run_u) (ap (λ p. p.running) (sym is_v) ∙ run_v)
-                (ap (λ p. p.base) (sym is_u) ∙ base ∙ ap (λ p. p.base) is_v) (ap (λ p. p.context) (sym is_u) ∙ same ∙ ap (λ p. p.context) is_v)
-          ]
-    ]
+untold_by : (f : FunctionKnown) (processor : ℕ) (line : Option Context) (there : KnownProcessor) → MayRun processor line there f → was_shown f ≡ false
+    → f ≡ functions.Untold
+untold_by functions.Untold processor line there may shown = refl
+untold_by functions.Rests processor line there may shown = absurd cc
+untold_by (functions.Runs c) processor line there may shown = absurd (not_running (sym shown))
+
+-- in which context a function may have run that returns now, where nothing was known of it
+open_none : (there : KnownProcessor) (y : Context) (a b : Bool) → is_untold there.hard ≡ a → is_untold there.soft ≡ b → a || b ≡ true
+    → IsAs (if a then (if b then None else Some contexts.Hard) else Some contexts.Soft) y → half_of there y ≡ halves.Untold
+open_none there contexts.Hard true b hard soft may is = untold_half there.hard hard
+open_none there contexts.Soft true true hard soft may is = untold_half there.soft soft
+open_none there contexts.Soft true false hard soft may is = absurd (hard_soft is refl)
+open_none there contexts.Hard false b hard soft may is = absurd (hard_soft refl is)
+open_none there contexts.Soft false b hard soft may is = untold_half there.soft (soft ∙ may)
+
+open_by : (line : Option Context) (there : KnownProcessor) (y : Context) → may_be_left line there ≡ true → IsAs line y
+    → (line ≡ None → IsAs (left_by there.hard there.soft) y) → half_of there y ≡ halves.Untold
+open_by None there y may told left = open_none there y (is_untold there.hard) (is_untold there.soft) refl refl may (left refl)
+open_by (Some contexts.Hard) there y may told left = ap (half_of there) told ∙ untold_half there.hard may
+open_by (Some contexts.Soft) there y may told left = ap (half_of there) told ∙ untold_half there.soft may
+
+-- where only one context is left for it, that is closed now
+closing_none : (there : KnownProcessor) (a b : Bool) → is_untold there.hard ≡ a → is_untold there.soft ≡ b → a || b ≡ true → a && b ≡ false
+    → (z : Context) × ((if a then (if b then None else Some contexts.Hard) else Some contexts.Soft) ≡ Some z) × (half_of there z ≡ halves.Untold)
+closing_none there true true hard soft may not_both = absurd (not_running (sym not_both))
+closing_none there true false hard soft may not_both = (contexts.Hard, refl, untold_half there.hard hard)
+closing_none there false b hard soft may not_both = (contexts.Soft, refl, untold_half there.soft (soft ∙ may))
+
+closing_one : (line : Option Context) (there : KnownProcessor) → may_be_left line there ≡ true → is_open there ≡ false
+    → (z : Context) × (context_at line (left_by there.hard there.soft) ≡ Some z) × (half_of there z ≡ halves.Untold)
+closing_one None there may not_both = closing_none there (is_untold there.hard) (is_untold there.soft) refl refl may not_both
+closing_one (Some contexts.Hard) there may not_both = (contexts.Hard, refl, untold_half there.hard may)
+closing_one (Some contexts.Soft) there may not_both = (contexts.Soft, refl, untold_half there.soft may)
+
+closed_not : (closing : Option Context) (there : KnownProcessor) (y : Context) → closing ≡ Some y → half_of (closed_in closing there) y ≡ halves.Untold → ⊥
+closed_not closing there contexts.Hard same is = closed_untold there.hard (sym (ap (λ o. (closed_in o there).hard) same) ∙ is)
+closed_not closing there contexts.Soft same is = closed_untold there.soft (sym (ap (λ o. (closed_in o there).soft) same) ∙ is)
+
+half_was_untold : (t : ℕ) (h : HalfKnown) → half_without t h ≡ halves.Untold → h ≡ halves.Untold
+half_was_untold t halves.Untold is = refl
+half_was_untold t halves.Free is = absurd (free_untold is)
+half_was_untold t (halves.Taken u) is = absurd (neither (nat_eq u t) is)
+  where
+    neither : (b : Bool) → (if b then halves.Free else halves.Taken u) ≡ halves.Untold → ⊥
+    neither true e = free_untold e
+    neither false e = taken_untold e
+
+was_untold : (closing : Option Context) (t : ℕ) (there : KnownProcessor) (y : Context) → half_of (closed_in closing (without t there)) y ≡ halves.Untold
+    → half_of there y ≡ halves.Untold
+was_untold None t there contexts.Hard is = half_was_untold t there.hard is
+was_untold None t there contexts.Soft is = half_was_untold t there.soft is
+was_untold (Some contexts.Hard) t there contexts.Hard is = absurd (closed_untold _ is)
+was_untold (Some contexts.Hard) t there contexts.Soft is = half_was_untold t there.soft is
+was_untold (Some contexts.Soft) t there contexts.Hard is = half_was_untold t there.hard is
+was_untold (Some contexts.Soft) t there contexts.Soft is = absurd (closed_untold _ is)
+
+both_open : (there : KnownProcessor) (y z : Context) → half_of there y ≡ halves.Untold → half_of there z ≡ halves.Untold → (z ≡ y → ⊥) → is_open there ≡ true
+both_open there contexts.Hard contexts.Hard a b other = absurd (other refl)
+both_open there contexts.Hard contexts.Soft a b other = rw (a, b) refl
+both_open there contexts.Soft contexts.Hard a b other = rw (a, b) refl
+both_open there contexts.Soft contexts.Soft a b other = absurd (other refl)
+
+stays_closed : (closing : Option Context) (t : ℕ) (there : KnownProcessor) → is_open there ≡ false → is_open (closed_in closing (without t there)) ≡ false
+stays_closed closing t there is = false_from_ne_true _ (λ open_.
+    let both = both_untold (closed_in closing (without t there)) open_ in
+    both_ways (is_open there) is (both_open there contexts.Hard contexts.Soft (was_untold closing t there contexts.Hard both.0)
+    (was_untold closing t there contexts.Soft both.1) (λ e. hard_soft e refl)))
+
+told_closes : (closing : Option Context) (there : KnownProcessor) (y : Context) → closing ≡ Some y → is_open (closed_in closing there) ≡ false
+told_closes closing there y same = false_from_ne_true _ (λ open_.
+    let both = both_untold (closed_in closing there) open_ in
+    closed_not closing there y same (halves_of y both.0 both.1))
+  where
+    halves_of : (x : Context) → (closed_in closing there).hard ≡ halves.Untold → (closed_in closing there).soft ≡ halves.Untold
+        → half_of (closed_in closing there) x ≡ halves.Untold
+    halves_of contexts.Hard a b = a
+    halves_of contexts.Soft a b = b
 
 pub back_exit : (k : Knowledge) (w' : PlainTimers) (t : ℕ) (site : Site) → Sound k → misfit k (kernel.Exit t site) ≡ None
     → Agrees (learned k (kernel.Exit t site)) w' → Led k (kernel.Exit t site) w'
 back_exit k w' t site s none a =
     let fails = all_fail (misfits_of k (kernel.Exit t site)) none in
     let known = k.timers t in
-    let x = context_at site.context known.context in
-    let h = half_number site.processor x in
-    let half' = updated k.halves h halves.Free in
-    let new = here_known half' k.claims k.timers t (known_exited site known) (w' t) (a.each t) in
-    let there : (w' t).context ≡ x = new.context in
-    let old = before_exit known site.processor (w' t) in
+    let c = site.processor in
+    let there = k.processors c in
+    let line = context_at site.context known.told in
+    let context = context_at site.context known.context in
+    let left = left_for known.function there in
+    let closing = context_at line left in
+    let exited = exited_there t site known there in
+    let new_there = updated k.processors c exited in
+    let new = here_known new_there k.claims k.timers t (known_exited site there known) (w' t) (a.each t) in
+    let old = before_exit known c (w' t) in
+    let was = updated_here w' t old in
     let sf = (s.each t).function in
-    let others : (u : ℕ) → u ≢ t → AgreesAt half' k.claims u (k.timers u) (w' u) = λ u other. else_known half' k.claims k.timers t u _ (w' u) other (a.each u) in
-    let not_there : (u : ℕ) → u ≢ t → (w' u).running ≡ true → (w' u).base ≡ site.processor → (w' u).context ≡ x → ⊥ =
-    λ u other run at context. subst (λ y. Allows y u) (ap half' (same_half at context) ∙ updated_here k.halves h halves.Free) ((others u other).allowed run) in (
+    let context_is : IsAs context (w' t).context = before_left context left (w' t).context new.context in
+    let line_is : IsAs line (w' t).context =
+    known_as line context (w' t).context (line_known site.context known.told known.context fails.0 (s.each t).told) context_is in
+    let others : (u : ℕ) → u ≢ t → AgreesAt new_there k.claims (k.timers u) (w' u) = λ u other.
+    else_known new_there k.claims k.timers t u _ (w' u) other (a.each u) in
+    let else_hidden : (d u : ℕ) → u ≢ t → IsHidden d (before w' t old u) → IsHidden d (w' u) = λ d u other hidden.
+    subst (λ p. IsHidden d p) (updated_else w' t u old other) hidden in
+    let half_there : (u : ℕ) → u ≢ t → IsHidden c (w' u) → half_of exited (w' u).context ≡ halves.Untold = λ u other hidden.
+    ap (λ p. half_of p (w' u).context) (sym (updated_here k.processors c exited)) ∙ same_half new_there (sym hidden.runs.at) refl
+    ∙ (others u other).hidden hidden.runs.running hidden.shown in
+    let untold : (was_shown known.function ≡ false) → known.function ≡ functions.Untold = λ shown. untold_by known.function c line there fails.1.0 shown in
+    let may : known.function ≡ functions.Untold → may_be_left line there ≡ true = λ is.
+    not-false _ (ap (λ f. not (may_run c line there f)) (sym is) ∙ fails.1.0) in
+    let alone_t : (v : ℕ) → v ≢ t → is_open there ≡ false → (before w' t old t).shown ≡ false → IsHidden c (w' v) → ⊥ = λ v other not_both shown hidden.
+    let is = untold (ap (λ p. p.shown) (sym was) ∙ shown) in
+    let one = closing_one line there (may is) not_both in
+    let closes : closing ≡ Some one.0 = ap (λ f. context_at line (left_for f there)) is ∙ one.1 in
+    let half = half_there v other hidden in
+    both_ways (is_open there) not_both (both_open there (w' v).context one.0 (was_untold closing t there (w' v).context half) one.2
+    (λ same. closed_not closing (without t there) (w' v).context (closes ∙ ap Some same) half)) in (
       before w' t old,
       agree_before k w' t old
           (record {
-            armed = exit_armed known.armed known site.processor (w' t) new.armed;
-            function = exit_function known.function known (k.halves h) site.processor x (w' t) fails.1.0 there;
-            home = exit_home k.halves t known (k.halves h) site.processor x (w' t) known.function fails.1.0 sf new.armed;
+            armed = exit_armed known.armed known c (w' t) new.armed;
+            function = exit_function known.function known line there c (w' t) fails.1.0 refl;
+            home = exit_home k.processors t known line there c (w' t) known.function fails.1.0 sf new.armed;
             clock = new.clock;
             clocked = refl;
-            context = context_same known.context x (w' t).context fails.0 there;
+            context = known_as known.context context (w' t).context (known_kept site.context known.context fails.0) context_is;
             told = refl;
             order = refl;
-            allowed = λ run. subst (λ g. Allows (k.halves g) t) (same_half {c = site.processor} refl (sym there))
-                (exit_allowed k.halves h t known site.processor x known.function fails.1.0 refl sf);
-            waits = λ m some. absurd (rests_may known.function site.processor x (k.halves h) ((s.each t).order m some).rests fails.1.0);
+            hidden = λ run shown.
+                let is = untold shown in
+                open_by line there (w' t).context (may is) line_is (λ no_line. subst (λ o. IsAs o (w' t).context)
+                (ap (λ o. context_at o left) (no_context site.context known.told known.context no_line (no_known k.processors t known known.function is sf))
+                ∙ ap (λ f. left_for f there) is) new.context);
+            waits = λ m some tells. absurd (rests_may known.function c line there ((s.each t).order m some).rests fails.1.0);
           })
-          (λ u other. elsewhere half' k.halves k.claims k.claims u (k.timers u) (w' u) (others u other)
-          (λ run. subst (λ y. Allows y u) (updated_else k.halves h (half_number (w' u).base (w' u).context) halves.Free
-          (λ same. let is = half_number-injective (w' u).base site.processor (w' u).context x same in not_there u other run is.0 is.1))
-          ((others u other).allowed run))
+          (λ u other. elsewhere new_there k.processors k.claims k.claims (k.timers u) (w' u) (others u other)
+          (λ run shown. elim (cases_eq (w' u).base c) [
+            | inl at ↦ same_half k.processors at refl ∙ was_untold closing t there (w' u).context
+                (half_there u other (record { runs = record { running = run; at = at }; shown = shown }))
+            | inr at ↦ ap (λ p. half_of p (w' u).context) (sym (updated_else k.processors c (w' u).base exited at)) ∙ (others u other).hidden run shown
+          ])
           (others u other).waits)
-          (alone_exited w' t old x site.processor refl there not_there a.alone),
+          (λ d u v told hidden_u hidden_v. elim (cases_eq d c) [
+            | inl same ↦
+                let not_both : is_open there ≡ false = ap (λ e. is_open (k.processors e)) (sym same) ∙ told in
+                let at_c : (i : ℕ) → i ≢ t → IsHidden d (before w' t old i) → IsHidden c (w' i) = λ i other hidden.
+                subst (λ e. IsHidden e (w' i)) same (else_hidden d i other hidden) in
+                elim (cases_eq u t) [
+                  | inl u_is ↦ elim (cases_eq v t) [
+                    | inl v_is ↦ u_is ∙ sym v_is
+                    | inr v_other ↦ absurd (alone_t v v_other not_both (ap (λ i. (before w' t old i).shown) (sym u_is) ∙ hidden_u.shown) (at_c v v_other hidden_v))
+                  ]
+                  | inr u_other ↦ elim (cases_eq v t) [
+                    | inl v_is ↦ absurd (alone_t u u_other not_both (ap (λ i. (before w' t old i).shown) (sym v_is) ∙ hidden_v.shown) (at_c u u_other hidden_u))
+                    | inr v_other ↦ a.alone c u v (ap (λ p. is_open p) (updated_here k.processors c exited) ∙ stays_closed closing t there not_both)
+                        (at_c u u_other hidden_u) (at_c v v_other hidden_v)
+                  ]
+                ]
+            | inr other_d ↦
+                let not_t : (i : ℕ) → IsHidden d (before w' t old i) → i ≢ t = λ i hidden same. other_d
+                (sym hidden.runs.at ∙ ap (λ j. (before w' t old j).base) same ∙ ap (λ p. p.base) was) in
+                a.alone d u v (ap (λ p. is_open p) (updated_else k.processors c d exited other_d) ∙ told)
+                (else_hidden d u (not_t u hidden_u) hidden_u) (else_hidden d v (not_t v hidden_v) hidden_v)
+          ]),
       (
         at_before (λ p. IsExited site p (w' t)) w' t old (record {
           keeps = record { clock = refl; context = refl; clocked = new.clocked };
           told = new.told;
           order = new.order;
-          context = there;
+          context = line_is;
           runs = refl;
           at = refl;
           still = new.function;
           armed = refl;
           stays = λ is. record {
-            base = exit_stays k.halves t known (k.halves h) site.processor x (w' t) known.function fails.1.0 sf new.armed new.home is;
+            base = exit_stays k.processors t known line there c (w' t) known.function fails.1.0 sf new.armed new.home is;
             soft = refl;
             expires = refl;
           };
         }),
+        subst (λ p. LeavesOne (before w' t old) (context_at site.context p.told) c t) (sym was) (record {
+          other = λ u told other hidden within.
+              let some = told_some line told in
+              let same : (w' u).context ≡ some.0 = ap (λ p. p.context) (sym (updated_else w' t u old other)) ∙ within ∙ ap (λ p. p.context) was
+              ∙ is_as line some.0 (w' t).context line_is some.1 in
+              closed_not closing (without t there) (w' u).context (ap (λ o. context_at o left) some.1 ∙ ap Some (sym same))
+              (half_there u other (else_hidden c u other hidden));
+          alone = λ u v told other_u other_v hidden_u hidden_v.
+              let some = told_some line told in
+              a.alone c u v (ap (λ p. is_open p) (updated_here k.processors c exited)
+              ∙ told_closes closing (without t there) some.0 (ap (λ o. context_at o left) some.1))
+              (else_hidden c u other_u hidden_u) (else_hidden c v other_v hidden_v);
+        }),
         spared_before w' t old,
       ),
     )
+  where
+    no_context : (flags told context : Option Context) → context_at flags told ≡ None → context ≡ None → context_at flags context ≡ None
+    no_context None told context none_ is = is
+    no_context (Some x) told context none_ is = none_
+
+    no_known : (there : ℕ → KnownProcessor) (t : ℕ) (known : KnownTimer) (f : FunctionKnown) → f ≡ functions.Untold → SoundFunction there t known f
+        → known.context ≡ None
+    no_known there t known functions.Untold is s = s.4
+    no_known there t known functions.Rests is s = absurd cc
+    no_known there t known (functions.Runs c) is s = absurd cc

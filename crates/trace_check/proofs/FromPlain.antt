@@ -1,5 +1,5 @@
 -- From plain timers to ones of the model: a history of the one kind is one of the other.
-use Rattle.std.proofs.Common.{◌≡◌, ◌<◌, ◌≤◌, ℕ, ◌+◌, ◌*◌, ◌-◌, Bool, true, false, not, ◌&&◌, if◌then◌else◌, Option, Some, None, List, [], ◌∷◌, refl, sym, ap, subst, ◌∙◌, inl, inr, arith, nat_eq}
+use Rattle.std.proofs.Common.{◌≡◌, ◌<◌, ◌≤◌, ℕ, ◌+◌, ◌*◌, ◌-◌, Bool, true, false, not, ◌&&◌, ◌||◌, if◌then◌else◌, Option, Some, None, List, [], ◌∷◌, refl, sym, ap, subst, ◌∙◌, inl, inr, arith, nat_eq}
 use Rattle.std.specs.Prelude.{IfSome, is_some}
 use Rattle.std.proofs.lemmas.Bool.Decides.{nat_tests}
 use Rattle.std.proofs.lemmas.Bool.{and_parts, both_ways, cases_eq, eq-eqb, eqb-true, false_from_ne_true, not-false, not-true}
@@ -13,7 +13,7 @@ use Rattle.seq_timer.specs.Calls.{asked_for, moves_first}
 use Rattle.seq_timer.specs.Events.{Asked}
 use Rattle.seq_timer.specs.Steps.{Timer, after, limited, may_send, opening, started}
 use Rattle.seq_timer.specs.Systems.{updated}
-use Rattle.seq_timer.specs.Tables.{rank}
+use Rattle.seq_timer.specs.Tables.{rank, runs_on}
 use Rattle.seq_timer.proofs.Systems.{updated_here, updated_else}
 use Rattle.trace_text.specs.declared.event.KernelEvent.{KernelEvent}
 use Rattle.trace_text.specs.declared.event.KernelEvent.TheVariants as kernel
@@ -22,7 +22,7 @@ use Rattle.trace_check.specs.Fits as fits
 use Rattle.trace_check.specs.Fits.{order_of}
 use Rattle.trace_check.specs.Traced as traced
 use Rattle.trace_check.specs.Traced.{Goes, Spares, TracedTimers, Traced, context_at, is_ahead}
-use Rattle.trace_check.proofs.Plain.{Happen, IsBeginning, IsCancelled, IsEntered, IsExited, IsSetUp, IsStarted, HasTurn, Plain, PlainTimers, ShowsEvent, Spared}
+use Rattle.trace_check.proofs.Plain.{Happen, IsBeginning, IsCancelled, IsEntered, IsExited, IsSetUp, IsStarted, HasTurn, LeavesOne, Plain, PlainTimers, RunsOn, ShowsEvent, Spared}
 use Rattle.trace_check.proofs.ToPlain.{keep_clock}
 
 -- ---- from plain timers to the model
@@ -41,6 +41,8 @@ pub record Is (left : ℕ) (r : Traced) (p : Plain) : Type 0 where
   pub clocked : r.clocked ≡ p.clocked
   pub told : r.told ≡ p.told
   pub order : r.order ≡ p.order
+  pub tells : r.tells ≡ p.tells
+  pub shown : r.shown ≡ p.shown
   pub room : r.timer.stamp + 2 * left ≤ r.timer.terms.limit
   pub near : r.timer.terms.reach ≡ 0
 
@@ -61,6 +63,8 @@ fewer left r p i = record {
   clocked = i.clocked;
   told = i.told;
   order = i.order;
+  tells = i.tells;
+  shown = i.shown;
   room = omega (arith, i.room);
   near = i.near;
 }
@@ -81,7 +85,7 @@ some_timer p left = record {
 }
 
 abbrev traced_as : Plain → Timer → Traced
-traced_as p timer = record { timer = timer; clocked = p.clocked; told = p.told; order = p.order }
+traced_as p timer = record { timer = timer; clocked = p.clocked; told = p.told; order = p.order; tells = p.tells; shown = p.shown }
 
 some_if : (b : Bool) → is_some {T = ℕ} (if b then Some 0 else None) ≡ b
 some_if true = refl
@@ -101,6 +105,8 @@ is_some_timer p left = record {
   clocked = refl;
   told = refl;
   order = refl;
+  tells = refl;
+  shown = refl;
   room = omega arith;
   near = refl;
 }
@@ -110,10 +116,10 @@ first_timers p left b = (
   λ t. traced_as (p t) (some_timer (p t) left),
   record {
     still = λ t. refl;
-    alone = λ t u run_t run_u base context. b.alone t u (sym (some_if (p t).running) ∙ run_t) (sym (some_if (p u).running) ∙ run_u) base context;
     clocked = b.clocked;
     told = b.told;
     order = b.order;
+    shown = λ t run. b.shown t (sym (some_if (p t).running) ∙ run);
   },
   λ t. is_some_timer (p t) left,
 )
@@ -151,6 +157,8 @@ make_set_up left clock context r p p' i s = (
     clocked = refl;
     told = refl;
     order = refl;
+    tells = refl;
+    shown = refl;
     room = omega arith;
     near = refl;
   },
@@ -178,10 +186,19 @@ make_cancel left r p p' i s = (
     clocked = refl;
     told = refl;
     order = refl;
+    tells = refl;
+    shown = refl;
     room = omega (arith, i.room);
     near = i.near;
   },
 )
+
+-- what a line tells of a plain timer it tells of the one of the model
+told_as : (a b : Option Context) {x y : Context} → a ≡ b → x ≡ y → IfSome a (λ z. y ≡ z) → IfSome b (λ z. x ≡ z)
+told_as None None same is h = tt
+told_as None (Some c) same is h = absurd cc
+told_as (Some c) None same is h = tt
+told_as (Some c) (Some d) {x = x} same is h = subst (λ o. IfSome o (λ z. x ≡ z)) same (is ∙ h)
 
 -- a reading in which each clock shows this time
 abbrev all_at : ℕ → ClockReading
@@ -196,7 +213,7 @@ make_entry : (left : ℕ) (site : Site) (now : ℕ) (r : Traced) (p p' : Plain) 
     → Makes left (fits.IsEntered site now) r p'
 make_entry left site now r p p' i s =
     let at : r.timer.base ≡ site.processor = i.base_armed s.armed ∙ s.at in
-    let context : context_at site.context p.told ≡ context_at site.context r.told = ap (λ o. context_at site.context o) (sym i.told) in (
+    let line : context_at site.context p.told ≡ context_at site.context r.told = ap (λ o. context_at site.context o) (sym i.told) in (
       traced_as p' (after r.timer (events.Claim site.processor (all_at now))),
       record {
         goes = (
@@ -207,10 +224,12 @@ make_entry left site now r p p' i s =
             refl,
           ),
         );
-        context = i.context ∙ s.context ∙ context;
+        context = told_as _ _ line i.context s.context;
         clocked = s.keeps.clocked ∙ sym i.clocked;
-        told = s.told ∙ ap Some context;
+        told = s.told ∙ line;
         order = s.order;
+        tells = i.tells ∙ s.tells ∙ ap (λ o. is_some o) line;
+        shown = s.shown;
       },
       record {
         armed = sym s.unarmed;
@@ -225,6 +244,8 @@ make_entry left site now r p p' i s =
         clocked = refl;
         told = refl;
         order = refl;
+        tells = refl;
+        shown = refl;
         room = omega (arith, i.room);
         near = i.near;
       },
@@ -233,14 +254,14 @@ make_entry left site now r p p' i s =
 make_exit : (left : ℕ) (site : Site) (r : Traced) (p p' : Plain) → Is (left + 1) r p → IsExited site p p' → Makes left (fits.IsExited site) r p'
 make_exit left site r p p' i s =
     let at : r.timer.base ≡ site.processor = i.base_running s.runs ∙ s.at in
-    let context : context_at site.context p.told ≡ context_at site.context r.told = ap (λ o. context_at site.context o) (sym i.told) in (
+    let line : context_at site.context p.told ≡ context_at site.context r.told = ap (λ o. context_at site.context o) (sym i.told) in (
       traced_as p' (after r.timer (events.Finish false)),
       record {
         goes = (i.running ∙ s.runs, refl);
         base = at;
-        context = i.context ∙ s.context ∙ context;
+        context = told_as _ _ line i.context s.context;
         clocked = s.keeps.clocked ∙ sym i.clocked;
-        told = s.told ∙ ap Some context;
+        told = s.told ∙ line;
         order = s.order ∙ sym i.order;
       },
       record {
@@ -256,6 +277,8 @@ make_exit left site r p p' i s =
         clocked = refl;
         told = refl;
         order = refl;
+        tells = refl;
+        shown = refl;
         room = omega (arith, i.room);
         near = i.near;
       },
@@ -281,6 +304,8 @@ started_is n left soft expires processor was r p p' t i s declared clock running
   clocked = refl;
   told = refl;
   order = refl;
+  tells = refl;
+  shown = refl;
   room = omega (arith, i.room, stamp, ap (λ o. o.limit) terms);
   near = ap (λ o. o.reach) terms ∙ i.near;
 }
@@ -319,6 +344,7 @@ make_start_by n left soft expires was r p p' i s false moves =
         clocked = s.keeps.clocked ∙ sym i.clocked;
         told = s.told ∙ sym i.told;
         order = s.order ∙ ap (λ b. order_of n b p.running) (sym i.clocked) ∙ ap (λ b. order_of n r.clocked b) (sym i.running);
+        shown = s.shown ∙ sym i.shown;
       },
       started_is n left soft expires p'.base was r p p' r.timer i s refl refl refl refl (omega arith) stays,
     )
@@ -342,6 +368,7 @@ make_start_by n left soft expires was r p p' i s true moves =
         clocked = s.keeps.clocked ∙ sym i.clocked;
         told = s.told ∙ sym i.told;
         order = s.order ∙ ap (λ b. order_of n b p.running) (sym i.clocked) ∙ ap (λ b. order_of n r.clocked b) (sym i.running);
+        shown = s.shown ∙ sym i.shown;
       },
       started_is n left soft expires p'.base was r p p' out i s refl refl refl refl (omega arith) refl,
     )
@@ -364,22 +391,39 @@ Comes n left e w p' = (w' : TracedTimers) × fits.ShowsEvent n e w w' × AreAll 
 spares_but : (w : TracedTimers) (t : ℕ) (r' : Traced) → Spares t w (updated w t r')
 spares_but w t r' u other = updated_else w t u r' other
 
-turn_of : (left processor t : ℕ) (w : TracedTimers) (p : PlainTimers) → AreAll (left + 1) w p → HasTurn p processor t → (p t).armed ≡ true
-    → traced.IsNextThere w processor t
-turn_of left processor t w p all turn armed_t = record {
-  free = λ u context. false_from_ne_true _ (λ run.
-      let parts = and_parts (is_some (w u).timer.running) (nat_eq (w u).timer.base processor) run in
-      let running = sym (all u).running ∙ parts.0 in
-      turn.free u (sym (all u).context ∙ context ∙ (all t).context) running (sym ((all u).base_running running) ∙ eqb-true _ _ parts.1));
-  first = λ u m n other order_t order_u context kept.
+runs_plain : (left processor : ℕ) (r : Traced) (p : Plain) → Is left r p → runs_on processor r.timer ≡ true → RunsOn processor p
+runs_plain left processor r p i run =
+    let parts = and_parts (is_some r.timer.running) (nat_eq r.timer.base processor) run in
+    let running = sym i.running ∙ parts.0 in
+    record { running = running; at = sym (i.base_running running) ∙ eqb-true _ _ parts.1 }
+
+turn_of : (left processor t : ℕ) (line : Option Context) (w : TracedTimers) (p : PlainTimers) → AreAll (left + 1) w p → HasTurn p line processor t
+    → (p t).armed ≡ true → traced.IsNextThere w line processor t
+turn_of left processor t line w p all turn armed_t = record {
+  alone = λ u v run_u run_v. turn.alone u v (runs_plain _ processor (w u) (p u) (all u) run_u) (runs_plain _ processor (w v) (p v) (all v) run_v);
+  inside = λ u run. (all u).context ∙ turn.inside u (runs_plain _ processor (w u) (p u) (all u) run);
+  within = λ u run told. (all t).context
+      ∙ turn.within u (runs_plain _ processor (w u) (p u) (all u) run) (ap (λ b. b || is_some line) (sym (all u).shown) ∙ told);
+  first = λ u m n other told tells order_t order_u context kept.
       let on = and_parts _ (nat_eq (rank (w u).timer.clock) (rank (w t).timer.clock)) kept in
       let at = and_parts _ (nat_eq (w u).timer.base processor) on.0 in
       let armed_u = sym (all u).armed ∙ (and_parts (is_some (w u).timer.armed) (not (w u).timer.moving) at.0).0 in
       subst (λ e. is_ahead e m (w u).timer.expires n ≡ true) (sym ((all t).expires armed_t))
       (subst (λ e. is_ahead (p t).expires m e n ≡ true) (sym ((all u).expires armed_u))
-      (turn.first u m n other (sym (all t).order ∙ order_t) (sym (all u).order ∙ order_u) (sym (all u).context ∙ context ∙ (all t).context) armed_u
-      (sym ((all u).base_armed armed_u) ∙ eqb-true _ _ at.1)
+      (turn.first u m n other told (sym (all u).tells ∙ tells) (sym (all t).order ∙ order_t) (sym (all u).order ∙ order_u)
+      (sym (all u).context ∙ context ∙ (all t).context) armed_u (sym ((all u).base_armed armed_u) ∙ eqb-true _ _ at.1)
       (ap rank (sym (all u).clock) ∙ eqb-true _ _ on.1 ∙ ap rank (all t).clock)));
+}
+
+leaves_of : (left processor t : ℕ) (line : Option Context) (w : TracedTimers) (p : PlainTimers) → AreAll (left + 1) w p → LeavesOne p line processor t
+    → traced.LeavesOne w line processor t
+leaves_of left processor t line w p all leaves = record {
+  other = λ u told other shown context. false_from_ne_true _ (λ run.
+      leaves.other u told other (record { runs = runs_plain _ processor (w u) (p u) (all u) run; shown = sym (all u).shown ∙ shown })
+      (sym (all u).context ∙ context ∙ (all t).context));
+  alone = λ u v told other_u other_v shown_u shown_v run_u run_v. leaves.alone u v told other_u other_v
+      (record { runs = runs_plain _ processor (w u) (p u) (all u) run_u; shown = sym (all u).shown ∙ shown_u })
+      (record { runs = runs_plain _ processor (w v) (p v) (all v) run_v; shown = sym (all v).shown ∙ shown_v });
 }
 
 comes : (n left : ℕ) (e : KernelEvent) (w : TracedTimers) (p p' : PlainTimers) → AreAll (left + 1) w p → ShowsEvent n e p p' → Comes n left e w p'
@@ -400,14 +444,23 @@ comes n left (kernel.Entry t site now) w p p' all s =
       updated w t m.0,
       (
         subst (λ r. fits.IsEntered site now (w t) r) (sym (updated_here w t m.0)) m.1,
-        turn_of left site.processor t w p all s.1 s.0.armed,
+        subst (λ o. traced.IsNextThere w (context_at site.context o) site.processor t) (sym (all t).told)
+            (turn_of left site.processor t (context_at site.context (p t).told) w p all s.1 s.0.armed),
         spares_but w t m.0,
       ),
       all_but left t w p p' m.0 all s.2 m.2,
     )
 comes n left (kernel.Exit t site) w p p' all s =
-    let m = make_exit left site (w t) (p t) (p' t) (all t) s.0 in
-    (updated w t m.0, (subst (λ r. fits.IsExited site (w t) r) (sym (updated_here w t m.0)) m.1, spares_but w t m.0), all_but left t w p p' m.0 all s.1 m.2)
+    let m = make_exit left site (w t) (p t) (p' t) (all t) s.0 in (
+      updated w t m.0,
+      (
+        subst (λ r. fits.IsExited site (w t) r) (sym (updated_here w t m.0)) m.1,
+        subst (λ o. traced.LeavesOne w (context_at site.context o) site.processor t) (sym (all t).told)
+            (leaves_of left site.processor t (context_at site.context (p t).told) w p all s.1),
+        spares_but w t m.0,
+      ),
+      all_but left t w p p' m.0 all s.2 m.2,
+    )
 comes n left kernel.Lost w p p' all s = first_timers p' left s
 
 -- how many events there are
