@@ -17,7 +17,8 @@ use Rattle.trace_check.proofs.Plain.{IsBeginning, Plain, PlainTimers}
 use Rattle.trace_check.proofs.Agreement.{Agrees, ArmedAs, RunsAs, Sound, SoundFunction}
 use Rattle.trace_check.proofs.Before.{Led, at_place, at_rest, clock_of, context_of, hard_of, home_is, if_armed, if_unarmed, no_part, place_of}
 use Rattle.trace_check.proofs.BackStarts.{back_cancel, back_set_up, back_start}
-use Rattle.trace_check.proofs.BackRuns.{back_entry, back_exit}
+use Rattle.trace_check.proofs.BackEntries.{back_entry}
+use Rattle.trace_check.proofs.BackReturns.{back_exit}
 
 -- ---- a beginning
 

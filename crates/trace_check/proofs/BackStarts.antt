@@ -17,8 +17,9 @@ use Rattle.trace_check.specs.declared.known.KnownTimer.{KnownTimer}
 use Rattle.trace_check.specs.Knowledge.{Knowledge, known_cancelled, misfit, misfits_of, is_armed, is_unarmed, learned, known_set_up, soft_of, known_started, tells_armed, tells_unarmed}
 use Rattle.trace_check.proofs.Plain.{IsCancelled, IsSetUp, IsStarted, Plain, PlainTimers}
 use Rattle.trace_check.proofs.Agreement.{Agrees, ArmedAs, RunsAs, Sound, SoundFunction}
-use Rattle.trace_check.proofs.Parts.{all_fail, not_hidden, same_half}
-use Rattle.trace_check.proofs.Forth.{order_known, untold_clock}
+use Rattle.trace_check.proofs.Parts.{all_fail, not_hidden}
+use Rattle.trace_check.proofs.OnProcessors.{same_half}
+use Rattle.trace_check.proofs.ForthStarts.{order_known, untold_clock}
 use Rattle.trace_check.proofs.Before.{Led, agree_before, alone_before, armed_before, at_before, at_place, at_rest, before, clock_of, context_of, else_known, hard_of, here_known, home_is, if_armed, if_unarmed, no_home, no_part, place_of, rest_agrees, spared_before}
 
 -- ---- a set-up

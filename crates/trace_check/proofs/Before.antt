@@ -20,7 +20,7 @@ use Rattle.trace_check.specs.declared.known.KnownTimer.{KnownTimer}
 use Rattle.trace_check.specs.Knowledge.{Knowledge, is_unarmed, has_running, soft_of}
 use Rattle.trace_check.proofs.Plain.{Plain, PlainTimers, ShowsEvent, Spared}
 use Rattle.trace_check.proofs.Agreement.{Agrees, AgreesAt, AreAlone, ArmedAs, HasTurnBefore, RunsAs}
-use Rattle.trace_check.proofs.Parts.{Moves, alone_still}
+use Rattle.trace_check.proofs.Parts.{Moves, alone_still, same_some}
 
 -- ---- a timer that rests
 
@@ -36,9 +36,6 @@ at_place (Some b) = refl
 pub if_armed : (home : Option ℕ) (base : ℕ) (armed : Bool) → IfSome home (λ b. base ≡ b) → IfSome home (λ b. armed ≡ true → base ≡ b)
 if_armed None base armed h = tt
 if_armed (Some b) base armed h = λ is. h
-
-pub same_some : {n m : ℕ} → Some n ≡ Some m → n ≡ m
-same_some e = cc
 
 pub if_unarmed : (home : Option ℕ) (base : ℕ) (armed : Bool) → armed ≡ false → IfSome home (λ b. armed ≡ true → base ≡ b)
 if_unarmed None base armed not_armed = tt

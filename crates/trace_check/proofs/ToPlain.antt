@@ -17,7 +17,7 @@ use Rattle.trace_check.specs.Fits as fits
 use Rattle.trace_check.specs.Fits.{order_of}
 use Rattle.trace_check.specs.Traced as traced
 use Rattle.trace_check.specs.Traced.{Goes, Spares, TracedTimers, Traced, context_at}
-use Rattle.trace_check.proofs.Plain.{Happen, IsBeginning, IsStarted, HasTurn, LeavesOne, Plain, PlainTimers, RunsOn, ShowsEvent, Spared}
+use Rattle.trace_check.proofs.Plain.{Happen, HasTurn, IsBeginning, IsStarted, LeavesOne, Plain, PlainTimers, RunsOn, ShowsEvent, Spared}
 
 pub keep_clock : (declared present : ClockId) → effective_clock declared modes.Keep present ≡ present
 keep_clock clocks.Monotonic present = refl
