@@ -82,7 +82,7 @@ keep() {
 
 # Whether the libraries of these sources are kept.
 are_libraries_kept() {
-    [ -f "$libraries/libhulayban.a" ] && [ -f "$libraries/libhulayban_trace.a" ] &&
+    [ -f "$libraries/libhulayban.a" ] && [ -f "$libraries/libhulayban_trace.a" ] && [ -f "$libraries/proof.log" ] &&
         [ "$(cat "$libraries/sum" 2> /dev/null)" = "$(sum_of src specs proofs)" ]
 }
 
@@ -98,8 +98,9 @@ make_whole() {
     return $status
 }
 
-# Keeps the libraries that rt lib has left, each whole, with the sum of their sources.
+# Keeps the libraries that rt lib has left, each whole, with the sum of their sources, and what rt has said.
 keep_libraries() {
+    local sum=$1 log=$2
     mkdir -p "$libraries" && rm -f "$libraries"/* && make_whole hulayban_c "$libraries/libhulayban.a" &&
-        make_whole hulayban_trace "$libraries/libhulayban_trace.a" && echo "$1" > "$libraries/sum"
+        make_whole hulayban_trace "$libraries/libhulayban_trace.a" && cp "$log" "$libraries/proof.log" && echo "$sum" > "$libraries/sum"
 }
