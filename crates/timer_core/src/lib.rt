@@ -9,3 +9,4 @@ mod answer;
 mod calls;
 mod laws;
 mod timers;
+mod waits;

@@ -1,4 +1,4 @@
-//! The numbers of what is wrong with a line of a trace. `include/hrt.h` has them under the same names with `HRT_` before each.
+//! The numbers of what is wrong with a line of a trace. `include/hrt_trace.h` has them under the same names with `HRT_` before each.
 /// Sets up a timer that is armed.
 pub const CAUSE_SET_UP_ARMED: u32 = 1;
 /// Sets up a timer whose function runs.

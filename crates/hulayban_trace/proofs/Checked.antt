@@ -9,9 +9,9 @@ use Rattle.trace_text.specs.declared.event.KernelEvent.{KernelEvent}
 use Rattle.trace_read.specs.declared.tally.Tally.{Tally}
 use Rattle.trace_read.specs.Readers.{IsTallied}
 use Rattle.trace_read.specs.Tallies.{IsTallyOf, NamesProcessors, NamesTimers}
-use Rattle.hulayban_c.specs.declared.codes.TheConstants.{MISFIT, UNREADABLE, NO_MEMORY}
-use Rattle.hulayban_c.specs.declared.checking.CheckAnswer.{CheckAnswer}
-use Rattle.hulayban_c.specs.Checks.{AnswersCheck, CountsNamed, IsChecked, check_tells}
+use Rattle.hulayban_trace.specs.declared.codes.TheConstants.{MISFIT, UNREADABLE, NO_MEMORY}
+use Rattle.hulayban_trace.specs.declared.checking.CheckAnswer.{CheckAnswer}
+use Rattle.hulayban_trace.specs.Checks.{AnswersCheck, CountsNamed, IsChecked, check_tells}
 
 number_where_not : (text : List ℕ) (v : Verdict) (timers processors : ℕ) → HasVerdict text v → (LinesFit (trace_lines text) → ⊥)
     → ((check_tells v timers processors).0 ≡ MISFIT) ⊎ ((check_tells v timers processors).0 ≡ UNREADABLE)

@@ -10,9 +10,9 @@ use Rattle.trace_read.specs.Lines.{HasVerdict, LinesFit, events_in, has_timer_ev
 use Rattle.trace_text.specs.declared.event.KernelEvent.{KernelEvent}
 use Rattle.trace_read.specs.Readers.{told_by}
 use Rattle.trace_read.specs.Tallies.{NamesProcessors, NamesTimers}
-use Rattle.hulayban_c.specs.declared.codes.TheConstants.{FITS, MISFIT, UNREADABLE, NO_EVENTS, NO_MEMORY}
-use Rattle.hulayban_c.specs.declared.causes.TheConstants.{CAUSE_SET_UP_ARMED, CAUSE_SET_UP_RUNNING, CAUSE_SOFT_AFTER_HARD, CAUSE_PAST_TIME, CAUSE_WAS_NOT_ARMED, CAUSE_WAS_ARMED, CAUSE_NOT_ARMED, CAUSE_RUNNING, CAUSE_OTHER_PROCESSOR, CAUSE_OTHER_CONTEXT, CAUSE_TOO_EARLY, CAUSE_SECOND_FUNCTION, CAUSE_OUT_OF_ORDER, CAUSE_NOT_RUNNING, CAUSE_NO_HRTIMER, CAUSE_NO_PROCESSOR, CAUSE_NO_CLOCKID, CAUSE_NO_MODE, CAUSE_NO_SOFTEXPIRES, CAUSE_NO_EXPIRES, CAUSE_NO_WAS_ARMED, CAUSE_NO_NOW, CAUSE_NO_TIMER_EVENTS}
-use Rattle.hulayban_c.specs.declared.checking.CheckAnswer.{CheckAnswer}
+use Rattle.hulayban_trace.specs.declared.codes.TheConstants.{FITS, MISFIT, UNREADABLE, NO_EVENTS, NO_MEMORY}
+use Rattle.hulayban_trace.specs.declared.causes.TheConstants.{CAUSE_SET_UP_ARMED, CAUSE_SET_UP_RUNNING, CAUSE_SOFT_AFTER_HARD, CAUSE_PAST_TIME, CAUSE_WAS_NOT_ARMED, CAUSE_WAS_ARMED, CAUSE_NOT_ARMED, CAUSE_RUNNING, CAUSE_OTHER_PROCESSOR, CAUSE_OTHER_CONTEXT, CAUSE_TOO_EARLY, CAUSE_SECOND_FUNCTION, CAUSE_OUT_OF_ORDER, CAUSE_NOT_RUNNING, CAUSE_NO_HRTIMER, CAUSE_NO_PROCESSOR, CAUSE_NO_CLOCKID, CAUSE_NO_MODE, CAUSE_NO_SOFTEXPIRES, CAUSE_NO_EXPIRES, CAUSE_NO_WAS_ARMED, CAUSE_NO_NOW, CAUSE_NO_TIMER_EVENTS}
+use Rattle.hulayban_trace.specs.declared.checking.CheckAnswer.{CheckAnswer}
 
 -- the number of a cause
 abbrev pub cause_number : Misfit → ℕ

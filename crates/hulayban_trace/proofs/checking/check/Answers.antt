@@ -1,6 +1,6 @@
 use Rattle.trace_read.specs.Readers.{told_by}
-use Rattle.hulayban_c.proofs.Checked.{named_by}
-use Rattle.hulayban_c.proofs.checking.check.Goals as goal
+use Rattle.hulayban_trace.proofs.Checked.{named_by}
+use Rattle.hulayban_trace.proofs.checking.check.Goals as goal
 
 pub returns : goal.returns
 returns c = record {

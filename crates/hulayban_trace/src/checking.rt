@@ -1,6 +1,6 @@
 //! The check of a kernel's trace for C, which gives the trace as text in memory.
 ghost use Rattle.std.specs.Prelude.{◌≡◌, IfOk};
-ghost use Rattle.hulayban_c.specs.Checks.{AnswersCheck, IsChecked, cause_number, check_tells, misfit_tells, of_line, what_number};
+ghost use Rattle.hulayban_trace.specs.Checks.{AnswersCheck, IsChecked, cause_number, check_tells, misfit_tells, of_line, what_number};
 
 use crate::causes::{
     CAUSE_NO_CLOCKID, CAUSE_NO_EXPIRES, CAUSE_NO_HRTIMER, CAUSE_NO_MODE, CAUSE_NO_NOW,
