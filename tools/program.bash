@@ -71,13 +71,14 @@ unproved_place() {
     echo "$kept/${main_crates[0]}.unproved.$(sum_of src)"
 }
 
-# Keeps a program in its place, and removes those of other sources.
+# Keeps a program in its place, with what rt said of its proof where that is given, and removes those of other sources.
 keep() {
-    local program=$1 place=$2 new other
+    local program=$1 place=$2 log=${3-} new other
     mkdir -p "$kept" && new=$(mktemp "$kept/new.XXXXXX") && cp "$program" "$new" && chmod 755 "$new" && mv -f "$new" "$place" || return 1
     for other in "${place%.*}".*; do
         [ "$other" = "$place" ] || rm -f "$other"
     done
+    [ -z "$log" ] || cp "$log" "$place.log"
 }
 
 # Whether the libraries of these sources are kept.
