@@ -1,15 +1,15 @@
 """callers/c/refusals.c, from Python: refusals.py LIBRARY."""
 import sys
 
-from hrt import HARD, MONOTONIC, REALTIME, REL, SOFT, Answer, Declared, Time, Timers
+from hrt import HARD, MAX_BASES, MAX_EVENTS, MONOTONIC, REALTIME, REL, SOFT, Answer, Declared, Time, Timers
 
 timers, none = Timers(sys.argv[1]), Timers(sys.argv[1])
 declared = [Declared(MONOTONIC, HARD), Declared(REALTIME, SOFT)]
 a, t, late = Answer(count=77), Time(0, 0, 0), Time(0, 2**62 + 1, 0)
 print(f"new: {timers.open(1, declared, 1000)}")
 print(f"in use: {timers.open(1, declared, 100)}")
-print(f"bases: {none.open(0, declared, 100)} {none.open(257, declared, 100)}")
-print(f"limit: {none.open(1, declared, 0)} {none.open(1, declared, 2**48)}")
+print(f"bases: {none.open(0, declared, 100)} {none.open(MAX_BASES + 1, declared, 100)}")
+print(f"limit: {none.open(1, declared, 0)} {none.open(1, declared, MAX_EVENTS + 1)}")
 print(f"clock: {none.open(1, [Declared(2, 0)], 100)}, context: {none.open(1, [Declared(1, 2)], 100)}")
 print(f"still none: {int(none.handle.at is None)}")
 print(f"no timers: {none.peek(0, a)} {none.next(0, t, a)}")

@@ -29,7 +29,7 @@ pub use claim::{Claim, Claimed};
 use raw::{Answer, Handle};
 
 /// The most bases and timers of one `Timers`, and entries of a timer.
-pub const MAX_BASES: u32 = 256;
+pub const MAX_BASES: u32 = 64;
 pub const MAX_TIMERS: usize = 4_294_967_295;
 pub const MAX_EVENTS: u64 = 281_474_976_710_640;
 
