@@ -40,6 +40,7 @@ NAMES = hulayban hulayban_trace
 ARCHIVES = $(NAMES:%=$(PACKAGE)/lib%.a)
 SHARED = $(NAMES:%=$(PACKAGE)/lib%.so.$(ABI))
 PROGRAMS = $(PACKAGE)/hrt $(PACKAGE)/hrt_check
+CALLERS := $(wildcard $(addprefix callers/,c/*.c expected/* python/*.py rust/Cargo.* rust/*.rs rust/src/*.rs rust/examples/*.rs))
 TARBALL = out/dist/hulayban-$(VERSION)-x86_64-linux
 DATE = $(or $(SOURCE_DATE_EPOCH),$(shell git log -1 --format=%ct 2> /dev/null),0)
 COMMIT = $(shell git describe --always --dirty 2> /dev/null || echo no commit)
@@ -79,7 +80,7 @@ check:
 install: install-libraries install-programs
 
 install-libraries: $(ARCHIVES) $(SHARED)
-	$(INSTALL) -d $(DESTDIR)$(INCLUDEDIR) $(DESTDIR)$(LIBDIR) $(DESTDIR)$(PKGCONFIGDIR)
+	$(INSTALL) -d $(DESTDIR)$(INCLUDEDIR) $(DESTDIR)$(LIBDIR) $(DESTDIR)$(PKGCONFIGDIR) $(addprefix $(DESTDIR)$(DOCDIR)/,$(sort $(dir $(CALLERS))))
 	$(INSTALL_DATA) include/*.h $(DESTDIR)$(INCLUDEDIR)
 	$(INSTALL_DATA) $(ARCHIVES) $(DESTDIR)$(LIBDIR)
 	$(INSTALL) -m 755 $(SHARED) $(DESTDIR)$(LIBDIR)
@@ -89,6 +90,7 @@ install-libraries: $(ARCHIVES) $(SHARED)
 	        -e 's|@VERSION@|$(VERSION)|' share/$$name.pc.in > $(DESTDIR)$(PKGCONFIGDIR)/$$name.pc && \
 	    chmod 644 $(DESTDIR)$(PKGCONFIGDIR)/$$name.pc || exit 1; \
 	done
+	for file in $(CALLERS); do $(INSTALL_DATA) $$file $(DESTDIR)$(DOCDIR)/$$file || exit 1; done
 
 # The door and what stands behind it lie together in a folder of their own; by the link in BINDIR it finds them.
 HOME_OF = $(LIBDIR)/hulayban

@@ -17,5 +17,5 @@ complete -c hrt -n '__fish_seen_subcommand_from check' -l summary -d 'prints a t
 complete -c hrt -n '__fish_seen_subcommand_from check' -l prove -d 'proves the program hrt_check in place of a check, and keeps it'
 complete -c hrt -n '__fish_seen_subcommand_from json' -l to-text -d 'reads such lines, and prints the text of the record'
 complete -c hrt -n '__fish_seen_subcommand_from draw' -r -l script -d 'the script of the record, so that its rounds and the words of its calls are shown'
-complete -c hrt -n '__fish_seen_subcommand_from lib' -l prove -d 'the same: no library is made without its proof'
+complete -c hrt -n '__fish_seen_subcommand_from lib' -l prove -d 'the same, since no library is made without its proof'
 complete -c hrt -n '__fish_seen_subcommand_from lib' -f

@@ -82,7 +82,7 @@ DRAW = Command(
 LIB = Command(
     "lib",
     "proves the libraries for C where they are not kept, keeps them, and prints their folder",
-    options=(Option("--prove", "the same: no library is made without its proof"),),
+    options=(Option("--prove", "the same, since no library is made without its proof"),),
 )
 COMMANDS = (*OF_PROGRAM, CHECK, JSON, DRAW, LIB)
 
