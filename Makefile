@@ -4,9 +4,10 @@
 #   make check          whether this checkout is sound on this machine, in some minutes
 #   make install        into PREFIX, and below DESTDIR where that is given; make uninstall removes it again. Neither needs the kit
 #   make installcheck   installs into an empty folder and packs, and tries both on the callers
-#   make dist           a tarball that runs on machines without the kit, in out/dist
+#   make dist           a tarball that runs on machines without the kit, in out/dist; make tarball packs what make left
 #   make clean          removes what was made here of the proved libraries and programs, and leaves these
 SHELL = /bin/bash
+.SHELLFLAGS = -o pipefail -c
 .DELETE_ON_ERROR:
 .NOTPARALLEL:
 
@@ -40,12 +41,12 @@ NAMES = hulayban hulayban_trace
 ARCHIVES = $(NAMES:%=$(PACKAGE)/lib%.a)
 SHARED = $(NAMES:%=$(PACKAGE)/lib%.so.$(ABI))
 PROGRAMS = $(PACKAGE)/hrt $(PACKAGE)/hrt_check
+OF_PROGRAMS = $(PROGRAMS) $(PACKAGE)/COMMIT
 CALLERS := $(wildcard $(addprefix callers/,c/*.c expected/* python/*.py rust/Cargo.* rust/*.rs rust/src/*.rs rust/examples/*.rs))
 TARBALL = out/dist/hulayban-$(VERSION)-x86_64-linux
 DATE = $(or $(SOURCE_DATE_EPOCH),$(shell git log -1 --format=%ct 2> /dev/null),0)
-COMMIT = $(shell git describe --always --dirty 2> /dev/null || echo no commit)
 
-.PHONY: all libraries programs check install install-libraries install-programs uninstall installcheck dist clean
+.PHONY: all libraries programs check install install-libraries install-programs uninstall installcheck dist tarball clean
 all: libraries programs
 
 # A copy that is newer only where it differs.
@@ -63,11 +64,12 @@ programs:
 	@mkdir -p $(PACKAGE)
 	@bin/hrt --prove && $(call place,use_hrt) && $(call take,"$$place",hrt) && $(call take,"$$place.log",hrt.log)
 	@bin/hrt check --prove && $(call place,use_hrt_check) && $(call take,"$$place",hrt_check) && $(call take,"$$place.log",hrt_check.log)
+	@git describe --always --dirty > $(PACKAGE)/COMMIT 2> /dev/null || echo no commit > $(PACKAGE)/COMMIT
 
 $(ARCHIVES):
 	@$(MAKE) --no-print-directory libraries
 
-$(PROGRAMS):
+$(OF_PROGRAMS):
 	@$(MAKE) --no-print-directory programs
 
 $(PACKAGE)/%.so.$(ABI): $(PACKAGE)/%.a share/exports.map
@@ -84,25 +86,24 @@ install-libraries: $(ARCHIVES) $(SHARED)
 	$(INSTALL_DATA) include/*.h $(DESTDIR)$(INCLUDEDIR)
 	$(INSTALL_DATA) $(ARCHIVES) $(DESTDIR)$(LIBDIR)
 	$(INSTALL) -m 755 $(SHARED) $(DESTDIR)$(LIBDIR)
-	for name in $(NAMES); do \
+	@for name in $(NAMES); do \
 	    ln -sf lib$$name.so.$(ABI) $(DESTDIR)$(LIBDIR)/lib$$name.so && \
 	    sed -e 's|@PREFIX@|$(PC_PREFIX)|' -e 's|@INCLUDEDIR@|$(INCLUDEDIR:$(PREFIX)/%=$${prefix}/%)|' -e 's|@LIBDIR@|$(LIBDIR:$(PREFIX)/%=$${prefix}/%)|' \
 	        -e 's|@VERSION@|$(VERSION)|' share/$$name.pc.in > $(DESTDIR)$(PKGCONFIGDIR)/$$name.pc && \
 	    chmod 644 $(DESTDIR)$(PKGCONFIGDIR)/$$name.pc || exit 1; \
 	done
-	for file in $(CALLERS); do $(INSTALL_DATA) $$file $(DESTDIR)$(DOCDIR)/$$file || exit 1; done
+	@for file in $(CALLERS); do $(INSTALL_DATA) $$file $(DESTDIR)$(DOCDIR)/$$file || exit 1; done
 
 # The door and what stands behind it lie together in a folder of their own; by the link in BINDIR it finds them.
 HOME_OF = $(LIBDIR)/hulayban
-install-programs: $(PROGRAMS)
+install-programs: $(OF_PROGRAMS)
 	$(INSTALL) -d $(addprefix $(DESTDIR),$(BINDIR) $(HOME_OF)/bin $(HOME_OF)/programs $(HOME_OF)/tools $(HOME_OF)/model \
 	    $(MANDIR)/man1 $(BASHDIR) $(ZSHDIR) $(FISHDIR) $(DOCDIR)/docs $(DOCDIR)/examples)
 	$(INSTALL) -m 755 bin/hrt $(DESTDIR)$(HOME_OF)/bin
 	$(INSTALL) -m 755 $(PROGRAMS) $(DESTDIR)$(HOME_OF)/programs
 	$(INSTALL_DATA) tools/*.py tools/program.bash $(DESTDIR)$(HOME_OF)/tools
 	$(INSTALL_DATA) model/*.py $(DESTDIR)$(HOME_OF)/model
-	$(INSTALL_DATA) VERSION $(DESTDIR)$(HOME_OF)
-	echo $(COMMIT) > $(DESTDIR)$(HOME_OF)/COMMIT && chmod 644 $(DESTDIR)$(HOME_OF)/COMMIT
+	$(INSTALL_DATA) VERSION $(PACKAGE)/COMMIT $(DESTDIR)$(HOME_OF)
 	ln -sfr $(DESTDIR)$(HOME_OF)/bin/hrt $(DESTDIR)$(BINDIR)/hrt
 	ln -sfr $(DESTDIR)$(HOME_OF)/programs/hrt_check $(DESTDIR)$(BINDIR)/hrt_check
 	$(INSTALL_DATA) share/hrt.1 $(DESTDIR)$(MANDIR)/man1
@@ -124,8 +125,11 @@ uninstall:
 installcheck:
 	.ci/install
 
+dist: all
+	@$(MAKE) --no-print-directory tarball
+
 # The same files in one folder that may lie anywhere, with their sums and what rt said when they were proved.
-dist: $(ARCHIVES) $(SHARED) $(PROGRAMS)
+tarball: $(ARCHIVES) $(SHARED) $(OF_PROGRAMS)
 	rm -rf $(TARBALL) $(TARBALL).tar.gz $(TARBALL).tar.gz.sha256
 	mkdir -p $(TARBALL)/proof
 	$(MAKE) --no-print-directory install DESTDIR= PREFIX=$(abspath $(TARBALL)) PC_PREFIX='$$$${pcfiledir}/../..'
