@@ -11,6 +11,8 @@ from command import COMMANDS, ENVIRONMENT, EXAMPLE, INTRODUCTION, OPTIONS, SEE_A
 TOP = os.path.dirname(os.path.dirname(os.path.abspath(__file__)))
 SHARE = os.path.join(TOP, "share")
 
+CHECK_BY_ITSELF = "hrt_check is the program that hrt check starts. By itself it takes no word but --summary, and reads standard input."
+
 
 def version():
     with open(os.path.join(TOP, "VERSION"), encoding="ascii") as file:
@@ -30,13 +32,13 @@ def man_page():
     lines = [
         f'.TH HRT 1 "" "Hulayban {version()}" "User Commands"',
         ".SH NAME",
-        "hrt \\- runs scripts of timer calls on a proved library of high\\-resolution timers",
+        "hrt, hrt_check \\- runs scripts of timer calls on a proved library of high\\-resolution timers, and checks the trace of a kernel\\(aqs own",
         ".SH SYNOPSIS",
     ]
     for synopsis in [*(it.synopsis() for it in COMMANDS), *(it.name for it in OPTIONS)]:
         lines += [f".B hrt {roff(synopsis)}", ".br"]
     lines.append(".SH DESCRIPTION")
-    for text in INTRODUCTION:
+    for text in (*INTRODUCTION, CHECK_BY_ITSELF):
         lines += [".PP", roff(text)]
     lines.append(".SH COMMANDS")
     for command in COMMANDS:
