@@ -32,7 +32,7 @@ def man_page():
     lines = [
         f'.TH HRT 1 "" "Hulayban {version()}" "User Commands"',
         ".SH NAME",
-        "hrt, hrt_check \\- runs scripts of timer calls on a proved library of high\\-resolution timers, and checks the trace of a kernel\\(aqs own",
+        "hrt, hrt_check \\- runs scripts of timer calls on a proved library of high\\-resolution timers, and checks the trace of a kernel\\(aqs own timers",
         ".SH SYNOPSIS",
     ]
     for synopsis in [*(it.synopsis() for it in COMMANDS), *(it.name for it in OPTIONS)]:
