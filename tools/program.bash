@@ -20,6 +20,11 @@ use_hrt_check() {
 }
 use_hrt
 
+# Whether this is no checkout, but where the programs are installed.
+is_installed() {
+    [ ! -e "$top/crates.txt" ] && [ -x "$installed" ]
+}
+
 # Chooses the libraries for C in place of a program: that of timers, and that of the check of traces.
 use_libraries() {
     main_crates=(hulayban_c hulayban_trace)
