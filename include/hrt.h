@@ -1,4 +1,4 @@
-/* High-resolution timers of one thread at a time: the exports of the static library libhulayban_c.a (crate hulayban_c).
+/* High-resolution timers of one thread at a time: the exports of the library libhulayban (crate hulayban_c).
  *
  * Times are nanoseconds. A call never waits and reads no clock, and it calls no function of yours: hrt_next says how long you may sleep,
  * hrt_claim whose function is to run, you run it, and hrt_finish ends the run.
@@ -15,6 +15,9 @@
  */
 #ifndef HRT_H
 #define HRT_H
+
+/* The library's version, that of the file VERSION. */
+#define HRT_VERSION "0.1.0"
 
 #include <stddef.h>
 #include <stdint.h>

@@ -1,4 +1,4 @@
-/* The check of a Linux kernel's own timer trace: the export of the static library libhulayban_trace.a (crate hulayban_trace).
+/* The check of a Linux kernel's own timer trace: the export of the library libhulayban_trace (crate hulayban_trace).
  *
  * Threads: any number of them may call at once, as there is no handle.
  * Null: no pointer may be null. Aliasing: out may not point into the text.

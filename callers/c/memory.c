@@ -1,6 +1,7 @@
 /* Where memory is taken: each allocation of hrt_new and of hrt_check fails once, and the calls between hrt_new and hrt_free make none. The linker sends malloc,
  * realloc and free of the library here: -Wl,--wrap=malloc,--wrap=realloc,--wrap=free. */
 #include "hrt.h"
+#include "hrt_trace.h"
 
 #include <inttypes.h>
 #include <stdio.h>
@@ -55,6 +56,7 @@ static void call_all(uint64_t ns) {
     hrt_start(&timers, below(256), below(3), ns + below(100), below(20), below(8), &now, &a);
     hrt_cancel(&timers, below(256), &a);
     hrt_peek(&timers, below(256), &a);
+    hrt_next(&timers, below(8), &now, &a);
     if (hrt_claim(&timers, below(2), below(8), &now, &a) != HRT_CLAIMED) return;
     uint32_t timer = a.timer;
     hrt_forward(&timers, timer, &now, 5, &a);
