@@ -119,7 +119,7 @@ ENVIRONMENT = (
     ("HRT_PROGRAM", "a program to run in place of the one that is built here for run and gen"),
     ("HRT_CHECK_PROGRAM", "a program to run in place of the one that is built here for check"),
 )
-SEE_ALSO = "docs/DEFINITIONS.md has the words of scripts and records, examples/ scripts with their records."
+SEE_ALSO = "docs/SCRIPT.md has the words of scripts and records, examples/ scripts with their records."
 
 
 def wrapped(text, begin, width=96):

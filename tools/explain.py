@@ -134,7 +134,7 @@ def forms_of(words, version):
 
 
 def written(form):
-    """A form, as docs/DEFINITIONS.md writes it."""
+    """A form, as docs/SCRIPT.md writes it."""
     return " ".join({"MODE": "rel|abs"}.get(word, word) for word in form.words)
 
 
