@@ -49,6 +49,7 @@ impl BaseRow {
         ensures sees { SeesFurther pass.old.knows pass.new.knows }
         ensures steady { Steady pass.old.knows pass.new.knows }
         ensures raised { RaisesTo counter to pass.old.knows.seen pass.new.knows.seen }
+        ensures count { to ≤ rises_of counter pass.new.knows.seen }
     {
         let word = self.counter_word(counter);
         raise(&self.table.shared, &mut pass.seat, counter, word, to);

@@ -44,6 +44,7 @@ impl BaseRow {
         ensures sees { SeesFurther pass.old.knows pass.new.knows }
         ensures steady { Steady pass.old.knows pass.new.knows }
         ensures raised { RaisesTo (put_counter self.now.about ring) to pass.old.knows.seen pass.new.knows.seen }
+        ensures count { to ≤ put_in self.now.about ring pass.new.knows.seen }
     {
         self.raise_word(pass, self.put_number(ring), to);
     }
@@ -57,6 +58,7 @@ impl BaseRow {
         ensures sees { SeesFurther pass.old.knows pass.new.knows }
         ensures steady { Steady pass.old.knows pass.new.knows }
         ensures raised { RaisesTo (taken_counter self.now.about ring) to pass.old.knows.seen pass.new.knows.seen }
+        ensures count { to ≤ taken_off self.now.about ring pass.new.knows.seen }
     {
         self.raise_word(pass, self.taken_number(ring), to);
     }

@@ -77,6 +77,7 @@ impl Timers {
         ensures pass { IsPassOf self.now pass.new }
         ensures looks { LooksOn pass.old.known pass.new.known }
         ensures raised { RaisesTo (put_counter self.now.about ring) to pass.old.known.seen pass.new.known.seen }
+        ensures count { to ≤ put_in self.now.about ring pass.new.known.seen }
         ensures locks { KeepsLocks pass.old pass.new }
     {
         self.row.raise_put(&mut pass.inner, ring, to);
@@ -91,6 +92,7 @@ impl Timers {
         ensures pass { IsPassOf self.now pass.new }
         ensures looks { LooksOn pass.old.known pass.new.known }
         ensures raised { RaisesTo (taken_counter self.now.about ring) to pass.old.known.seen pass.new.known.seen }
+        ensures count { to ≤ taken_off self.now.about ring pass.new.known.seen }
         ensures locks { KeepsLocks pass.old pass.new }
     {
         self.row.raise_taken(&mut pass.inner, ring, to);
