@@ -61,7 +61,7 @@ enum {
     HRT_CAUSE_OTHER_PROCESSOR = 9,   /* an expiry on another processor than the timer was armed on by its function */
     HRT_CAUSE_OTHER_CONTEXT = 10,    /* an expiry, or a function's return, in another context than the timer's */
     HRT_CAUSE_TOO_EARLY = 11,        /* an expiry at now, before the soft expiry, soft */
-    HRT_CAUSE_SECOND_FUNCTION = 12,  /* a function begins where that of the timer at the address timer runs */
+    HRT_CAUSE_SECOND_FUNCTION = 12,  /* a function begins where that of the timer at the address timer runs, which isn't soft, or it isn't hard */
     HRT_CAUSE_OUT_OF_ORDER = 13,     /* an expiry behind one of the same queue that had to wait for it */
     HRT_CAUSE_NOT_RUNNING = 14,      /* a function returns that doesn't run there */
 
