@@ -15,7 +15,7 @@ use Rattle.trace_check.specs.declared.known.HalfKnown.{HalfKnown}
 use Rattle.trace_check.specs.declared.known.HalfKnown.TheVariants as halves
 use Rattle.trace_check.specs.declared.known.KnownProcessor.{KnownProcessor}
 use Rattle.trace_check.specs.declared.known.KnownTimer.{KnownTimer}
-use Rattle.trace_check.specs.Knowledge.{Knowledge, is_untold}
+use Rattle.trace_check.specs.Knowledge.{is_untold, Knowledge}
 use Rattle.trace_check.specs.Traced.{is_ahead}
 use Rattle.trace_check.proofs.Plain.{IsHidden, Plain, PlainTimers}
 

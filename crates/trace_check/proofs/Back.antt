@@ -12,7 +12,7 @@ use Rattle.trace_check.specs.declared.known.FunctionKnown.{FunctionKnown}
 use Rattle.trace_check.specs.declared.known.FunctionKnown.TheVariants as functions
 use Rattle.trace_check.specs.declared.known.KnownProcessor.{KnownProcessor}
 use Rattle.trace_check.specs.declared.known.KnownTimer.{KnownTimer}
-use Rattle.trace_check.specs.Knowledge.{Knowledge, has_running, is_armed, learned, misfit, no_knowledge, soft_of}
+use Rattle.trace_check.specs.Knowledge.{has_running, is_armed, Knowledge, learned, misfit, no_knowledge, soft_of}
 use Rattle.trace_check.proofs.Plain.{IsBeginning, Plain, PlainTimers}
 use Rattle.trace_check.proofs.Agreement.{Agrees, ArmedAs, RunsAs, Sound, SoundFunction}
 use Rattle.trace_check.proofs.Before.{Led, at_place, at_rest, clock_of, context_of, hard_of, home_is, if_armed, if_unarmed, no_part, place_of}

@@ -20,7 +20,7 @@ use Rattle.trace_check.specs.declared.known.HalfKnown.{HalfKnown}
 use Rattle.trace_check.specs.declared.known.HalfKnown.TheVariants as halves
 use Rattle.trace_check.specs.declared.known.KnownProcessor.{KnownProcessor}
 use Rattle.trace_check.specs.declared.known.KnownTimer.{KnownTimer}
-use Rattle.trace_check.specs.Knowledge.{Knowledge, claim_by, closed, entered_there, is_inside, is_passed, known_entered, known_outer, learned, misfit, misfits_of, outer_by, soft_of, with_claim, with_outer}
+use Rattle.trace_check.specs.Knowledge.{claim_by, closed, entered_there, is_inside, is_passed, Knowledge, known_entered, known_outer, learned, misfit, misfits_of, outer_by, soft_of, with_claim, with_outer}
 use Rattle.trace_check.specs.Traced.{is_ahead, context_at}
 use Rattle.trace_check.proofs.Plain.{HasTurn, IsEntered, IsHidden, Plain, PlainTimers, RunsOn}
 use Rattle.trace_check.proofs.Agreement.{Agrees, AgreesAt, HasTurnBefore, Holds, RunsAs, Sound, SoundFunction, half_of, is_open}
@@ -183,7 +183,8 @@ back_entry k w' t site now s none a =
     known_as line context (w' t).context (line_known site.context known.told known.context fails.1.1.1.0 (s.each t).told) context_is in
     let old = at_rest known true (w' t).clock (w' t).context c (is_some line) in
     let was = updated_here w' t old in
-    let learned_of : (u : ℕ) → u ≢ t → AgreesAt new_there new_claims (f u) (w' u) = λ u other. else_known new_there new_claims f t u _ (w' u) other (a.each u) in
+    let learned_of : (u : ℕ) → u ≢ t → AgreesAt new_there new_claims (f u) (w' u) =
+    λ u other. else_known new_there new_claims f t u _ (w' u) other (a.each u) in
     let others : (u : ℕ) → u ≢ t → AgreesAt new_there new_claims (k.timers u) (w' u) = λ u other.
     outer_before new_there new_claims k.timers there.loose u (w' u) (learned_of u other)
     (λ is hard. free.inside u (ap (λ o. outer_by o k.timers) is ∙ hard) is) in
@@ -250,7 +251,8 @@ back_entry k w' t site now s none a =
                       | inr hidden_v ↦ absurd (both_ways inside (left v two.0 (record { runs = two.1; shown = hidden_v })).outside around_u.inside)
                     ]
                 | inr hidden_u ↦ elim (cases_Bool (w' v).shown) [
-                  | inl shown_v ↦ absurd (both_ways inside (left u one.0 (record { runs = one.1; shown = hidden_u })).outside (around v two.0 two.1 shown_v).inside)
+                  | inl shown_v ↦ absurd (both_ways inside (left u one.0 (record { runs = one.1; shown = hidden_u })).outside
+                      (around v two.0 two.1 shown_v).inside)
                   | inr hidden_v ↦ a.alone c u v (ap (λ p. is_open p) (updated_here k.processors c entered) ∙ not_open inside t line there)
                       (record { runs = one.1; shown = hidden_u }) (record { runs = two.1; shown = hidden_v })
                 ]
@@ -260,7 +262,8 @@ back_entry k w' t site now s none a =
               ap (λ p. p.context) (updated_else w' t u old one.0) ∙ elim (cases_Bool (w' u).shown) [
                 | inl shown ↦ elim (around u one.0 one.1 shown).place [
                   | inl soft ↦ is_as (k.timers u).context contexts.Soft (w' u).context (others u one.0).context ((s.places c).soft u soft).1
-                  | inr loose ↦ is_as (f u).context contexts.Soft (w' u).context (learned_of u one.0).context (ap (λ i. i.context) (outer_is there.loose k.timers u loose))
+                  | inr loose ↦ is_as (f u).context contexts.Soft (w' u).context (learned_of u one.0).context
+                      (ap (λ i. i.context) (outer_is there.loose k.timers u loose))
                 ]
                 | inr hidden ↦ (left u one.0 (record { runs = one.1; shown = hidden })).soft
               ];

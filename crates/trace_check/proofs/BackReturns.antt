@@ -16,7 +16,7 @@ use Rattle.trace_check.specs.declared.known.HalfKnown.{HalfKnown}
 use Rattle.trace_check.specs.declared.known.HalfKnown.TheVariants as halves
 use Rattle.trace_check.specs.declared.known.KnownProcessor.{KnownProcessor}
 use Rattle.trace_check.specs.declared.known.KnownTimer.{KnownTimer}
-use Rattle.trace_check.specs.Knowledge.{Knowledge, closed_in, exited_there, half_without, home_after, is_untold, known_exited, learned, left_by, left_for, may_be_left, may_run, misfit, misfits_of, without}
+use Rattle.trace_check.specs.Knowledge.{closed_in, context_left, exited_there, half_without, home_after, is_untold, Knowledge, known_exited, learned, left_for, may_be_left, may_run, misfit, misfits_of, vacated}
 use Rattle.trace_check.specs.Traced.{context_at}
 use Rattle.trace_check.proofs.Plain.{IsExited, IsHidden, LeavesOne, Plain, PlainTimers}
 use Rattle.trace_check.proofs.Agreement.{Agrees, AgreesAt, ArmedAs, RunsAs, Sound, SoundFunction, half_of, is_open}
@@ -100,7 +100,7 @@ open_none there contexts.Hard false b hard soft may is = absurd (hard_soft refl 
 open_none there contexts.Soft false b hard soft may is = untold_half there.soft (soft ∙ may)
 
 open_by : (line : Option Context) (there : KnownProcessor) (y : Context) → may_be_left line there ≡ true → IsAs line y
-    → (line ≡ None → IsAs (left_by there.hard there.soft) y) → half_of there y ≡ halves.Untold
+    → (line ≡ None → IsAs (context_left there.hard there.soft) y) → half_of there y ≡ halves.Untold
 open_by None there y may told left = open_none there y (is_untold there.hard) (is_untold there.soft) refl refl may (left refl)
 open_by (Some contexts.Hard) there y may told left = ap (half_of there) told ∙ untold_half there.hard may
 open_by (Some contexts.Soft) there y may told left = ap (half_of there) told ∙ untold_half there.soft may
@@ -113,7 +113,7 @@ closing_none there true false hard soft may not_both = (contexts.Hard, refl, unt
 closing_none there false b hard soft may not_both = (contexts.Soft, refl, untold_half there.soft (soft ∙ may))
 
 closing_one : (line : Option Context) (there : KnownProcessor) → may_be_left line there ≡ true → is_open there ≡ false
-    → (z : Context) × (context_at line (left_by there.hard there.soft) ≡ Some z) × (half_of there z ≡ halves.Untold)
+    → (z : Context) × (context_at line (context_left there.hard there.soft) ≡ Some z) × (half_of there z ≡ halves.Untold)
 closing_one None there may not_both = closing_none there (is_untold there.hard) (is_untold there.soft) refl refl may not_both
 closing_one (Some contexts.Hard) there may not_both = (contexts.Hard, refl, untold_half there.hard may)
 closing_one (Some contexts.Soft) there may not_both = (contexts.Soft, refl, untold_half there.soft may)
@@ -131,7 +131,7 @@ half_was_untold t (halves.Taken u) is = absurd (neither (nat_eq u t) is)
     neither true e = free_untold e
     neither false e = taken_untold e
 
-was_untold : (closing : Option Context) (t : ℕ) (there : KnownProcessor) (y : Context) → half_of (closed_in closing (without t there)) y ≡ halves.Untold
+was_untold : (closing : Option Context) (t : ℕ) (there : KnownProcessor) (y : Context) → half_of (closed_in closing (vacated t there)) y ≡ halves.Untold
     → half_of there y ≡ halves.Untold
 was_untold None t there contexts.Hard is = half_was_untold t there.hard is
 was_untold None t there contexts.Soft is = half_was_untold t there.soft is
@@ -146,9 +146,9 @@ both_open there contexts.Hard contexts.Soft a b other = rw (a, b) refl
 both_open there contexts.Soft contexts.Hard a b other = rw (a, b) refl
 both_open there contexts.Soft contexts.Soft a b other = absurd (other refl)
 
-stays_closed : (closing : Option Context) (t : ℕ) (there : KnownProcessor) → is_open there ≡ false → is_open (closed_in closing (without t there)) ≡ false
+stays_closed : (closing : Option Context) (t : ℕ) (there : KnownProcessor) → is_open there ≡ false → is_open (closed_in closing (vacated t there)) ≡ false
 stays_closed closing t there is = false_from_ne_true _ (λ open_.
-    let both = both_untold (closed_in closing (without t there)) open_ in
+    let both = both_untold (closed_in closing (vacated t there)) open_ in
     both_ways (is_open there) is (both_open there contexts.Hard contexts.Soft (was_untold closing t there contexts.Hard both.0)
     (was_untold closing t there contexts.Soft both.1) (λ e. hard_soft e refl)))
 
@@ -198,7 +198,7 @@ back_exit k w' t site s none a =
     let closes : closing ≡ Some one.0 = ap (λ f. context_at line (left_for f there)) is ∙ one.1 in
     let half = half_there v other hidden in
     both_ways (is_open there) not_both (both_open there (w' v).context one.0 (was_untold closing t there (w' v).context half) one.2
-    (λ same. closed_not closing (without t there) (w' v).context (closes ∙ ap Some same) half)) in (
+    (λ same. closed_not closing (vacated t there) (w' v).context (closes ∙ ap Some same) half)) in (
       before w' t old,
       agree_before k w' t old
           (record {
@@ -232,7 +232,8 @@ back_exit k w' t site s none a =
                 elim (cases_eq u t) [
                   | inl u_is ↦ elim (cases_eq v t) [
                     | inl v_is ↦ u_is ∙ sym v_is
-                    | inr v_other ↦ absurd (alone_t v v_other not_both (ap (λ i. (before w' t old i).shown) (sym u_is) ∙ hidden_u.shown) (at_c v v_other hidden_v))
+                    | inr v_other ↦ absurd (alone_t v v_other not_both (ap (λ i. (before w' t old i).shown) (sym u_is) ∙ hidden_u.shown)
+                        (at_c v v_other hidden_v))
                   ]
                   | inr u_other ↦ elim (cases_eq v t) [
                     | inl v_is ↦ absurd (alone_t u u_other not_both (ap (λ i. (before w' t old i).shown) (sym v_is) ∙ hidden_v.shown) (at_c u u_other hidden_u))
@@ -267,12 +268,12 @@ back_exit k w' t site s none a =
               let some = told_some line told in
               let same : (w' u).context ≡ some.0 = ap (λ p. p.context) (sym (updated_else w' t u old other)) ∙ within ∙ ap (λ p. p.context) was
               ∙ is_as line some.0 (w' t).context line_is some.1 in
-              closed_not closing (without t there) (w' u).context (ap (λ o. context_at o left) some.1 ∙ ap Some (sym same))
+              closed_not closing (vacated t there) (w' u).context (ap (λ o. context_at o left) some.1 ∙ ap Some (sym same))
               (half_there u other (else_hidden c u other hidden));
           alone = λ u v told other_u other_v hidden_u hidden_v.
               let some = told_some line told in
               a.alone c u v (ap (λ p. is_open p) (updated_here k.processors c exited)
-              ∙ told_closes closing (without t there) some.0 (ap (λ o. context_at o left) some.1))
+              ∙ told_closes closing (vacated t there) some.0 (ap (λ o. context_at o left) some.1))
               (else_hidden c u other_u hidden_u) (else_hidden c v other_v hidden_v);
         }),
         spared_before w' t old,

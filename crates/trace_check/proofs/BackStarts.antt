@@ -14,7 +14,7 @@ use Rattle.trace_check.specs.declared.known.FunctionKnown.{FunctionKnown}
 use Rattle.trace_check.specs.declared.known.FunctionKnown.TheVariants as functions
 use Rattle.trace_check.specs.declared.known.KnownProcessor.{KnownProcessor}
 use Rattle.trace_check.specs.declared.known.KnownTimer.{KnownTimer}
-use Rattle.trace_check.specs.Knowledge.{Knowledge, known_cancelled, misfit, misfits_of, is_armed, is_unarmed, learned, known_set_up, soft_of, known_started, tells_armed, tells_unarmed}
+use Rattle.trace_check.specs.Knowledge.{is_armed, is_unarmed, Knowledge, known_cancelled, known_set_up, known_started, learned, misfit, misfits_of, soft_of, tells_armed, tells_unarmed}
 use Rattle.trace_check.proofs.Plain.{IsCancelled, IsSetUp, IsStarted, Plain, PlainTimers}
 use Rattle.trace_check.proofs.Agreement.{Agrees, ArmedAs, RunsAs, Sound, SoundFunction}
 use Rattle.trace_check.proofs.Parts.{all_fail, not_hidden}
@@ -70,7 +70,8 @@ back_cancel k w' t s none a =
     let old = at_rest known true (w' t).clock (w' t).context base false in (
       before w' t old,
       agree_before k w' t old
-          (rest_agrees k.processors k.claims known true _ _ _ false (armed_before known (w' t).clock (w' t).context base false known.armed refl fails.1.0) fails.0
+          (rest_agrees k.processors k.claims known true _ _ _ false
+          (armed_before known (w' t).clock (w' t).context base false known.armed refl fails.1.0) fails.0
           (at_place known.home) new.clock new.context (λ m some tells. no_part _ tells))
           (λ u other. else_known k.processors k.claims k.timers t u _ (w' u) other (a.each u))
           (alone_before k.processors w' t old (not_hidden (w' t) old refl) a.alone),

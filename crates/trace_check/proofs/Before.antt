@@ -17,7 +17,7 @@ use Rattle.trace_check.specs.declared.known.FunctionKnown.{FunctionKnown}
 use Rattle.trace_check.specs.declared.known.FunctionKnown.TheVariants as functions
 use Rattle.trace_check.specs.declared.known.KnownProcessor.{KnownProcessor}
 use Rattle.trace_check.specs.declared.known.KnownTimer.{KnownTimer}
-use Rattle.trace_check.specs.Knowledge.{Knowledge, is_unarmed, has_running, soft_of}
+use Rattle.trace_check.specs.Knowledge.{has_running, is_unarmed, Knowledge, soft_of}
 use Rattle.trace_check.proofs.Plain.{Plain, PlainTimers, ShowsEvent, Spared}
 use Rattle.trace_check.proofs.Agreement.{Agrees, AgreesAt, AreAlone, ArmedAs, HasTurnBefore, RunsAs}
 use Rattle.trace_check.proofs.Parts.{Moves, alone_still, same_some}
@@ -72,7 +72,8 @@ at_rest known armed clock context base tells = record {
   shown = false;
 }
 
-pub armed_before : (known : KnownTimer) (clock : ClockId) (context : Context) (base : ℕ) (tells : Bool) (a : ArmedKnown) → known.armed ≡ a → is_unarmed a ≡ false
+pub armed_before : (known : KnownTimer) (clock : ClockId) (context : Context) (base : ℕ) (tells : Bool) (a : ArmedKnown) → known.armed ≡ a
+    → is_unarmed a ≡ false
     → ArmedAs a (at_rest known true clock context base tells)
 armed_before known clock context base tells arms.Untold is fails = tt
 armed_before known clock context base tells arms.No is fails = absurd cc
@@ -86,7 +87,8 @@ rests_as functions.Untold p still is = λ run. absurd (both_ways p.running is ru
 rests_as functions.Rests p still is = is
 rests_as (functions.Runs c) p still is = absurd cc
 
-pub rest_agrees : (there : ℕ → KnownProcessor) (claims : List OrderedExpiry) (known : KnownTimer) (armed : Bool) (clock : ClockId) (context : Context) (base : ℕ)
+pub rest_agrees : (there : ℕ
+    → KnownProcessor) (claims : List OrderedExpiry) (known : KnownTimer) (armed : Bool) (clock : ClockId) (context : Context) (base : ℕ)
     (tells : Bool) → ArmedAs known.armed (at_rest known armed clock context base tells) → has_running known.function ≡ false → IfSome known.home (λ b. base ≡ b)
     → IfSome known.clock (λ c. clock ≡ c) → IfSome known.context (λ x. context ≡ x)
     → ((m : ℕ) → known.order ≡ Some m → tells ≡ true → AllByRecursion (λ q. HasTurnBefore q (at_rest known armed clock context base tells) m) claims)

@@ -20,12 +20,12 @@ use Rattle.trace_check.specs.declared.known.FunctionKnown.TheVariants as functio
 use Rattle.trace_check.specs.declared.known.HalfKnown.TheVariants as halves
 use Rattle.trace_check.specs.declared.known.KnownProcessor.{KnownProcessor}
 use Rattle.trace_check.specs.declared.known.KnownTimer.{KnownTimer}
-use Rattle.trace_check.specs.Knowledge.{Knowledge, claim_by, entered_there, exited_there, home_after, is_inside, is_passed, known_outer, left_for, may_run, misfits_of, no_knowledge, nothing_there, outer_by, with_claim, with_outer}
+use Rattle.trace_check.specs.Knowledge.{claim_by, entered_there, exited_there, home_after, is_inside, is_passed, Knowledge, known_outer, left_for, may_run, misfits_of, no_knowledge, nothing_there, outer_by, with_claim, with_outer}
 use Rattle.trace_check.specs.Traced.{is_ahead, context_at}
 use Rattle.trace_check.proofs.Plain.{HasTurn, IsBeginning, IsEntered, IsExited, IsHidden, LeavesOne, Plain, PlainTimers, RunsOn, ShowsEvent, Spared, Stays}
 use Rattle.trace_check.proofs.Agreement.{Agrees, AgreesAt, ArmedAs, HasTurnBefore, RunsAs, Sound, half_of, is_open}
 use Rattle.trace_check.proofs.Parts.{IsAs, each_but, elsewhere, entered_as, flags_as, inside_or, is_as, left_as, line_as, no_cause, none_passes, not_early, not_elsewhere, not_other, not_runs, not_unarmed, waits_with, with_context}
-use Rattle.trace_check.proofs.OnProcessors.{blocker-none, closes, closing_by, hard_soft, left_by-as, left_may, left_some, none_some, outer_of, same_half, soft_stays, stays_open, told_first}
+use Rattle.trace_check.proofs.OnProcessors.{blocker-none, closes, closing_by, hard_soft, context_left-as, left_may, left_some, none_some, outer_of, same_half, soft_stays, stays_open, told_first}
 use Rattle.trace_check.proofs.ForthStarts.{Goes, clock_kept, forth_cancel, forth_set_up, forth_start}
 
 -- ---- an expiry
@@ -53,7 +53,8 @@ not_passed claims n processor (Some x) arms.No c o p armed on order at context t
 not_passed claims n processor None a c o p armed on order at context tells waits = refl
 
 -- a timer of which it is learned that it is soft
-outer_agrees : (there : ℕ → KnownProcessor) (claims : List OrderedExpiry) (f : ℕ → KnownTimer) (o : Option ℕ) (v : ℕ) (p : Plain) → AgreesAt there claims (f v) p
+outer_agrees : (there : ℕ → KnownProcessor) (claims : List OrderedExpiry) (f : ℕ → KnownTimer) (o : Option ℕ) (v : ℕ) (p : Plain)
+    → AgreesAt there claims (f v) p
     → (o ≡ Some v → p.context ≡ contexts.Soft) → AgreesAt there claims (with_outer o f v) p
 outer_agrees there claims f None v p a soft = a
 outer_agrees there claims f (Some u) v p a soft = elim (cases_eq v u) [
@@ -78,7 +79,8 @@ forth_entry k w w' t site now sound a s by_told spared =
     let here : IsAs line (w t).context = subst (λ o. IsAs (context_at site.context o) (w t).context) (a.each t).told s.context in
     let flags : IsAs site.context (w t).context = flags_as site.context known.told (w t).context here in
     let is : IsAs context (w t).context = line_as site.context known.context (w t).context flags (a.each t).context in
-    let runs : (u : ℕ) → (k.timers u).function ≡ functions.Runs c → RunsAs (functions.Runs c) (w u) = λ u f. subst (λ g. RunsAs g (w u)) f (a.each u).function in
+    let runs : (u : ℕ) → (k.timers u).function ≡ functions.Runs c → RunsAs (functions.Runs c) (w u) =
+    λ u f. subst (λ g. RunsAs g (w u)) f (a.each u).function in
     let soft : (u : ℕ) → (k.timers u).function ≡ functions.Runs c → (w u).context ≡ contexts.Soft =
     λ u f. turn.inside u (record { running = (runs u f).0; at = (runs u f).1 }) in
     let hard : (u : ℕ) → (k.timers u).function ≡ functions.Runs c → (w t).context ≡ contexts.Hard =
@@ -101,7 +103,8 @@ forth_entry k w w' t site now sound a s by_told spared =
                   blocker-none context (outer_by there.loose k.timers) there (record {
                     hard = λ u taken. let place = (sound.places c).hard u taken in
                         hard_soft (is_as (k.timers u).context contexts.Hard (w u).context (a.each u).context place.1) (soft u place.0);
-                    around = λ u known_soft taken. hard_soft (hard u ((sound.places c).soft u taken).0) (is_as context contexts.Soft (w t).context is known_soft);
+                    around = λ u known_soft taken. hard_soft (hard u ((sound.places c).soft u taken).0)
+                        (is_as context contexts.Soft (w t).context is known_soft);
                     loose = λ u known_soft loose. hard_soft (hard u ((sound.places c).loose u loose)) (is_as context contexts.Soft (w t).context is known_soft);
                     inside = λ u known_hard loose. hard_soft
                         (is_as (k.timers u).context contexts.Hard (w u).context (a.each u).context
@@ -172,7 +175,8 @@ forth_entry k w w' t site now sound a s by_told spared =
 -- ---- a return
 
 -- a function that runs may run there
-may_run_there : (f : FunctionKnown) (line : Option Context) (there : KnownProcessor) (processor : ℕ) (p : Plain) → RunsAs f p → p.running ≡ true → p.base ≡ processor
+may_run_there : (f : FunctionKnown) (line : Option Context) (there : KnownProcessor) (processor : ℕ) (p : Plain) → RunsAs f p → p.running ≡ true
+    → p.base ≡ processor
     → IsAs line p.context → (p.shown ≡ false → half_of there p.context ≡ halves.Untold) → not (may_run processor line there f) ≡ false
 may_run_there functions.Untold line there processor p runs running at told hidden = ap not (left_may line there p.context told (hidden (runs running)))
 may_run_there functions.Rests line there processor p runs running at told hidden = absurd (both_ways p.running runs running)
@@ -180,7 +184,7 @@ may_run_there (functions.Runs c) line there processor p runs running at told hid
 
 left_is : (f : FunctionKnown) (there : KnownProcessor) (p : Plain) → RunsAs f p → p.running ≡ true → (p.shown ≡ false → half_of there p.context ≡ halves.Untold)
     → IsAs (left_for f there) p.context
-left_is functions.Untold there p runs running hidden = left_by-as there p.context (hidden (runs running))
+left_is functions.Untold there p runs running hidden = context_left-as there p.context (hidden (runs running))
 left_is functions.Rests there p runs running hidden = tt
 left_is (functions.Runs c) there p runs running hidden = tt
 
@@ -218,7 +222,8 @@ forth_exit k w w' t site sound a s by_told spared =
     let here : IsAs line (w t).context = subst (λ o. IsAs (context_at site.context o) (w t).context) (a.each t).told s.context in
     let flags : IsAs site.context (w t).context = flags_as site.context known.told (w t).context here in
     let is : IsAs context (w t).context = line_as site.context known.context (w t).context flags (a.each t).context in
-    let hidden : (w t).shown ≡ false → half_of there (w t).context ≡ halves.Untold = λ shown. same_half k.processors (sym s.at) refl ∙ (a.each t).hidden s.runs shown in
+    let hidden : (w t).shown ≡ false → half_of there (w t).context ≡ halves.Untold =
+    λ shown. same_half k.processors (sym s.at) refl ∙ (a.each t).hidden s.runs shown in
     let untold : (y : Context) → left ≡ Some y → IsHidden c (w t) × (is_open there ≡ false) = λ y some.
     let by = left_some known.function there y some in
     (record { runs = record { running = s.runs; at = s.at }; shown = (subst (λ f. RunsAs f (w t)) by.0 (a.each t).function) s.runs }, by.1) in (
@@ -255,7 +260,8 @@ forth_exit k w w' t site sound a s by_told spared =
             ])
             (a.each u).waits);
         alone = λ d u v told run_u run_v.
-            let else_where : (i : ℕ) → IsHidden d (w' i) → i ≢ t = λ i run same. both_ways (w' t).running s.still (ap (λ v. (w' v).running) (sym same) ∙ run.runs.running) in
+            let else_where : (i : ℕ) → IsHidden d (w' i) → i ≢ t =
+            λ i run same. both_ways (w' t).running s.still (ap (λ v. (w' v).running) (sym same) ∙ run.runs.running) in
             let before : (i : ℕ) → IsHidden d (w' i) → IsHidden d (w i) = λ i run. subst (λ p. IsHidden d p) (spared i (else_where i run)) run in
             elim (cases_eq d c) [
               | inl same ↦

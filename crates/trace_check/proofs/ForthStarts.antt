@@ -15,7 +15,7 @@ use Rattle.trace_check.specs.declared.known.FunctionKnown.TheVariants as functio
 use Rattle.trace_check.specs.declared.known.KnownProcessor.{KnownProcessor}
 use Rattle.trace_check.specs.declared.known.KnownTimer.{KnownTimer}
 use Rattle.trace_check.specs.Fits.{order_of}
-use Rattle.trace_check.specs.Knowledge.{Knowledge, home_by, is_armed, is_unarmed, known_set_up, known_started, learned, misfit, misfits_of, rests, tells_armed, tells_unarmed}
+use Rattle.trace_check.specs.Knowledge.{home_by, is_armed, is_unarmed, Knowledge, known_set_up, known_started, learned, misfit, misfits_of, rests, tells_armed, tells_unarmed}
 use Rattle.trace_check.proofs.Plain.{IsCancelled, IsSetUp, IsStarted, Plain, PlainTimers, Spared}
 use Rattle.trace_check.proofs.Agreement.{Agrees, ArmedAs, HasTurnBefore, RunsAs, Sound, SoundFunction}
 use Rattle.trace_check.proofs.Parts.{alone_still, each_but, no_cause, not_armed, not_hidden, not_runs, not_unarmed}
@@ -110,7 +110,8 @@ pub forth_start : (k : Knowledge) (w w' : PlainTimers) (t soft expires : ℕ) (w
 forth_start k w w' t soft expires was sound a s spared =
     let known = k.timers t in
     let order : (w' t).order ≡ (if is_some known.clock && rests known.function then Some k.count else None) =
-    s.order ∙ order_known k.count known.clock known.function (w t) (a.each t).function (untold_clock k.processors t known known.function (sound.each t).function)
+    s.order ∙ order_known k.count known.clock known.function (w t) (a.each t).function
+    (untold_clock k.processors t known known.function (sound.each t).function)
     (a.each t).clocked in (
       no_cause (misfits_of k (kernel.Start t soft expires was)) (
         le-ltb expires soft s.early,
@@ -131,7 +132,8 @@ forth_start k w w' t soft expires was sound a s spared =
           order = order;
           hidden = λ runs shown. let old = sym s.running ∙ runs in
               same_half k.processors (s.base old) s.keeps.context ∙ (a.each t).hidden old (sym s.shown ∙ shown);
-          waits = λ m some tells. none_waited k.claims (w' t) k.count m (order_then (is_some known.clock && rests known.function) k.count m (sym order ∙ some)) sound.past;
+          waits = λ m some tells. none_waited k.claims (w' t) k.count m
+              (order_then (is_some known.clock && rests known.function) k.count m (sym order ∙ some)) sound.past;
         }) (λ u other. a.each u);
         alone = alone_still k.processors t w w' spared (λ c hidden. let old = sym s.running ∙ hidden.runs.running in record {
           runs = record { running = old; at = sym (s.base old) ∙ hidden.runs.at };

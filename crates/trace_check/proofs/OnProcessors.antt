@@ -11,7 +11,7 @@ use Rattle.trace_check.specs.declared.known.FunctionKnown.TheVariants as functio
 use Rattle.trace_check.specs.declared.known.HalfKnown.{HalfKnown}
 use Rattle.trace_check.specs.declared.known.HalfKnown.TheVariants as halves
 use Rattle.trace_check.specs.declared.known.KnownProcessor.{KnownProcessor}
-use Rattle.trace_check.specs.Knowledge.{begun, blocker, closed, closed_in, entered_there, is_inside, is_known, is_taken, is_untold, left_by, left_for, may_be_left, runner, without}
+use Rattle.trace_check.specs.Knowledge.{begun, blocker, closed, closed_in, context_left, entered_there, is_inside, is_known, is_taken, is_untold, left_for, may_be_left, runner, vacated}
 use Rattle.trace_check.specs.Traced.{context_at}
 use Rattle.trace_check.proofs.Agreement.{half_of, is_open}
 use Rattle.trace_check.proofs.Parts.{IsAs}
@@ -156,9 +156,9 @@ none_or : (b : Bool) (x : Context) → IsAs (if b then None else Some x) x
 none_or true x = tt
 none_or false x = refl
 
-pub left_by-as : (there : KnownProcessor) (y : Context) → half_of there y ≡ halves.Untold → IsAs (left_by there.hard there.soft) y
-left_by-as there contexts.Hard is = rw is (none_or (is_untold there.soft) contexts.Hard)
-left_by-as there contexts.Soft is = rw is (none_or (is_untold there.hard) contexts.Soft)
+pub context_left-as : (there : KnownProcessor) (y : Context) → half_of there y ≡ halves.Untold → IsAs (context_left there.hard there.soft) y
+context_left-as there contexts.Hard is = rw is (none_or (is_untold there.soft) contexts.Hard)
+context_left-as there contexts.Soft is = rw is (none_or (is_untold there.hard) contexts.Soft)
 
 open_left : (a b : Bool) {y : Context} → (if a then (if b then None else Some contexts.Hard) else Some contexts.Soft) ≡ Some y → a && b ≡ false
 open_left true true is = absurd cc
@@ -175,7 +175,7 @@ closing_by None left y is = inr is
 closing_by (Some x) left y is = inl is
 
 pub stays_open : (closing : Option Context) (t : ℕ) (there : KnownProcessor) (y : Context) → half_of there y ≡ halves.Untold → (closing ≡ Some y → ⊥)
-    → half_of (closed_in closing (without t there)) y ≡ halves.Untold
+    → half_of (closed_in closing (vacated t there)) y ≡ halves.Untold
 stays_open None t there contexts.Hard is other = rw is refl
 stays_open None t there contexts.Soft is other = rw is refl
 stays_open (Some contexts.Hard) t there contexts.Hard is other = absurd (other refl)
@@ -192,11 +192,11 @@ pub both_untold : (there : KnownProcessor) → is_open there ≡ true → (there
 both_untold there is = let both = and_parts _ (is_untold there.soft) is in (untold_half there.hard both.0, untold_half there.soft both.1)
 
 -- a processor of which a line told first now
-pub closes : (closing : Option Context) (t : ℕ) (there : KnownProcessor) → is_open there ≡ true → is_open (closed_in closing (without t there)) ≡ false
+pub closes : (closing : Option Context) (t : ℕ) (there : KnownProcessor) → is_open there ≡ true → is_open (closed_in closing (vacated t there)) ≡ false
     → is_some closing ≡ true
 closes None t there open_ closed_ =
     let both = both_untold there open_ in
-    absurd (both_ways (is_open (without t there)) closed_ (rw (both.0, both.1) refl))
+    absurd (both_ways (is_open (vacated t there)) closed_ (rw (both.0, both.1) refl))
 closes (Some x) t there open_ closed_ = refl
 
 pub told_first : (line : Option Context) (f : FunctionKnown) (there : KnownProcessor) → is_open there ≡ true

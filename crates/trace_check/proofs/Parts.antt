@@ -252,7 +252,8 @@ elsewhere there there' claims claims' known p a hidden waits = record {
   waits = waits;
 }
 
-pub with_context : (there : ℕ → KnownProcessor) (claims : List OrderedExpiry) (known : KnownTimer) (x : Option Context) (p : Plain) → AgreesAt there claims known p
+pub with_context : (there : ℕ → KnownProcessor) (claims : List OrderedExpiry) (known : KnownTimer) (x : Option Context) (p : Plain)
+    → AgreesAt there claims known p
     → IsAs x p.context → AgreesAt there claims (record known { context = x }) p
 with_context there claims known x p a is = record {
   armed = a.armed;

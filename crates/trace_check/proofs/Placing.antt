@@ -11,7 +11,7 @@ use Rattle.trace_check.specs.declared.known.HalfKnown.{HalfKnown}
 use Rattle.trace_check.specs.declared.known.HalfKnown.TheVariants as halves
 use Rattle.trace_check.specs.declared.known.KnownProcessor.{KnownProcessor}
 use Rattle.trace_check.specs.declared.known.KnownTimer.{KnownTimer}
-use Rattle.trace_check.specs.Knowledge.{begun, closed, closed_in, half_without, has_running, is_inside, known_outer, loose_without, may_run, with_outer, without}
+use Rattle.trace_check.specs.Knowledge.{begun, closed, closed_in, half_without, has_running, is_inside, known_outer, loose_without, may_run, vacated, with_outer}
 use Rattle.trace_check.proofs.Agreement.{Holds, SoundThere}
 use Rattle.trace_check.proofs.Parts.{IsKnown, same_some}
 use Rattle.trace_check.proofs.OnProcessors.{inside_loose, inside_soft}
@@ -72,19 +72,19 @@ loose_was : (t u : ℕ) (o : Option ℕ) → loose_without t o ≡ Some u → (o
 loose_was t u None is = absurd cc
 loose_was t u (Some v) is = loose_if t u v (nat_eq v t) refl is
 
-pub hard_was : (closing : Option Context) (t u : ℕ) (there : KnownProcessor) → (closed_in closing (without t there)).hard ≡ halves.Taken u
+pub hard_was : (closing : Option Context) (t u : ℕ) (there : KnownProcessor) → (closed_in closing (vacated t there)).hard ≡ halves.Taken u
     → (there.hard ≡ halves.Taken u) × (u ≢ t)
 hard_was None t u there is = half_was t u there.hard is
 hard_was (Some contexts.Hard) t u there is = half_was t u there.hard (closed_was u _ is)
 hard_was (Some contexts.Soft) t u there is = half_was t u there.hard is
 
-pub soft_was : (closing : Option Context) (t u : ℕ) (there : KnownProcessor) → (closed_in closing (without t there)).soft ≡ halves.Taken u
+pub soft_was : (closing : Option Context) (t u : ℕ) (there : KnownProcessor) → (closed_in closing (vacated t there)).soft ≡ halves.Taken u
     → (there.soft ≡ halves.Taken u) × (u ≢ t)
 soft_was None t u there is = half_was t u there.soft is
 soft_was (Some contexts.Hard) t u there is = half_was t u there.soft is
 soft_was (Some contexts.Soft) t u there is = half_was t u there.soft (closed_was u _ is)
 
-pub rest_was : (closing : Option Context) (t u : ℕ) (there : KnownProcessor) → (closed_in closing (without t there)).loose ≡ Some u
+pub rest_was : (closing : Option Context) (t u : ℕ) (there : KnownProcessor) → (closed_in closing (vacated t there)).loose ≡ Some u
     → (there.loose ≡ Some u) × (u ≢ t)
 rest_was None t u there is = loose_was t u there.loose is
 rest_was (Some contexts.Hard) t u there is = loose_was t u there.loose is
@@ -99,7 +99,7 @@ loose_kept t u o other is = subst (λ x. loose_without t x ≡ Some u) (sym is)
     (ap (λ b. if b then None else Some u) (false_from_ne_true _ (λ e. other (eqb-true u t e))))
 
 -- another function stays where it runs
-pub holds_still : (closing : Option Context) (t u : ℕ) (there : KnownProcessor) → u ≢ t → Holds there u → Holds (closed_in closing (without t there)) u
+pub holds_still : (closing : Option Context) (t u : ℕ) (there : KnownProcessor) → u ≢ t → Holds there u → Holds (closed_in closing (vacated t there)) u
 holds_still None t u there other held = elim held [
   | inl hard ↦ inl (half_kept t u there.hard other hard)
   | inr rest ↦ elim rest [
@@ -131,7 +131,8 @@ IsElse t there = (u : ℕ) → Holds there u → u ≢ t
 pub place_else : (f : ℕ → KnownTimer) (c : ℕ) (there : KnownProcessor) (t : ℕ) (known : KnownTimer) → SoundThere f c there → IsElse t there
     → SoundThere (updated f t known) c there
 place_else f c there t known s other = record {
-  hard = λ u is. subst (λ k. (k.function ≡ functions.Runs c) × (k.context ≡ Some contexts.Hard)) (sym (updated_else f t u known (other u (inl is)))) (s.hard u is);
+  hard = λ u is. subst (λ k. (k.function ≡ functions.Runs c) × (k.context ≡ Some contexts.Hard))
+      (sym (updated_else f t u known (other u (inl is)))) (s.hard u is);
   soft = λ u is. subst (λ k. (k.function ≡ functions.Runs c) × (k.context ≡ Some contexts.Soft)) (sym (updated_else f t u known (other u (inr (inl is)))))
       (s.soft u is);
   loose = λ u is. subst (λ k. k.function ≡ functions.Runs c) (sym (updated_else f t u known (other u (inr (inr is))))) (s.loose u is);
@@ -148,11 +149,13 @@ place_of f c there u s held = elim held [
 pub not_there : (f : ℕ → KnownTimer) (c : ℕ) (there : KnownProcessor) (t : ℕ) → SoundThere f c there → has_running (f t).function ≡ false → IsElse t there
 not_there f c there t s still u held same = runs_still (f t).function (ap (λ v. (f v).function) (sym same) ∙ place_of f c there u s held) still
 
-pub place_same : (f : ℕ → KnownTimer) (c : ℕ) (there : KnownProcessor) (t : ℕ) (known : KnownTimer) → known.function ≡ (f t).function → known.context ≡ (f t).context
+pub place_same : (f : ℕ → KnownTimer) (c : ℕ) (there : KnownProcessor) (t : ℕ) (known : KnownTimer) → known.function ≡ (f t).function
+    → known.context ≡ (f t).context
     → SoundThere f c there → SoundThere (updated f t known) c there
 place_same f c there t known function context s =
     let function_of : (u : ℕ) → (updated f t known u).function ≡ (f u).function = λ u. elim (cases_eq u t) [
-      | inl same ↦ ap (λ v. (updated f t known v).function) same ∙ ap (λ k. k.function) (updated_here f t known) ∙ function ∙ ap (λ v. (f v).function) (sym same)
+      | inl same ↦ ap (λ v. (updated f t known v).function) same ∙ ap (λ k. k.function) (updated_here f t known) ∙ function
+          ∙ ap (λ v. (f v).function) (sym same)
       | inr other ↦ ap (λ k. k.function) (updated_else f t u known other)
     ] in
     let context_of : (u : ℕ) → (updated f t known u).context ≡ (f u).context = λ u. elim (cases_eq u t) [
@@ -195,10 +198,12 @@ told_soft None known is other = tt
 told_soft (Some contexts.Hard) known is other = absurd (other is)
 told_soft (Some contexts.Soft) known is other = refl
 
-pub place_outer : (f : ℕ → KnownTimer) (c : ℕ) (there : KnownProcessor) (o : Option ℕ) → SoundThere f c there → ((u : ℕ) → o ≡ Some u → there.hard ≡ halves.Taken u → ⊥)
+pub place_outer : (f : ℕ → KnownTimer) (c : ℕ) (there : KnownProcessor) (o : Option ℕ) → SoundThere f c there → ((u : ℕ) → o ≡ Some u
+    → there.hard ≡ halves.Taken u → ⊥)
     → SoundThere (with_outer o f) c there
 place_outer f c there o s other = record {
-  hard = λ u is. subst (λ k. (k.function ≡ functions.Runs c) × (k.context ≡ Some contexts.Hard)) (sym (outer_same o f u (λ some. other u some is))) (s.hard u is);
+  hard = λ u is. subst (λ k. (k.function ≡ functions.Runs c) × (k.context ≡ Some contexts.Hard))
+      (sym (outer_same o f u (λ some. other u some is))) (s.hard u is);
   soft = λ u is. (outer_function o f u ∙ (s.soft u is).0, soft_still o u (s.soft u is).1);
   loose = λ u is. outer_function o f u ∙ s.loose u is;
   apart = s.apart;
@@ -256,7 +261,8 @@ holds_begun false t (Some contexts.Hard) there = inl refl
 holds_begun false t (Some contexts.Soft) there = inr (inl refl)
 
 -- a function inside which another one begins, runs on
-pub holds_outer : (inside : Bool) (t u : ℕ) (line : Option Context) (there : KnownProcessor) → is_inside there ≡ inside → ((v : ℕ) → there.hard ≡ halves.Taken v → ⊥)
+pub holds_outer : (inside : Bool) (t u : ℕ) (line : Option Context) (there : KnownProcessor) → is_inside there ≡ inside → ((v : ℕ)
+    → there.hard ≡ halves.Taken v → ⊥)
     → Holds there u → Holds (entered_by inside t line there) u
 holds_outer inside t u line there is free held = elim held [
   | inl hard ↦ absurd (free u hard)

@@ -17,7 +17,7 @@ use Rattle.trace_check.specs.declared.known.FunctionKnown.TheVariants as functio
 use Rattle.trace_check.specs.declared.known.HalfKnown.TheVariants as halves
 use Rattle.trace_check.specs.declared.known.KnownProcessor.{KnownProcessor}
 use Rattle.trace_check.specs.declared.known.KnownTimer.{KnownTimer}
-use Rattle.trace_check.specs.Knowledge.{Knowledge, entered_there, exited_there, has_running, home_by, is_inside, known_cancelled, known_entered, known_exited, known_outer, known_set_up, known_started, learned, left_for, misfit, misfits_of, no_knowledge, outer_by, rests, with_outer}
+use Rattle.trace_check.specs.Knowledge.{entered_there, exited_there, has_running, home_by, is_inside, Knowledge, known_cancelled, known_entered, known_exited, known_outer, known_set_up, known_started, learned, left_for, misfit, misfits_of, no_knowledge, outer_by, rests, with_outer}
 use Rattle.trace_check.specs.Traced.{context_at}
 use Rattle.trace_check.proofs.Agreement.{Holds, Sound, SoundAt, SoundFunction, SoundOrder, SoundThere}
 use Rattle.trace_check.proofs.Parts.{IsKnown, all_fail, inside_or, line_known, same_some, told_entered, told_left, waits_with}
@@ -55,7 +55,8 @@ pub sound_set_up : (k : Knowledge) (t : ℕ) (clock : Option ClockId) (context :
 sound_set_up k t clock context s none =
     let fails = all_fail (misfits_of k (kernel.SetUp t clock context)) none in
     record {
-      each = each_but k.processors (k.count + 1) k.timers t (known_set_up clock context) (record { function = tt; told = set_up_told context; order = λ m some. absurd (not_none some) })
+      each = each_but k.processors (k.count + 1) k.timers t (known_set_up clock context)
+          (record { function = tt; told = set_up_told context; order = λ m some. absurd (not_none some) })
           (λ u other. later k.processors k.count u (k.timers u) (s.each u));
       places = λ c. place_else k.timers c (k.processors c) t _ (s.places c) (not_there k.timers c (k.processors c) t (s.places c) fails.1.0);
       past = later_claims k.count k.claims s.past;
@@ -65,7 +66,8 @@ pub sound_cancel : (k : Knowledge) (t : ℕ) → Sound k → misfit k (kernel.Ca
 sound_cancel k t s none =
     let fails = all_fail (misfits_of k (kernel.Cancel t)) none in
     record {
-      each = each_but k.processors (k.count + 1) k.timers t (known_cancelled (k.timers t)) (record { function = tt; told = (s.each t).told; order = λ m some. absurd (not_none some) })
+      each = each_but k.processors (k.count + 1) k.timers t (known_cancelled (k.timers t))
+          (record { function = tt; told = (s.each t).told; order = λ m some. absurd (not_none some) })
           (λ u other. later k.processors k.count u (k.timers u) (s.each u));
       places = λ c. place_else k.timers c (k.processors c) t _ (s.places c) (not_there k.timers c (k.processors c) t (s.places c) fails.0);
       past = later_claims k.count k.claims s.past;
@@ -77,7 +79,8 @@ runs_order n true functions.Rests is = absurd cc
 runs_order n true (functions.Runs c) is = refl
 runs_order n false f is = refl
 
-function_started : (there : ℕ → KnownProcessor) (n t soft expires : ℕ) (known : KnownTimer) (f : FunctionKnown) → known.function ≡ f → SoundFunction there t known f
+function_started : (there : ℕ → KnownProcessor) (n t soft expires : ℕ) (known : KnownTimer) (f : FunctionKnown) → known.function ≡ f
+    → SoundFunction there t known f
     → SoundFunction there t (known_started n soft expires known) f
 function_started there n t soft expires known functions.Untold is s = (ap home_by is, rw (s.2) refl, s.2, s.3, s.4)
 function_started there n t soft expires known functions.Rests is s = tt

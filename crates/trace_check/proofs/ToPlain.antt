@@ -136,7 +136,8 @@ leaves_plain w line processor t leaves = record {
 pub first_plain : (w : TracedTimers) → fits.IsBeginning w → IsBeginning (plain_all w)
 first_plain w b = record { clocked = b.clocked; told = b.told; order = b.order; shown = b.shown }
 
-shows_plain : (n : ℕ) (e : KernelEvent) (w w' : TracedTimers) → AreStill w → fits.ShowsEvent n e w w' → ShowsEvent n e (plain_all w) (plain_all w') × AreStill w'
+shows_plain : (n : ℕ) (e : KernelEvent) (w w' : TracedTimers) → AreStill w → fits.ShowsEvent n e w w'
+    → ShowsEvent n e (plain_all w) (plain_all w') × AreStill w'
 shows_plain n (kernel.SetUp t clock context) w w' still s =
     let fresh = s.0.fresh in
     let is = fresh.2 in (

@@ -106,11 +106,11 @@ home_after processor functions.Rests home = home
 home_after processor (functions.Runs at) home = home
 
 -- the context of a function that ran when the recording began, where no line tells it: the one that is left for it, if only one is
-abbrev pub left_by : HalfKnown → HalfKnown → Option Context
-left_by hard soft = if is_untold hard then (if is_untold soft then None else Some contexts.Hard) else Some contexts.Soft
+abbrev pub context_left : HalfKnown → HalfKnown → Option Context
+context_left hard soft = if is_untold hard then (if is_untold soft then None else Some contexts.Hard) else Some contexts.Soft
 
 abbrev pub left_for : FunctionKnown → KnownProcessor → Option Context
-left_for functions.Untold there = left_by there.hard there.soft
+left_for functions.Untold there = context_left there.hard there.soft
 left_for functions.Rests there = None
 left_for (functions.Runs processor) there = None
 
@@ -178,8 +178,8 @@ abbrev pub loose_without : ℕ → Option ℕ → Option ℕ
 loose_without t None = None
 loose_without t (Some u) = if nat_eq u t then None else Some u
 
-abbrev pub without : ℕ → KnownProcessor → KnownProcessor
-without t there = record { hard = half_without t there.hard; soft = half_without t there.soft; loose = loose_without t there.loose }
+abbrev pub vacated : ℕ → KnownProcessor → KnownProcessor
+vacated t there = record { hard = half_without t there.hard; soft = half_without t there.soft; loose = loose_without t there.loose }
 
 -- what is known of a processor where the half of this context, if it is one, has nothing from before the recording
 abbrev pub closed_in : Option Context → KnownProcessor → KnownProcessor
@@ -189,7 +189,7 @@ closed_in (Some contexts.Soft) there = record there { soft = closed there.soft }
 
 -- what is known of it where the function of a timer of which this is known has returned
 abbrev pub exited_there : ℕ → Site → KnownTimer → KnownProcessor → KnownProcessor
-exited_there t site k there = closed_in (context_at (context_at site.context k.told) (left_for k.function there)) (without t there)
+exited_there t site k there = closed_in (context_at (context_at site.context k.told) (left_for k.function there)) (vacated t there)
 
 -- where a function begins inside one of an untold context, that one is soft
 abbrev pub with_outer : Option ℕ → (ℕ → KnownTimer) → ℕ → KnownTimer

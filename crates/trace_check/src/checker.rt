@@ -1,7 +1,7 @@
 //! A checker of a kernel's trace, event by event.
 ghost use Rattle.std.specs.Prelude.{◌≡◌, ◌+◌, ℕ, IfOk, OnOk, None};
 ghost use Rattle.trace_check.specs.Checkers.{HoldsKnowledge};
-ghost use Rattle.trace_check.specs.Knowledge.{Knowledge, misfit, learned, no_knowledge, outer_by, with_claim, with_known, with_outer};
+ghost use Rattle.trace_check.specs.Knowledge.{Knowledge, learned, misfit, no_knowledge, outer_by, with_claim, with_known, with_outer};
 ghost use Rattle.seq_timer.specs.Systems.{updated};
 
 use crate::known::{KnownProcessor, KnownTimer, OrderedExpiry};

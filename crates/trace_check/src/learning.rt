@@ -1,6 +1,6 @@
 //! What a line tells of its timer.
 ghost use Rattle.std.specs.Prelude.{◌≡◌};
-ghost use Rattle.trace_check.specs.Knowledge.{known_cancelled, claim_of, known_entered, known_exited, known_outer, known_set_up, known_started};
+ghost use Rattle.trace_check.specs.Knowledge.{claim_of, known_cancelled, known_entered, known_exited, known_outer, known_set_up, known_started};
 ghost use Rattle.trace_check.specs.Traced.{context_at};
 
 use crate::known::{ArmedKnown, FunctionKnown, KnownProcessor, KnownTimer, OrderedExpiry};

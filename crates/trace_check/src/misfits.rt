@@ -1,6 +1,6 @@
 //! What is wrong with an event, by what is known of its timer.
 ghost use Rattle.std.specs.Prelude.{◌≡◌};
-ghost use Rattle.trace_check.specs.Knowledge.{misfits_of_cancel, misfits_of_entry, misfits_of_exit, misfits_of_set_up, misfits_of_start, first_that_holds, is_armed, is_other_context, is_other_processor, is_unarmed, may_run, has_running, soft_of};
+ghost use Rattle.trace_check.specs.Knowledge.{first_that_holds, has_running, is_armed, is_other_context, is_other_processor, is_unarmed, may_run, misfits_of_cancel, misfits_of_entry, misfits_of_exit, misfits_of_set_up, misfits_of_start, soft_of};
 
 use crate::known::{ArmedKnown, FunctionKnown, KnownProcessor, KnownTimer};
 use crate::learning::context_at;

@@ -1,6 +1,6 @@
 //! What a line tells of its processor.
 ghost use Rattle.std.specs.Prelude.{◌≡◌, ℕ};
-ghost use Rattle.trace_check.specs.Knowledge.{begun, blocker, closed, closed_in, entered_there, exited_there, half_without, is_inside, is_known, is_taken, is_untold, left_for, loose_without, may_be_left, nothing_there, runner, without};
+ghost use Rattle.trace_check.specs.Knowledge.{begun, blocker, closed, closed_in, entered_there, exited_there, half_without, is_inside, is_known, is_taken, is_untold, left_for, loose_without, may_be_left, nothing_there, runner, vacated};
 ghost use Rattle.trace_check.specs.Traced.{context_at};
 
 use crate::known::{FunctionKnown, HalfKnown, KnownProcessor, KnownTimer};
@@ -147,8 +147,8 @@ impl KnownProcessor {
     }
 
     /// The processor, where a timer's function has returned.
-    fn without(self, timer: u64) -> KnownProcessor
-        ensures { result ≡ without timer self }
+    fn vacated(self, timer: u64) -> KnownProcessor
+        ensures { result ≡ vacated timer self }
     {
         let loose = match self.loose {
             Some(runner) if runner == timer => None,
@@ -184,6 +184,6 @@ impl KnownProcessor {
     {
         let line = context_at(site.context, known.told);
         let closing = context_at(line, self.left_for(known.function));
-        self.without(timer).closed_in(closing)
+        self.vacated(timer).closed_in(closing)
     }
 }
