@@ -13,7 +13,7 @@ static void of_new(void) {
     printf("in use: %" PRId32 "\n", hrt_new(&timers, 1, declared, 2, 100));
     printf("bases: %" PRId32 " %" PRId32 "\n", hrt_new(&none, 0, declared, 2, 100), hrt_new(&none, HRT_MAX_BASES + 1, declared, 2, 100));
     printf("limit: %" PRId32, hrt_new(&none, 1, declared, 2, 0));
-    printf(" %" PRId32 "\n", hrt_new(&none, 1, declared, 2, (uint64_t)HRT_MAX_EVENTS + 1));
+    printf(" %" PRId32 "\n", hrt_new(&none, 1, declared, 2, HRT_MAX_EVENTS + 1));
     printf("clock: %" PRId32 ", context: %" PRId32 "\n", hrt_new(&none, 1, &clock, 1, 100), hrt_new(&none, 1, &context, 1, 100));
     printf("still none: %d\n", none.at == NULL);
 }

@@ -46,11 +46,24 @@ static void expire(uint32_t context, uint64_t now) {
     hrt_time t = at(now);
     while (hrt_claim(&timers, context, 0, &t, &a) == HRT_CLAIMED) {
         uint32_t timer = a.timer;
-        printf("%" PRIu64 ": claim %" PRIu32 ", generation %" PRIu64, now, timer, a.generation);
+        printf("%" PRIu64 ": claim %" PRIu32 ", generation %" PRIu64 ", base %" PRIu32, now, timer, a.generation, a.base);
         printf(", clock %" PRIu32 ", soft %" PRIu64 ", expires %" PRIu64 "\n", a.clock, a.soft, a.expires);
         uint32_t again = run(timer, now);
         int32_t code = hrt_finish(&timers, timer, again, &a);
         printf("%" PRIu64 ": finish %" PRIu32 " = %" PRId32 ", number %" PRIu64 "\n", now, timer, code, a.number);
+    }
+}
+
+/* Sleeps from one expiry to the next, until no timer is armed. */
+static void run_all(void) {
+    hrt_answer a = {0};
+    for (uint64_t now = 0;; now += a.wait) {
+        hrt_time t = at(now);
+        expire(HRT_HARD, now);
+        expire(HRT_SOFT, now);
+        int32_t code = hrt_next(&timers, 0, &t, &a);
+        printf("%" PRIu64 ": next = %" PRId32 ", wait %" PRIu64 "\n", now, code, a.wait);
+        if (code != HRT_ARMED) return;
     }
 }
 
@@ -72,15 +85,8 @@ int main(void) {
     printf("new = %" PRId32 "\n", hrt_new(&timers, 1, declared, COUNT, 1000));
     start(TICK, HRT_MODE_REL, 100, 0, 0);
     start(DEADLINE, HRT_MODE_ABS, 1360, 0, 0);
+    run_all();
     hrt_answer a = {0};
-    hrt_time t = at(0);
-    uint64_t now = 0;
-    while (hrt_next(&timers, 0, &t, &a) == HRT_ARMED) {
-        now += a.wait;
-        t = at(now);
-        expire(HRT_HARD, now);
-        expire(HRT_SOFT, now);
-    }
     for (uint32_t timer = 0; timer < COUNT; timer++) {
         hrt_peek(&timers, timer, &a);
         printf("peek %" PRIu32 ": armed %" PRIu32 ", running %" PRIu32, timer, a.armed, a.running);

@@ -1,8 +1,7 @@
-"""The declarations of hrt.h and hrt_trace.h, by ctypes, over the shared objects libhulayban.so.0 and libhulayban_trace.so.0."""
-from ctypes import CDLL, POINTER, Structure, byref, c_char_p, c_int32, c_size_t, c_uint32, c_uint64, c_void_p
+"""The declarations of hrt.h, by ctypes, over the shared object libhulayban.so.0."""
+from ctypes import CDLL, POINTER, Structure, byref, c_int32, c_size_t, c_uint32, c_uint64, c_void_p
 
 ARMED, CLAIMED = 2, 5
-FITS, MISFIT, UNREADABLE, NO_EVENTS = 8, 9, 10, 11
 ABS, REL, KEEP = 0, 1, 2
 REALTIME, MONOTONIC, BOOTTIME = 0, 1, 7
 HARD, SOFT = 0, 1
@@ -25,17 +24,6 @@ class Answer(Structure):
     _fields_ = [(name, c_uint32) for name in ("timer", "base", "clock", "armed", "running", "moved")] + [
         (name, c_uint64) for name in ("generation", "number", "soft", "expires", "count", "wait")
     ]
-
-
-class Verdict(Structure):
-    _fields_ = [(name, c_uint64) for name in ("line", "events", "timers", "processors", "soft", "now", "timer")] + [("cause", c_uint32)]
-
-
-def check(library, text, out):
-    """Checks a trace, which is bytes, and answers the number of hrt_check."""
-    call = CDLL(library).hrt_check
-    call.argtypes, call.restype = [c_char_p, c_size_t, POINTER(Verdict)], c_int32
-    return call(text, len(text), byref(out))
 
 
 class Timers:

@@ -38,9 +38,20 @@ def expire(context, now):
     a = Answer()
     while timers.claim(context, 0, at(now), a) == CLAIMED:
         timer = a.timer
-        print(f"{now}: claim {timer}, generation {a.generation}, clock {a.clock}, soft {a.soft}, expires {a.expires}")
+        print(f"{now}: claim {timer}, generation {a.generation}, base {a.base}, clock {a.clock}, soft {a.soft}, expires {a.expires}")
         code = timers.finish(timer, run(timer, now), a)
         print(f"{now}: finish {timer} = {code}, number {a.number}")
+
+
+def run_all():
+    """Sleeps from one expiry to the next, until no timer is armed."""
+    now, code, a = 0, ARMED, Answer()
+    while code == ARMED:
+        now += a.wait
+        expire(HARD, now)
+        expire(SOFT, now)
+        code = timers.next(0, at(now), a)
+        print(f"{now}: next = {code}, wait {a.wait}")
 
 
 def one_entry():
@@ -56,11 +67,8 @@ declared = [Declared(MONOTONIC, HARD), Declared(MONOTONIC, HARD), Declared(REALT
 print(f"new = {timers.open(1, declared, 1000)}")
 start(TICK, REL, 100, 0, 0)
 start(DEADLINE, ABS, 1360, 0, 0)
-a, now = Answer(), 0
-while timers.next(0, at(now), a) == ARMED:
-    now += a.wait
-    expire(HARD, now)
-    expire(SOFT, now)
+run_all()
+a = Answer()
 for timer in range(3):
     timers.peek(timer, a)
     print(f"peek {timer}: armed {a.armed}, running {a.running}, number {a.number}, expires {a.expires}")

@@ -65,8 +65,8 @@ fn expire(timers: &mut Timers, context: Context, now: u64) -> Result<(), Refusal
     while let Claimed::Timer(mut claim) = timers.claim(context, 0, &at(now))? {
         let timer = claim.timer;
         println!(
-            "{now}: claim {timer}, generation {}, clock {}, soft {}, expires {}",
-            claim.generation, claim.clock as u32, claim.soft, claim.expires
+            "{now}: claim {timer}, generation {}, base {}, clock {}, soft {}, expires {}",
+            claim.generation, claim.base, claim.clock as u32, claim.soft, claim.expires
         );
         let again = run(&mut claim, now)?;
         match claim.finish(again)? {
@@ -76,6 +76,21 @@ fn expire(timers: &mut Timers, context: Context, now: u64) -> Result<(), Refusal
         }
     }
     Ok(())
+}
+
+/// Sleeps from one expiry to the next, until no timer is armed.
+fn run_all(timers: &mut Timers) -> Result<(), Refusal> {
+    let mut now = 0;
+    loop {
+        expire(timers, Context::Hard, now)?;
+        expire(timers, Context::Soft, now)?;
+        let Some(wait) = timers.next(0, &at(now))? else {
+            println!("{now}: next = 0, wait 0");
+            return Ok(());
+        };
+        println!("{now}: next = 2, wait {wait}");
+        now += wait;
+    }
 }
 
 /// A timer that takes one entry, and takes no other.
@@ -105,12 +120,7 @@ fn main() -> Result<(), Refusal> {
     println!("new = 0");
     start(&mut timers, TICK, Expiry::In(100), 0, 0)?;
     start(&mut timers, DEADLINE, Expiry::At(1360), 0, 0)?;
-    let mut now = 0;
-    while let Some(wait) = timers.next(0, &at(now))? {
-        now += wait;
-        expire(&mut timers, Context::Hard, now)?;
-        expire(&mut timers, Context::Soft, now)?;
-    }
+    run_all(&mut timers)?;
     for timer in 0..3 {
         let it = timers.peek(timer)?;
         println!(
