@@ -309,7 +309,7 @@ impl Timers {
         row.close(inner);
     }
 
-    /// The bases on which these timers stand, for the same passes.
+    /// The bases on which these timers stand, for the passes that `lend` gives.
     pub fn base_row(&self) -> &BaseRow
         ensures { result.now ≡ self.now }
     {
