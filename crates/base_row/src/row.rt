@@ -18,7 +18,7 @@ ghost use Rattle.base_row.specs.Calls.{LearnsFrom, MayAppend, Appended, own_rece
 use crate::cell::BaseCell;
 use crate::held::{HeldBase, Pass};
 use crate::log::{ReceiptSink, Unlogged};
-use crate::parts::{empty_slots, lock_index, number_of, timer_index, zeros};
+use crate::parts::{empty_slots, lock_index, most_counters, number_of, timer_index, zeros};
 use crate::plays::{About, BaseRule, Child, SlotView};
 use crate::slots::{attempt, put_back};
 use crate::steps::{absorb, enter, free, look, tell};
@@ -62,8 +62,8 @@ impl Model for BaseRow {
 }
 
 impl BaseRow {
-    /// A row of so many bases, and of timers that are declared so and take entries on these terms, with the first pass. It takes memory, for all
-    /// calls; no other call does.
+    /// A row of so many bases, and of timers that are declared so and take entries on these terms, with as many counters as there may be, and the first
+    /// pass. It takes memory, for all calls; no other call does.
     pub fn make(
         alloc: Global,
         bases: u32,
@@ -77,10 +77,11 @@ impl BaseRow {
         ensures about { IfOk result (λ r. r.0.about ≡ opening_of bases timers.now terms) }
         ensures first { IfOk result (λ r. r.1.knows ≡ first_base_view (opening_of bases timers.now terms)) }
     {
-        BaseRow::make_counting(alloc, bases, timers, terms, 0)
+        let counters = most_counters(bases, timers.len());
+        BaseRow::make_counting(alloc, bases, timers, terms, counters)
     }
 
-    /// The same, with so many counters beside, whose rises stand in the history of the timers.
+    /// The same, with so many counters, whose rises stand in the history of the timers.
     pub fn make_counting(
         alloc: Global,
         bases: u32,

@@ -5,11 +5,13 @@ use Rattle.pass_names.specs.Counts.{count, one_if}
 use Rattle.pass_names.specs.Names.{IsLast}
 use Rattle.pass_names.specs.Passes.{Begins, is_place, places, within}
 use Rattle.pass_names.specs.SharedHistory as shared
+use Rattle.seq_timer.specs.declared.context.Declared.{Declared}
+use Rattle.seq_timer.specs.declared.context.Terms.{Terms}
 use Rattle.seq_timer.specs.declared.system.SystemEntry.{SystemEntry}
 use Rattle.seq_timer.specs.Histories as seq
 use Rattle.seq_timer.specs.Steps.{Timer, most_entries}
 use Rattle.seq_timer.specs.Tables.{timer_at}
-use Rattle.seq_timer.specs.Systems.{BaseContent, AreSystemSteps, IsOn, entries_of, first_system, rises_of, shifts_of, system_after}
+use Rattle.seq_timer.specs.Systems.{BaseContent, AreSystemSteps, IsOn, IsSystemHistory, entries_of, first_system, openings, rises_of, shifts_of, system_after}
 use Rattle.base_row.specs.Rings.{counters_in, KeepsRings}
 use Rattle.base_row.specs.declared.view.Claimed.{Claimed}
 use Rattle.base_row.specs.declared.view.Opening.{Opening}
@@ -49,6 +51,13 @@ limit_of o t = (timer_at o.timers t).terms.limit
 -- each timer has a reach, so bases may go off line
 abbrev pub IsEvacuable : Opening → Type 0
 IsEvacuable o = (t : ℕ) → t < length o.timers → 0 < (timer_at o.timers t).terms.reach
+
+-- these timers were made of declarations on the same terms, and this is a history of them
+pub record IsDeclaredHistory (o : Opening) (x : List SystemEntry) : Type 0 where
+  pub declareds : List Declared
+  pub terms : Terms
+  pub opened : o.timers ≡ openings declareds terms
+  pub history : IsSystemHistory o.bases declareds terms x
 
 -- a claim as it stands among a pass's
 abbrev pub claimed_as : ClaimNumbers → Claimed

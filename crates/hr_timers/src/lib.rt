@@ -11,6 +11,7 @@ mod evacuating;
 mod expiry;
 mod handler;
 mod laws;
+mod lending;
 mod logged;
 mod moving;
 mod numbers;
