@@ -1,7 +1,7 @@
 //! `callers/c/check.c`, from Rust.
-mod hrt;
+mod hrt_trace;
 
-use hrt::{FITS, MISFIT, NO_EVENTS, UNREADABLE, Verdict, check};
+use hrt_trace::{FITS, MISFIT, NO_EVENTS, UNREADABLE, Verdict, check};
 
 fn main() -> std::io::Result<()> {
     for name in std::env::args().skip(1) {

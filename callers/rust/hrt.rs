@@ -33,26 +33,11 @@ pub struct Answer {
     pub soft: u64,
     pub expires: u64,
     pub count: u64,
+    pub wait: u64,
 }
 
-#[repr(C)]
-#[derive(Clone, Copy, Default)]
-pub struct Verdict {
-    pub line: u64,
-    pub events: u64,
-    pub timers: u64,
-    pub processors: u64,
-    pub soft: u64,
-    pub now: u64,
-    pub timer: u64,
-    pub cause: u32,
-}
-
+pub const ARMED: i32 = 2;
 pub const CLAIMED: i32 = 5;
-pub const FITS: i32 = 8;
-pub const MISFIT: i32 = 9;
-pub const UNREADABLE: i32 = 10;
-pub const NO_EVENTS: i32 = 11;
 pub const ABS: u32 = 0;
 pub const REL: u32 = 1;
 pub const REALTIME: u32 = 0;
@@ -91,12 +76,7 @@ unsafe extern "C" {
     ) -> i32;
     fn hrt_finish(timers: &mut Raw, timer: u32, restart: u32, out: &mut Answer) -> i32;
     fn hrt_peek(timers: &mut Raw, timer: u32, out: &mut Answer) -> i32;
-    fn hrt_check(text: *const u8, length: usize, out: &mut Verdict) -> i32;
-}
-
-/// Checks a trace.
-pub fn check(text: &[u8], out: &mut Verdict) -> i32 {
-    unsafe { hrt_check(text.as_ptr(), text.len(), out) }
+    fn hrt_next(timers: &mut Raw, base: u32, now: &Time, out: &mut Answer) -> i32;
 }
 
 /// A handle. The pointer in it makes it neither `Send` nor `Sync`, and it is no `Copy`. The calls are safe: references are never null and
@@ -155,6 +135,10 @@ impl Timers {
 
     pub fn peek(&mut self, timer: u32, out: &mut Answer) -> i32 {
         unsafe { hrt_peek(&mut self.0, timer, out) }
+    }
+
+    pub fn next(&mut self, base: u32, now: &Time, out: &mut Answer) -> i32 {
+        unsafe { hrt_next(&mut self.0, base, now, out) }
     }
 }
 

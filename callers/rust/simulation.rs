@@ -2,7 +2,8 @@
 mod hrt;
 
 use hrt::{
-    ABS, Answer, BOOTTIME, CLAIMED, Declared, HARD, MONOTONIC, REALTIME, REL, SOFT, Time, Timers,
+    ABS, ARMED, Answer, BOOTTIME, CLAIMED, Declared, HARD, MONOTONIC, REALTIME, REL, SOFT, Time,
+    Timers,
 };
 
 const TICK: u32 = 0;
@@ -54,10 +55,29 @@ fn expire(timers: &mut Timers, context: u32, now: u64) {
     let mut a = Answer::default();
     while timers.claim(context, 0, &at(now), &mut a) == CLAIMED {
         let timer = a.timer;
-        println!("{now}: claim {timer}, generation {}", a.generation);
+        println!(
+            "{now}: claim {timer}, generation {}, base {}, clock {}, soft {}, expires {}",
+            a.generation, a.base, a.clock, a.soft, a.expires
+        );
         let again = run(timers, timer, now);
         let code = timers.finish(timer, again, &mut a);
         println!("{now}: finish {timer} = {code}, number {}", a.number);
+    }
+}
+
+/// Sleeps from one expiry to the next until no timer is armed.
+fn run_all(timers: &mut Timers) {
+    let mut now = 0;
+    let mut a = Answer::default();
+    loop {
+        let code = timers.next(0, &at(now), &mut a);
+        println!("{now}: next = {code}, wait {}", a.wait);
+        if code != ARMED {
+            return;
+        }
+        now += a.wait;
+        expire(timers, HARD, now);
+        expire(timers, SOFT, now);
     }
 }
 
@@ -97,18 +117,7 @@ fn bad(timers: &mut Timers, declared: &[Declared; 3]) {
     println!(
         "bases: {} {}",
         none.open(0, declared, 100),
-        none.open(9, declared, 100)
-    );
-    println!(
-        "count: {}",
-        none.open(
-            1,
-            &[Declared {
-                clock: 0,
-                context: 0
-            }; 257],
-            100
-        )
+        none.open(65, declared, 100)
     );
     println!(
         "limit: {} {}",
@@ -138,6 +147,11 @@ fn bad(timers: &mut Timers, declared: &[Declared; 3]) {
     println!("base: {}", timers.start(TICK, REL, 1, 0, 1, &t, &mut a));
     println!("mode: {}", timers.start(TICK, 3, 1, 0, 0, &t, &mut a));
     println!("time: {}", timers.start(TICK, REL, 1, 0, 0, &late, &mut a));
+    println!(
+        "next: {} {}",
+        timers.next(1, &t, &mut a),
+        timers.next(0, &late, &mut a)
+    );
     println!("context: {}", timers.claim(2, 0, &t, &mut a));
     println!(
         "not running: {} {}",
@@ -164,10 +178,7 @@ fn main() {
     println!("new = {}", timers.open(1, &declared, 1000));
     start(&mut timers, TICK, REL, 100, 0, 0);
     start(&mut timers, DEADLINE, ABS, 1360, 0, 0);
-    for now in (0..=600).step_by(50) {
-        expire(&mut timers, HARD, now);
-        expire(&mut timers, SOFT, now);
-    }
+    run_all(&mut timers);
     let mut a = Answer::default();
     for timer in 0..3 {
         timers.peek(timer, &mut a);
