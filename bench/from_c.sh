@@ -1,5 +1,5 @@
 #!/usr/bin/env bash
-# Times calls from C of the library that rt lib has left in crates/hulayban_c/out, beside a binary heap, libev and libuv (Debian: libev-dev, libuv1-dev),
+# Times calls from C of the library that bin/hrt lib makes, beside a binary heap, libev and libuv (Debian: libev-dev, libuv1-dev),
 # with 1,000 and 100,000 timers: bench/from_c.c, so many rounds in turn, and the median of each in nanoseconds.
 #
 # usage: bench/from_c.sh [ROUNDS]
@@ -7,8 +7,7 @@ set -eu
 cd "$(dirname "$0")/.."
 folder=$(mktemp -d)
 trap 'rm -rf "$folder"' EXIT
-kit=$(dirname "$(rt doc)")
-cc -std=c11 -D_GNU_SOURCE -O2 -Iinclude bench/from_c.c crates/hulayban_c/out/libhulayban_c.a "$kit/c/liblibc_c.a" -lev -luv -o "$folder/from_c"
+cc -std=c11 -D_GNU_SOURCE -O2 -Iinclude bench/from_c.c "$(bin/hrt lib)/libhulayban.a" -lev -luv -o "$folder/from_c"
 rounds=${1:-15}
 for ((round = 0; round < rounds; round++)); do
     for timers in 1000 100000; do
