@@ -1,5 +1,6 @@
 //! What calls tell C of what the timers answer.
 ghost use Rattle.std.specs.Prelude.{◌≡◌};
+ghost use Rattle.hulayban_c.specs.Numbers.{clock_number};
 ghost use Rattle.hulayban_c.specs.Calls.{IsReturned, cancel_tells, claimed_tells, finish_tells, forward_tells, of_generation, next_tells, peek_tells, of_count, start_tells};
 
 use crate::codes::{AGAIN, ARMED, CANCELLED, DONE, RUNNING, SPENT};

@@ -8,16 +8,33 @@ use Rattle.ktime.specs.declared.clock_id.ClockId.{ClockId}
 use Rattle.ktime.specs.declared.clock_id.ClockId.TheVariants as clocks
 use Rattle.ktime.specs.Readings.{ClockReading, value_of}
 use Rattle.timer_queue.specs.Pairs.{first_of}
-use Rattle.seq_timer.specs.Steps.{Timer, now_of}
+use Rattle.seq_timer.specs.Steps.{Timer}
 use Rattle.seq_timer.specs.Tables.{IsLeading, in_context, is_armed_on, is_context, is_kept_on, no_timer, rank, seen_in}
 use Rattle.seq_timer.specs.declared.context.Context.{Context}
 use Rattle.seq_timer.specs.declared.context.Context.TheVariants as contexts
 use Rattle.seq_timer.specs.Halves.{Half, first_in, queue_of, reached}
-use Rattle.seq_timer.specs.Contents.{first_due, front_on, half_of}
+use Rattle.seq_timer.specs.Contents.{front_on, half_of}
 use Rattle.seq_timer.proofs.Contents.{seen_armed}
 use Rattle.seq_timer.proofs.Due.{rank-injective}
 use Rattle.timer_core.specs.Kept.{Kept, content_at, timer_in}
 use Rattle.timer_core.specs.Waits.{HasGoneOn, IsLeast, IsNextWait, IsWait, MayClaim, sooner, wait_of}
+
+-- ---- there is one least number
+
+least-one : (picks : ℕ → Bool) (number : ℕ → ℕ) (a b : Option ℕ) → IsLeast picks number a → IsLeast picks number b → a ≡ b
+least-one picks number None None one other = refl
+least-one picks number None (Some y) one other = absurd (true≢false (sym other.1.1 ∙ one other.1.0))
+least-one picks number (Some x) None one other = absurd (true≢false (sym one.1.1 ∙ other one.1.0))
+least-one picks number (Some x) (Some y) one other =
+    let below : x ≤ y = subst (λ n. x ≤ n) other.1.2 (one.0 other.1.0 other.1.1) in
+    let above : y ≤ x = subst (λ n. y ≤ n) one.1.2 (other.0 one.1.0 one.1.1) in
+    let same : x ≡ y = omega (arith, below, above) in
+    ap (λ n. Some n) same
+
+pub one-wait : (k : Kept) (base : ℕ) (reading : ClockReading) (one other : Option ℕ) → IsNextWait k base reading one → IsNextWait k base reading other
+    → one ≡ other
+one-wait k base reading one other is that =
+    least-one (λ id. is_armed_on base (timer_in k id)) (λ id. wait_of reading (timer_in k id)) one other is.least that.least
 
 -- ---- the lesser of two waits
 
