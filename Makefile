@@ -65,6 +65,7 @@ programs:
 	@bin/hrt --prove && $(call place,use_hrt) && $(call take,"$$place",hrt) && $(call take,"$$place.log",hrt.log)
 	@bin/hrt check --prove && $(call place,use_hrt_check) && $(call take,"$$place",hrt_check) && $(call take,"$$place.log",hrt_check.log)
 	@git describe --always --dirty > $(PACKAGE)/COMMIT 2> /dev/null || echo no commit > $(PACKAGE)/COMMIT
+	@top=$$PWD && . tools/program.bash && cp "$$(kit_folder)/KIT-ID" $(PACKAGE)/kit.log
 
 $(ARCHIVES):
 	@$(MAKE) --no-print-directory libraries
