@@ -65,6 +65,7 @@ programs:
 	@bin/hrt --prove && $(call place,use_hrt) && $(call take,"$$place",hrt) && $(call take,"$$place.log",hrt.log)
 	@bin/hrt check --prove && $(call place,use_hrt_check) && $(call take,"$$place",hrt_check) && $(call take,"$$place.log",hrt_check.log)
 	@git describe --always --dirty > $(PACKAGE)/COMMIT 2> /dev/null || echo no commit > $(PACKAGE)/COMMIT
+	@top=$$PWD && . tools/program.bash && cp "$$(kit_folder)/KIT-ID" $(PACKAGE)/kit.log
 
 $(ARCHIVES):
 	@$(MAKE) --no-print-directory libraries
@@ -101,7 +102,7 @@ install-programs: $(OF_PROGRAMS)
 	    $(MANDIR)/man1 $(BASHDIR) $(ZSHDIR) $(FISHDIR) $(DOCDIR)/docs $(DOCDIR)/examples)
 	$(INSTALL) -m 755 bin/hrt $(DESTDIR)$(HOME_OF)/bin
 	$(INSTALL) -m 755 $(PROGRAMS) $(DESTDIR)$(HOME_OF)/programs
-	$(INSTALL_DATA) tools/*.py tools/program.bash $(DESTDIR)$(HOME_OF)/tools
+	$(INSTALL_DATA) tools/*.py tools/*.bash $(DESTDIR)$(HOME_OF)/tools
 	$(INSTALL_DATA) model/*.py $(DESTDIR)$(HOME_OF)/model
 	$(INSTALL_DATA) VERSION $(PACKAGE)/COMMIT $(DESTDIR)$(HOME_OF)
 	ln -sfr $(DESTDIR)$(HOME_OF)/bin/hrt $(DESTDIR)$(BINDIR)/hrt

@@ -39,8 +39,7 @@ make_traces() {
     printf 'x [4294967295] d.h. 1: hrtimer_expire_entry: hrtimer=1 now=1' > "$folder/far.trace"
 }
 
-# run_all WAY WORD..: these words and the name of a C program, and then the words of `libraries`, build each that the callers have but memory.c, which
-# prints what is expected.
+# run_all_c WAY WORD..: each caller in C but memory.c, built by these words, its name and the words of libraries_by, prints what is expected.
 run_all_c() {
     local way=$1 caller words
     shift
