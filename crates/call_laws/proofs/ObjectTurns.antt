@@ -2,7 +2,7 @@
 -- goes on from there.
 use Rattle.std.proofs.Common.{◌≡◌, ℕ, suc, ◌+◌, List, length, arith, ap, ◌∙◌, subst}
 use Rattle.base_row.specs.Plays.{RisesFrom, rises}
-use Rattle.base_row.proofs.Rising.{rises_many}
+use Rattle.base_row.proofs.Ringing.{rises_many}
 use Rattle.seq_timer.specs.declared.system.SystemEntry.{SystemEntry}
 use Rattle.seq_timer.proofs.Systems.{rises_of-append}
 use Rattle.hr_timers.specs.Known.{KnownOfTimers}
