@@ -4,7 +4,7 @@
 # needs qemu-system-x86_64, cc, python3, dpkg, and the package's file or apt-get.
 #
 # usage: bench/trace_guest.sh PACKAGE [PROCESSORS [SECONDS [HOTPLUG]]]
-#   PACKAGE     a package of Debian's, as linux-image-6.12.117+deb12-cloud-amd64, or its .deb file; the kernel must have virtio-console built in
+#   PACKAGE     a package of Debian's, as linux-image-6.12.117+deb12-cloud-amd64, or its .deb file; the kernel must have virtio-console or NVMe built in
 #   PROCESSORS  2 to 4; 4 where it is left out         SECONDS  of load; 10
 #   HOTPLUG     1: processors go off line and on line meanwhile; 0
 set -eu
@@ -41,9 +41,12 @@ with open(sys.argv[1], "rb") as file:
 PYTHON
 
 trace=${TRACE:-$folder/trace}
+truncate -s 1G "$folder/disk"
 quick=(-accel "${ACCEL:-tcg,thread=multi}")
 timeout $((seconds * 20 + 120)) qemu-system-x86_64 "${quick[@]}" -smp "$processors" -m 2048 -nographic -no-reboot -nodefaults \
     -kernel "$kernel" -initrd "$folder/root" -append "console=ttyS0 quiet no_hash_pointers seconds=$seconds hotplug=$hotplug" -serial stdio \
+    -drive "file=$folder/disk,if=none,id=disk,format=raw" -device nvme,drive=disk,serial=1 \
     -device virtio-serial-pci -chardev "file,id=trace,path=$trace" -device virtserialport,chardev=trace,name=trace < /dev/null | grep -a '^guest:' || true
+[ -s "$trace" ] || tr -d '\0' < "$folder/disk" > "$trace"
 echo "$(basename "$kernel"), $processors processors, $seconds s: $(wc -l < "$trace") lines"
 "$top/bin/hrt" check --summary "$trace"

@@ -1,15 +1,23 @@
-/* High-resolution timers of one thread at a time, and the check of a Linux kernel's own timer trace: the exports of the static library
- * libhulayban_c.a (crate hulayban_c).
+/* High-resolution timers of one thread at a time: the exports of the library libhulayban (crate hulayban_c).
  *
- * Times are nanoseconds. One thread at a time may call by a handle. A call never waits, and it calls no function of yours: hrt_claim says
- * whose function is to run, you run it, and hrt_finish ends the run.
+ * Times are nanoseconds. A call never waits and reads no clock, and it calls no function of yours: hrt_next says how long you may sleep,
+ * hrt_claim whose function is to run, you run it, and hrt_finish ends the run.
  *
- * No pointer may be null, and none may point to what another one of the same call points to. Every other argument is tested: a bad one
- * is answered by a number below 0, nothing changes, and *out is left as it was. The arguments are tested in the order in which the
- * comments name the numbers. docs/FROM_C.md says how to build and link, and what is promised.
+ * Threads: one at a time may call by a handle. Two handles have nothing in common, so each thread may have its own.
+ * Null: no pointer may be null.
+ * Aliasing: no pointer of a call may point into what another one of the same call points to.
+ * Copies: a handle may lie anywhere, and may be moved as realloc moves it. Two copies that are both used would free one block twice.
+ * Limits: HRT_MAX_BASES bases and HRT_MAX_TIMERS timers a handle, HRT_MAX_EVENTS entries a timer.
+ *
+ * Nothing checks the first four of these. Every other argument is tested: a bad one is answered by a number below 0, nothing changes, and
+ * *out is left as it was. The arguments are tested in the order in which the comments name the numbers. docs/FROM_C.md says how to build and
+ * link, and what is promised. The check of a kernel's own trace is in hrt_trace.h.
  */
 #ifndef HRT_H
 #define HRT_H
+
+/* The library's version, that of the file VERSION. */
+#define HRT_VERSION "0.1.0"
 
 #include <stddef.h>
 #include <stdint.h>
@@ -20,62 +28,34 @@ extern "C" {
 
 /* What calls answer. */
 enum {
-    HRT_DONE = 0,         /* made. hrt_cancel: neither armed nor running. hrt_claim: none is due. hrt_finish: not armed again by it */
+    HRT_DONE = 0,         /* made. hrt_cancel: neither armed nor running. hrt_claim: no timer may run now. hrt_finish: not armed again by it.
+                             hrt_next: no timer is armed */
     HRT_SPENT = 1,        /* the timer's limit on entries was reached: nothing has changed, but that hrt_finish ends the run */
-    HRT_ARMED = 2,        /* hrt_forward: a start came in while the function ran; nothing has changed */
+    HRT_ARMED = 2,        /* hrt_forward: a start came in while the function ran; nothing has changed. hrt_next: a timer is armed */
     HRT_RUNNING = 3,      /* hrt_cancel: the timer's function runs; nothing has changed */
     HRT_BUSY = 4,         /* hrt_claim: a function of the context runs on the base; nothing has changed */
     HRT_CLAIMED = 5,      /* hrt_claim: the function of out->timer is to run */
     HRT_CANCELLED = 6,    /* hrt_cancel: the timer is off */
     HRT_AGAIN = 7,        /* hrt_finish: the timer is armed again */
-    HRT_FITS = 8,         /* hrt_check: the trace is a history that the model gives */
-    HRT_MISFIT = 9,       /* hrt_check: with a line of it no history shows the lines so far */
-    HRT_UNREADABLE = 10,  /* hrt_check: a line of a timer's event can't be read */
-    HRT_NO_EVENTS = 11,   /* hrt_check: no line tells an event of a timer */
 
     HRT_NO_TIMERS = -1,   /* the handle has no timers */
     HRT_IN_USE = -2,      /* hrt_new: the handle has timers already */
-    HRT_NO_MEMORY = -3,   /* hrt_new, hrt_check: malloc gave none */
+    HRT_NO_MEMORY = -3,   /* hrt_new, and hrt_check of hrt_trace.h: malloc gave none */
     HRT_BAD_TIMER = -4,   /* no timer has this number */
-    HRT_BAD_BASE = -5,    /* no base has this number; hrt_new: 1 to 8 bases */
+    HRT_BAD_BASE = -5,    /* no base has this number; hrt_new: 1 to HRT_MAX_BASES bases */
     HRT_BAD_MODE = -6,    /* no mode has this number */
     HRT_BAD_TIME = -7,    /* a time of the reading is past 2^62 */
     HRT_BAD_CLOCK = -8,   /* no clock has this number */
     HRT_BAD_CONTEXT = -9, /* no context has this number */
-    HRT_BAD_COUNT = -10,  /* hrt_new: at most 256 timers */
-    HRT_BAD_LIMIT = -11,  /* hrt_new: a limit from 1 to 2^48 - 16 */
+    HRT_BAD_COUNT = -10,  /* hrt_new: at most HRT_MAX_TIMERS timers */
+    HRT_BAD_LIMIT = -11,  /* hrt_new: a limit from 1 to HRT_MAX_EVENTS */
     HRT_NOT_RUNNING = -12 /* hrt_forward, hrt_finish: the timer's function isn't running */
 };
 
-/* What is wrong with a line of a trace (docs/TRACES.md): with it no history shows the lines so far, or, from 101 on, it can't be read; and what is
- * wrong with a whole text. */
-enum {
-    HRT_CAUSE_SET_UP_ARMED = 1,      /* sets up a timer that is armed */
-    HRT_CAUSE_SET_UP_RUNNING = 2,    /* sets up a timer whose function runs */
-    HRT_CAUSE_SOFT_AFTER_HARD = 3,   /* starts a timer whose soft expiry is later than its hard one */
-    HRT_CAUSE_PAST_TIME = 4,         /* never comes of a text: no time in one is past 2^63 - 1 */
-    HRT_CAUSE_WAS_NOT_ARMED = 5,     /* a start tells that its timer was armed, and it wasn't */
-    HRT_CAUSE_WAS_ARMED = 6,         /* a start tells that its timer wasn't armed, and it was */
-    HRT_CAUSE_NOT_ARMED = 7,         /* cancels a timer that isn't armed, or it expires */
-    HRT_CAUSE_RUNNING = 8,           /* cancels a timer whose function runs, or it expires meanwhile */
-    HRT_CAUSE_OTHER_PROCESSOR = 9,   /* an expiry on another processor than the timer was armed on by its function */
-    HRT_CAUSE_OTHER_CONTEXT = 10,    /* an expiry, or a function's return, in another context than the timer's */
-    HRT_CAUSE_TOO_EARLY = 11,        /* an expiry at now, before the soft expiry, soft */
-    HRT_CAUSE_SECOND_FUNCTION = 12,  /* a function begins where that of the timer at the address timer runs */
-    HRT_CAUSE_OUT_OF_ORDER = 13,     /* an expiry behind one of the same queue that had to wait for it */
-    HRT_CAUSE_NOT_RUNNING = 14,      /* a function returns that doesn't run there */
-
-    HRT_CAUSE_NO_HRTIMER = 101,      /* hrtimer= and an address in hexadecimal */
-    HRT_CAUSE_NO_PROCESSOR = 102,    /* [N] before the event's name */
-    HRT_CAUSE_NO_CLOCKID = 103,      /* clockid= */
-    HRT_CAUSE_NO_MODE = 104,         /* mode= and one that is known */
-    HRT_CAUSE_NO_SOFTEXPIRES = 105,  /* softexpires= and a time up to 2^63 - 1 */
-    HRT_CAUSE_NO_EXPIRES = 106,      /* expires= and such a time */
-    HRT_CAUSE_NO_WAS_ARMED = 107,    /* was_armed= is there, and neither 0 nor 1 behind it */
-    HRT_CAUSE_NO_NOW = 108,          /* now= and a time up to 2^63 - 1 */
-
-    HRT_CAUSE_NO_TIMER_EVENTS = 201  /* no line tells an event of a timer */
-};
+/* The most bases and timers of a handle, and entries of a timer. */
+#define HRT_MAX_BASES 64
+#define HRT_MAX_TIMERS 4294967295
+#define HRT_MAX_EVENTS 281474976710640
 
 /* How a start gives its time: HRTIMER_MODE_ABS and HRTIMER_MODE_REL of Linux, and a time of the clock that the timer is kept on
  * (hrtimer_restart). */
@@ -87,7 +67,7 @@ enum { HRT_CLOCK_REALTIME = 0, HRT_CLOCK_MONOTONIC = 1, HRT_CLOCK_BOOTTIME = 7 }
 /* The contexts. One function of each runs on a base at a time. */
 enum { HRT_HARD = 0, HRT_SOFT = 1 };
 
-/* A handle. It begins as HRT_NONE, and is changed by calls alone. Never copy it: the copy would be a second way to the same memory. */
+/* A handle. It begins as HRT_NONE, and is changed by calls alone. */
 typedef struct hrt_timers {
     void *at;
 } hrt_timers;
@@ -106,17 +86,12 @@ typedef struct hrt_time {
 /* What a call tells beside its number. What its comment doesn't name is 0. */
 typedef struct hrt_answer {
     uint32_t timer, base, clock, armed, running, moved;
-    uint64_t generation, number, soft, expires, count;
+    uint64_t generation, number, soft, expires, count, wait;
 } hrt_answer;
 
-/* What the check of a trace tells beside its number. What its comment doesn't name is 0. */
-typedef struct hrt_verdict {
-    uint64_t line, events, timers, processors, soft, now, timer;
-    uint32_t cause;
-} hrt_verdict;
-
-/* Puts new timers behind a handle that has none: 1 to 8 bases, and at most 256 timers, numbered from 0 as they stand in declared, which
- * may not be null even where count is 0. At max_events entries, 1 to 2^48 - 16, a timer takes no start, forward or restart any more.
+/* Puts new timers behind a handle that has none: 1 to HRT_MAX_BASES bases, and at most HRT_MAX_TIMERS timers, numbered from 0 as they stand in
+ * declared, which may not be null even where count is 0. At max_events entries, 1 to HRT_MAX_EVENTS, a timer takes no start, forward or restart
+ * any more. It takes memory for all of them at once: some 96 bytes a timer, and 144 more for each base.
  * HRT_DONE; HRT_IN_USE, HRT_BAD_BASE, HRT_BAD_COUNT, HRT_BAD_LIMIT, HRT_BAD_CLOCK or HRT_BAD_CONTEXT of the first bad declaration,
  * HRT_NO_MEMORY. The only call on a handle that takes memory. */
 int32_t hrt_new(hrt_timers *timers, uint32_t bases, const hrt_declared *declared, size_t count, uint64_t max_events);
@@ -136,8 +111,11 @@ int32_t hrt_start(hrt_timers *timers, uint32_t timer, uint32_t mode, uint64_t ns
  * that runs, number: its count of entries. HRT_NO_TIMERS, HRT_BAD_TIMER. */
 int32_t hrt_cancel(hrt_timers *timers, uint32_t timer, hrt_answer *out);
 
-/* Claims the timer of a context that is the next to expire on a base: its function is to run, until hrt_finish.
- * HRT_CLAIMED: timer, generation, number of the entry. HRT_DONE: none is due. HRT_BUSY: timer and generation whose function runs there.
+/* Claims the timer of a context that is the next to expire on a base: its function is to run, until hrt_finish. That is the one with the earliest
+ * expiry of its clock, from its soft expiry on; the monotonic clock is looked at first, then real time, then boot time.
+ * HRT_CLAIMED: timer, base, clock, generation, number of the entry, soft and expires. HRT_BUSY: timer and generation whose function runs there.
+ * HRT_DONE: no timer of the context may run now: each clock has none there, or the one with its earliest expiry hasn't reached its soft expiry.
+ * Behind that one others of the clock wait, though their soft expiry may be reached; none there has reached its expiry.
  * HRT_NO_TIMERS, HRT_BAD_BASE, HRT_BAD_CONTEXT, HRT_BAD_TIME. */
 int32_t hrt_claim(hrt_timers *timers, uint32_t context, uint32_t base, const hrt_time *now, hrt_answer *out);
 
@@ -152,18 +130,16 @@ int32_t hrt_forward(hrt_timers *timers, uint32_t timer, const hrt_time *now, uin
  * HRT_NO_TIMERS, HRT_BAD_TIMER, HRT_NOT_RUNNING. */
 int32_t hrt_finish(hrt_timers *timers, uint32_t timer, uint32_t restart, hrt_answer *out);
 
+/* How long a base may be left alone: the least time from now on that a timer which is armed there, of either context, still has to its expiry on
+ * its own clock; 0 where one has reached it. When each clock has gone on so far, hrt_claim doesn't answer HRT_DONE in both contexts, if no call
+ * came in between. Before that it may claim a timer whose soft expiry is reached: slack is there so that one sleep serves several. Ask again when
+ * real time was set, and when a start or a finish has armed a timer.
+ * HRT_ARMED: wait. HRT_DONE: no timer is armed there. HRT_NO_TIMERS, HRT_BAD_BASE, HRT_BAD_TIME. */
+int32_t hrt_next(hrt_timers *timers, uint32_t base, const hrt_time *now, hrt_answer *out);
+
 /* How a timer is kept. HRT_DONE: timer, base, clock, armed and running: 1 if so, generation that is armed or 0, number: its count of
  * entries, soft, expires. HRT_NO_TIMERS, HRT_BAD_TIMER. */
 int32_t hrt_peek(hrt_timers *timers, uint32_t timer, hrt_answer *out);
-
-/* Checks a trace of a Linux kernel's own timers, as tracefs, trace-cmd and perf print it: whether it is a history that the model gives. text is
- * length bytes, and may be any; it may not be null even where length is 0. It needs no handle, and several threads may call at once.
- * HRT_FITS: events, timers that they name, and processors that expiries and returns name. HRT_MISFIT: line, from 1 on: the first with which no
- * history shows the lines so far, and cause; with HRT_CAUSE_TOO_EARLY soft and now too, and with HRT_CAUSE_SECOND_FUNCTION timer. HRT_UNREADABLE:
- * line, the first that can't be read, all before it fit; and cause. HRT_NO_EVENTS: cause; all lines can be read and none tells an event of a timer,
- * so that nothing was checked: a text of another kind, or a trace of other events. HRT_NO_MEMORY, and *out is left as it was. Memory goes with the
- * bytes of the text, whatever numbers stand in it (docs/TRACES.md has the bound). */
-int32_t hrt_check(const void *text, size_t length, hrt_verdict *out);
 
 #ifdef __cplusplus
 }

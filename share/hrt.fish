@@ -4,9 +4,10 @@ complete -c hrt -n __fish_use_subcommand -f -a gen -d 'makes a script from a num
 complete -c hrt -n __fish_use_subcommand -f -a check -d 'says whether a trace of the timers of a Linux kernel is a history that the model gives'
 complete -c hrt -n __fish_use_subcommand -f -a json -d 'prints a record as JSON, one object a line'
 complete -c hrt -n __fish_use_subcommand -f -a draw -d 'draws a record as a picture, in SVG'
+complete -c hrt -n __fish_use_subcommand -f -a lib -d 'proves the libraries for C where they are not kept, keeps them, and prints their folder'
 complete -c hrt -n __fish_use_subcommand -f -l prove -d 'proves what the program needs, and keeps the proved program'
 complete -c hrt -n __fish_use_subcommand -f -l program -d 'prints where the program is that run and gen start; builds one where none is'
-complete -c hrt -n __fish_use_subcommand -f -l version -d 'prints which commit, program and kit these are'
+complete -c hrt -n __fish_use_subcommand -f -l version -d 'prints which version, commit, program and kit these are'
 complete -c hrt -n __fish_use_subcommand -f -l help -d 'prints this text'
 complete -c hrt -n '__fish_seen_subcommand_from gen' -x -l seed -d 'the number that the script is made from: 0 to 2147483647'
 complete -c hrt -n '__fish_seen_subcommand_from gen' -x -l lanes -d 'how many lanes call, each with a base of its own: 1 to 8'
@@ -16,3 +17,5 @@ complete -c hrt -n '__fish_seen_subcommand_from check' -l summary -d 'prints a t
 complete -c hrt -n '__fish_seen_subcommand_from check' -l prove -d 'proves the program hrt_check in place of a check, and keeps it'
 complete -c hrt -n '__fish_seen_subcommand_from json' -l to-text -d 'reads such lines, and prints the text of the record'
 complete -c hrt -n '__fish_seen_subcommand_from draw' -r -l script -d 'the script of the record, so that its rounds and the words of its calls are shown'
+complete -c hrt -n '__fish_seen_subcommand_from lib' -l prove -d 'the same, since no library is made without its proof'
+complete -c hrt -n '__fish_seen_subcommand_from lib' -f

@@ -79,18 +79,23 @@ DRAW = Command(
     takes_file=True,
     options=(Option("--script", "the script of the record, so that its rounds and the words of its calls are shown", file="SCRIPT"),),
 )
-COMMANDS = (*OF_PROGRAM, CHECK, JSON, DRAW)
+LIB = Command(
+    "lib",
+    "proves the libraries for C where they are not kept, keeps them, and prints their folder",
+    options=(Option("--prove", "the same, since no library is made without its proof"),),
+)
+COMMANDS = (*OF_PROGRAM, CHECK, JSON, DRAW, LIB)
 
 OPTIONS = (
     Option("--prove", "proves what the program needs, and keeps the proved program"),
     Option("--program", "prints where the program is that run and gen start; builds one where none is"),
-    Option("--version", "prints which commit, program and kit these are"),
+    Option("--version", "prints which version, commit, program and kit these are"),
     Option("--help", "prints this text"),
 )
 
 STATUSES = (
     (0, "done"),
-    (1, "no program is there, and none could be built; a record can't be read"),
+    (1, "no program or library is there, and none could be built; a record can't be read"),
     (2, "the words ask for nothing that there is, or for help"),
     (3, "the script is refused: 'line N: CAUSE' is printed in place of a record; a line of a trace can't be read"),
     (4, "a read failed; nothing was printed"),

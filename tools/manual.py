@@ -8,12 +8,20 @@ import sys
 
 from command import COMMANDS, ENVIRONMENT, EXAMPLE, INTRODUCTION, OPTIONS, SEE_ALSO, STATUSES
 
-SHARE = os.path.join(os.path.dirname(os.path.dirname(os.path.abspath(__file__))), "share")
+TOP = os.path.dirname(os.path.dirname(os.path.abspath(__file__)))
+SHARE = os.path.join(TOP, "share")
+
+CHECK_BY_ITSELF = "hrt_check is the program that hrt check starts. By itself it takes no word but --summary, and reads standard input."
+
+
+def version():
+    with open(os.path.join(TOP, "VERSION"), encoding="ascii") as file:
+        return file.read().strip()
 
 
 def roff(text):
-    """Text as a man page has it."""
-    return text.replace("\\", "\\e").replace("-", "\\-").replace("'", "\\(aq")
+    """Text as a man page has it, which calls the command by the name that it has where it is installed."""
+    return text.replace("bin/hrt", "hrt").replace("\\", "\\e").replace("-", "\\-").replace("'", "\\(aq")
 
 
 def item(name, says):
@@ -22,15 +30,15 @@ def item(name, says):
 
 def man_page():
     lines = [
-        '.TH HRT 1 "" Hulayban "User Commands"',
+        f'.TH HRT 1 "" "Hulayban {version()}" "User Commands"',
         ".SH NAME",
-        "hrt \\- runs scripts of timer calls on a proved library of high\\-resolution timers",
+        "hrt, hrt_check \\- runs scripts of timer calls on a proved library of high\\-resolution timers, and checks the trace of a kernel\\(aqs own timers",
         ".SH SYNOPSIS",
     ]
     for synopsis in [*(it.synopsis() for it in COMMANDS), *(it.name for it in OPTIONS)]:
-        lines += [f".B bin/hrt {roff(synopsis)}", ".br"]
+        lines += [f".B hrt {roff(synopsis)}", ".br"]
     lines.append(".SH DESCRIPTION")
-    for text in INTRODUCTION:
+    for text in (*INTRODUCTION, CHECK_BY_ITSELF):
         lines += [".PP", roff(text)]
     lines.append(".SH COMMANDS")
     for command in COMMANDS:

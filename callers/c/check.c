@@ -1,5 +1,5 @@
 /* Checks the traces in files: check FILE.. prints a line for each. */
-#include "hrt.h"
+#include "hrt_trace.h"
 
 #include <inttypes.h>
 #include <stdio.h>

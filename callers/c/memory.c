@@ -1,9 +1,12 @@
 /* Where memory is taken: each allocation of hrt_new and of hrt_check fails once, and the calls between hrt_new and hrt_free make none. The linker sends malloc,
- * realloc and free of the library here: -Wl,--wrap=malloc,--wrap=realloc,--wrap=free. */
+ * realloc and free of the library here: -Wl,--wrap=malloc,--wrap=realloc,--wrap=free. And declarations that are too many aren't read. */
+#define _DEFAULT_SOURCE
 #include "hrt.h"
+#include "hrt_trace.h"
 
 #include <inttypes.h>
 #include <stdio.h>
+#include <sys/mman.h>
 
 void *__real_malloc(size_t size);
 void *__real_realloc(void *at, size_t size);
@@ -33,7 +36,8 @@ void __wrap_free(void *at) {
 }
 
 static hrt_timers timers = HRT_NONE;
-static hrt_declared declared[256];
+enum { COUNT = 1000 };
+static hrt_declared declared[COUNT];
 static uint32_t seed = 1;
 
 static uint32_t below(uint32_t bound) {
@@ -44,7 +48,7 @@ static uint32_t below(uint32_t bound) {
 static int32_t open_all(int fail_at) {
     calls = 0;
     failing = fail_at;
-    int32_t code = hrt_new(&timers, 8, declared, 256, 1000);
+    int32_t code = hrt_new(&timers, 8, declared, COUNT, 1000);
     failing = 0;
     return code;
 }
@@ -52,13 +56,23 @@ static int32_t open_all(int fail_at) {
 static void call_all(uint64_t ns) {
     hrt_answer a;
     hrt_time now = {ns, ns, ns};
-    hrt_start(&timers, below(256), below(3), ns + below(100), below(20), below(8), &now, &a);
-    hrt_cancel(&timers, below(256), &a);
-    hrt_peek(&timers, below(256), &a);
+    hrt_start(&timers, below(COUNT), below(3), ns + below(100), below(20), below(8), &now, &a);
+    hrt_cancel(&timers, below(COUNT), &a);
+    hrt_peek(&timers, below(COUNT), &a);
+    hrt_next(&timers, below(8), &now, &a);
     if (hrt_claim(&timers, below(2), below(8), &now, &a) != HRT_CLAIMED) return;
     uint32_t timer = a.timer;
     hrt_forward(&timers, timer, &now, 5, &a);
     hrt_finish(&timers, timer, below(2), &a);
+}
+
+/* A timer more than a handle may have. None of these declarations may be read. */
+static void too_many(void) {
+    size_t count = (size_t)HRT_MAX_TIMERS + 1, size = count * sizeof(hrt_declared);
+    void *many = mmap(NULL, size, PROT_NONE, MAP_PRIVATE | MAP_ANONYMOUS | MAP_NORESERVE, -1, 0);
+    if (many == MAP_FAILED) return;
+    printf("too many: %" PRId32 "\n", hrt_new(&timers, 1, many, count, 1000));
+    munmap(many, size);
 }
 
 /* A trace of three timers on two processors. */
@@ -94,7 +108,7 @@ static void check_all(void) {
 
 int main(void) {
     static const uint32_t clocks[] = {HRT_CLOCK_MONOTONIC, HRT_CLOCK_REALTIME, HRT_CLOCK_BOOTTIME};
-    for (uint32_t i = 0; i < 256; i++) declared[i] = (hrt_declared){clocks[i % 3], i / 3 % 2};
+    for (uint32_t i = 0; i < COUNT; i++) declared[i] = (hrt_declared){clocks[i % 3], i / 3 % 2};
     int32_t code;
     int failed = 0, left = 0;
     while ((code = open_all(failed + 1)) == HRT_NO_MEMORY) {
@@ -107,6 +121,7 @@ int main(void) {
     printf("allocations of the other calls: %d\n", calls);
     code = hrt_free(&timers);
     printf("free = %" PRId32 ", left behind: %d\n", code, held);
+    too_many();
     check_all();
     return 0;
 }

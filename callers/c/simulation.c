@@ -1,5 +1,5 @@
 /* A simulated device with three timers: a tick every 100 ns, a watchdog that each tick starts anew, and a deadline in the soft context
- * that stops the tick. Time is this program's own. Then arguments that are bad. */
+ * that stops the tick. Time is this program's own: it jumps to where the next timer has to run. */
 #include "hrt.h"
 
 #include <inttypes.h>
@@ -46,10 +46,24 @@ static void expire(uint32_t context, uint64_t now) {
     hrt_time t = at(now);
     while (hrt_claim(&timers, context, 0, &t, &a) == HRT_CLAIMED) {
         uint32_t timer = a.timer;
-        printf("%" PRIu64 ": claim %" PRIu32 ", generation %" PRIu64 "\n", now, timer, a.generation);
+        printf("%" PRIu64 ": claim %" PRIu32 ", generation %" PRIu64 ", base %" PRIu32, now, timer, a.generation, a.base);
+        printf(", clock %" PRIu32 ", soft %" PRIu64 ", expires %" PRIu64 "\n", a.clock, a.soft, a.expires);
         uint32_t again = run(timer, now);
         int32_t code = hrt_finish(&timers, timer, again, &a);
         printf("%" PRIu64 ": finish %" PRIu32 " = %" PRId32 ", number %" PRIu64 "\n", now, timer, code, a.number);
+    }
+}
+
+/* Sleeps from one expiry to the next, until no timer is armed. */
+static void run_all(void) {
+    hrt_answer a = {0};
+    for (uint64_t now = 0;; now += a.wait) {
+        hrt_time t = at(now);
+        expire(HRT_HARD, now);
+        expire(HRT_SOFT, now);
+        int32_t code = hrt_next(&timers, 0, &t, &a);
+        printf("%" PRIu64 ": next = %" PRId32 ", wait %" PRIu64 "\n", now, code, a.wait);
+        if (code != HRT_ARMED) return;
     }
 }
 
@@ -65,38 +79,13 @@ static void one_entry(void) {
     hrt_free(&one);
 }
 
-static void bad(const hrt_declared *declared) {
-    hrt_timers none = HRT_NONE;
-    hrt_answer a = {.count = 77};
-    hrt_time t = at(0), late = {0, ((uint64_t)1 << 62) + 1, 0};
-    hrt_declared clock = {2, 0}, context = {1, 2};
-    printf("no timers: %" PRId32 "\n", hrt_peek(&none, 0, &a));
-    printf("in use: %" PRId32 "\n", hrt_new(&timers, 1, declared, COUNT, 100));
-    printf("bases: %" PRId32 " %" PRId32 "\n", hrt_new(&none, 0, declared, COUNT, 100), hrt_new(&none, 9, declared, COUNT, 100));
-    hrt_declared many[257] = {{0, 0}};
-    printf("count: %" PRId32 "\n", hrt_new(&none, 1, many, 257, 100));
-    printf("limit: %" PRId32, hrt_new(&none, 1, declared, COUNT, 0));
-    printf(" %" PRId32 "\n", hrt_new(&none, 1, declared, COUNT, (uint64_t)1 << 48));
-    printf("clock: %" PRId32 ", context: %" PRId32 "\n", hrt_new(&none, 1, &clock, 1, 100), hrt_new(&none, 1, &context, 1, 100));
-    printf("timer: %" PRId32 "\n", hrt_start(&timers, COUNT, HRT_MODE_REL, 1, 0, 0, &t, &a));
-    printf("base: %" PRId32 "\n", hrt_start(&timers, TICK, HRT_MODE_REL, 1, 0, 1, &t, &a));
-    printf("mode: %" PRId32 "\n", hrt_start(&timers, TICK, 3, 1, 0, 0, &t, &a));
-    printf("time: %" PRId32 "\n", hrt_start(&timers, TICK, HRT_MODE_REL, 1, 0, 0, &late, &a));
-    printf("context: %" PRId32 "\n", hrt_claim(&timers, 2, 0, &t, &a));
-    printf("not running: %" PRId32 " %" PRId32 "\n", hrt_forward(&timers, TICK, &t, 1, &a), hrt_finish(&timers, TICK, 0, &a));
-    printf("untouched: %" PRIu64 "\n", a.count);
-}
-
 int main(void) {
     const hrt_declared hard = {HRT_CLOCK_MONOTONIC, HRT_HARD}, soft = {HRT_CLOCK_REALTIME, HRT_SOFT};
     const hrt_declared declared[COUNT] = {hard, hard, soft};
     printf("new = %" PRId32 "\n", hrt_new(&timers, 1, declared, COUNT, 1000));
     start(TICK, HRT_MODE_REL, 100, 0, 0);
     start(DEADLINE, HRT_MODE_ABS, 1360, 0, 0);
-    for (uint64_t now = 0; now <= 600; now += 50) {
-        expire(HRT_HARD, now);
-        expire(HRT_SOFT, now);
-    }
+    run_all();
     hrt_answer a = {0};
     for (uint32_t timer = 0; timer < COUNT; timer++) {
         hrt_peek(&timers, timer, &a);
@@ -104,8 +93,6 @@ int main(void) {
         printf(", number %" PRIu64 ", expires %" PRIu64 "\n", a.number, a.expires);
     }
     one_entry();
-    bad(declared);
-    printf("free = %" PRId32 "\n", hrt_free(&timers));
     printf("free = %" PRId32 "\n", hrt_free(&timers));
     return 0;
 }

@@ -1,7 +1,7 @@
 """callers/c/check.c, from Python: check.py LIBRARY FILE.."""
 import sys
 
-from hrt import FITS, MISFIT, NO_EVENTS, UNREADABLE, Verdict, check
+from hrt_trace import FITS, MISFIT, NO_EVENTS, UNREADABLE, Verdict, check
 
 for name in sys.argv[2:]:
     with open(name, "rb") as file:

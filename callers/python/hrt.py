@@ -1,11 +1,11 @@
-"""The declarations of include/hrt.h, by ctypes, over a shared object that is linked from the archive."""
-from ctypes import CDLL, POINTER, Structure, byref, c_char_p, c_int32, c_size_t, c_uint32, c_uint64, c_void_p
+"""The declarations of hrt.h, by ctypes, over the shared object libhulayban.so.0."""
+from ctypes import CDLL, POINTER, Structure, byref, c_int32, c_size_t, c_uint32, c_uint64, c_void_p
 
-CLAIMED = 5
-FITS, MISFIT, UNREADABLE, NO_EVENTS = 8, 9, 10, 11
+ARMED, CLAIMED = 2, 5
 ABS, REL, KEEP = 0, 1, 2
 REALTIME, MONOTONIC, BOOTTIME = 0, 1, 7
 HARD, SOFT = 0, 1
+MAX_BASES, MAX_EVENTS = 64, 2**48 - 16
 
 
 class Handle(Structure):
@@ -22,19 +22,8 @@ class Time(Structure):
 
 class Answer(Structure):
     _fields_ = [(name, c_uint32) for name in ("timer", "base", "clock", "armed", "running", "moved")] + [
-        (name, c_uint64) for name in ("generation", "number", "soft", "expires", "count")
+        (name, c_uint64) for name in ("generation", "number", "soft", "expires", "count", "wait")
     ]
-
-
-class Verdict(Structure):
-    _fields_ = [(name, c_uint64) for name in ("line", "events", "timers", "processors", "soft", "now", "timer")] + [("cause", c_uint32)]
-
-
-def check(library, text, out):
-    """Checks a trace, which is bytes, and answers the number of hrt_check."""
-    call = CDLL(library).hrt_check
-    call.argtypes, call.restype = [c_char_p, c_size_t, POINTER(Verdict)], c_int32
-    return call(text, len(text), byref(out))
 
 
 class Timers:
@@ -51,6 +40,7 @@ class Timers:
             "claim": [u32, u32, now, out],
             "forward": [u32, now, u64, out],
             "finish": [u32, u32, out],
+            "next": [u32, now, out],
             "peek": [u32, out],
         }
         for name, kind in kinds.items():
@@ -79,6 +69,9 @@ class Timers:
 
     def finish(self, timer, restart, out):
         return self.hrt.hrt_finish(byref(self.handle), timer, int(restart), byref(out))
+
+    def next(self, base, now, out):
+        return self.hrt.hrt_next(byref(self.handle), base, byref(now), byref(out))
 
     def peek(self, timer, out):
         return self.hrt.hrt_peek(byref(self.handle), timer, byref(out))

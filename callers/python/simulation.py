@@ -1,7 +1,7 @@
 """The simulation of callers/c/simulation.c, from Python: simulation.py LIBRARY."""
 import sys
 
-from hrt import ABS, BOOTTIME, CLAIMED, HARD, MONOTONIC, REALTIME, REL, SOFT, Answer, Declared, Time, Timers
+from hrt import ABS, ARMED, BOOTTIME, CLAIMED, HARD, MONOTONIC, REALTIME, REL, SOFT, Answer, Declared, Time, Timers
 
 TICK, WATCHDOG, DEADLINE = range(3)
 LIBRARY = sys.argv[1]
@@ -38,9 +38,20 @@ def expire(context, now):
     a = Answer()
     while timers.claim(context, 0, at(now), a) == CLAIMED:
         timer = a.timer
-        print(f"{now}: claim {timer}, generation {a.generation}")
+        print(f"{now}: claim {timer}, generation {a.generation}, base {a.base}, clock {a.clock}, soft {a.soft}, expires {a.expires}")
         code = timers.finish(timer, run(timer, now), a)
         print(f"{now}: finish {timer} = {code}, number {a.number}")
+
+
+def run_all():
+    """Sleeps from one expiry to the next, until no timer is armed."""
+    now, code, a = 0, ARMED, Answer()
+    while code == ARMED:
+        now += a.wait
+        expire(HARD, now)
+        expire(SOFT, now)
+        code = timers.next(0, at(now), a)
+        print(f"{now}: next = {code}, wait {a.wait}")
 
 
 def one_entry():
@@ -52,35 +63,14 @@ def one_entry():
     one.free()
 
 
-def bad(declared):
-    none, a, t, late = Timers(LIBRARY), Answer(count=77), at(0), Time(0, 2**62 + 1, 0)
-    print(f"no timers: {none.peek(0, a)}")
-    print(f"in use: {timers.open(1, declared, 100)}")
-    print(f"bases: {none.open(0, declared, 100)} {none.open(9, declared, 100)}")
-    print(f"count: {none.open(1, [Declared(0, 0)] * 257, 100)}")
-    print(f"limit: {none.open(1, declared, 0)} {none.open(1, declared, 2**48)}")
-    print(f"clock: {none.open(1, [Declared(2, 0)], 100)}, context: {none.open(1, [Declared(1, 2)], 100)}")
-    print(f"timer: {timers.start(3, REL, 1, 0, 0, t, a)}")
-    print(f"base: {timers.start(TICK, REL, 1, 0, 1, t, a)}")
-    print(f"mode: {timers.start(TICK, 3, 1, 0, 0, t, a)}")
-    print(f"time: {timers.start(TICK, REL, 1, 0, 0, late, a)}")
-    print(f"context: {timers.claim(2, 0, t, a)}")
-    print(f"not running: {timers.forward(TICK, t, 1, a)} {timers.finish(TICK, False, a)}")
-    print(f"untouched: {a.count}")
-
-
 declared = [Declared(MONOTONIC, HARD), Declared(MONOTONIC, HARD), Declared(REALTIME, SOFT)]
 print(f"new = {timers.open(1, declared, 1000)}")
 start(TICK, REL, 100, 0, 0)
 start(DEADLINE, ABS, 1360, 0, 0)
-for now in range(0, 601, 50):
-    expire(HARD, now)
-    expire(SOFT, now)
+run_all()
 a = Answer()
 for timer in range(3):
     timers.peek(timer, a)
     print(f"peek {timer}: armed {a.armed}, running {a.running}, number {a.number}, expires {a.expires}")
 one_entry()
-bad(declared)
-print(f"free = {timers.free()}")
 print(f"free = {timers.free()}")

@@ -17,6 +17,7 @@ use Rattle.seq_timer.proofs.Systems.{rises_of-append}
 use Rattle.base_row.specs.Plays.{having_added}
 use Rattle.base_row.specs.declared.view.Claimed.{Claimed}
 use Rattle.base_row.proofs.Frames.{kept_tree, fits_on, holds_one, fits_whole, counted}
+use Rattle.base_row.proofs.Ringing.{rings_same}
 use Rattle.base_row.specs.declared.view.Opening.{Opening}
 use Rattle.base_row.specs.Rules.{PassHolds, RowHolds, base_place, standing_number, number_of, held_in, takes_at, HeldHolds, carried_in, is_base_claim, Token, has, owed, slot_of, IsIn, Place, Shift, Claim, Carry, Hold, Take, runs}
 use Rattle.base_row.specs.declared.view.BaseView.{BaseView}
@@ -136,6 +137,7 @@ module _ (o : Opening) (log : List SystemEntry) (s : State (Option BaseContent) 
       each_standing = λ b r. stored (base_place (length o.timers) b) _ _ _ _ (bases b r) (home.each_standing b r);
       each_counter = λ j r. word_same (counter_at j) (λ q. omega arith) ∙ (home.each_counter j r ∙ sym (no_more j));
       no_counter = λ j past. no_more j ∙ home.no_counter j past;
+      rings = rings_same o log x no_more home.rings;
       counters_len = home.counters_len;
       each_view = fits_on o log s home id v v' at refl log' words (begins_more log (x ∷ [])) (λ b r. omega (arith, lock_same b r))
           (λ b r. ⊎_elim (λ (e : b ≡ h.base). inl (subst (λ q. total (has o (Hold q)) s.views ≡ has o (Hold q) v) (sym e) one))

@@ -1,5 +1,6 @@
 -- The rule holds of a new row: every base is free, and nothing has happened.
 use Rattle.base_row.specs.Places.{counter_at, lock_at, most_counters, word_at}
+use Rattle.base_row.specs.Rings.{counters_in}
 use Rattle.std.proofs.Common.{◌≡◌, ℕ, zero, suc, ◌+◌, ◌<◌, ◌≤◌, List, [], ◌∷◌, length, map, replicate, refl, ap, sym, ◌∙◌, subst, arith, ◌%◌}
 use Rattle.std.specs.Prelude.{slice_index, Option, Some}
 use Rattle.std.proofs.lemmas.Bool.Decides.{nat_tests}
@@ -21,6 +22,7 @@ use Rattle.seq_timer.specs.Systems.{IsFresh}
 use Rattle.base_row.specs.Plays.{first_base_view, KnowsBases}
 use Rattle.base_row.specs.Calls.{AreFresh}
 use Rattle.base_row.proofs.Knowing.{knows_of}
+use Rattle.base_row.proofs.Ringing.{rings_nil}
 use Rattle.base_row.proofs.Frames.{fits_whole, no_lock}
 
 slot_at : (n i : ℕ) (x : Option BaseContent) → i < n → get_elem? (map some (replicate n x)) i ≡ some (some x)
@@ -44,7 +46,7 @@ fresh_standing : standing_number first_standing ≡ 0
 unfolding standing_number
 fresh_standing = refl
 
-module _ (o : Opening) (fresh : AreFresh o.timers) (few : o.counters ≤ most_counters o.bases (length o.timers)) where
+module _ (o : Opening) (fresh : AreFresh o.timers) (few : counters_in o ≤ most_counters o.bases (length o.timers)) where
   abbrev first : BaseView BaseContent
   first = first_base_view o
 
@@ -83,6 +85,7 @@ module _ (o : Opening) (fresh : AreFresh o.timers) (few : o.counters ≤ most_co
     each_standing = λ b h. zero_word (word_at o.bases (length o.timers + b)) ∙ sym fresh_standing;
     each_counter = λ k h. zero_word (counter_at k);
     no_counter = λ k past. refl;
+    rings = rings_nil o;
     counters_len = few;
     each_view = λ j v e. here j v e;
     tree = first_tree;

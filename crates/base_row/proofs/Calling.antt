@@ -226,6 +226,7 @@ may_start o v h t asked online whole inside held carry moves here there = record
         needs = tt;
         online = λ is. subst (λ q. (base_seen o v q).standing.heir ≡ None) (sym there)
             (subst (λ (x : BaseContent). x.standing.heir ≡ None) whole online);
+        heir = λ moves. tt;
       };
     };
     base = there;

@@ -94,6 +94,7 @@ module _ (o : Opening) (log : List SystemEntry) (s : State (Option BaseContent) 
     each_standing = home.each_standing;
     each_counter = home.each_counter;
     no_counter = home.no_counter;
+    rings = home.rings;
     counters_len = home.counters_len;
     each_view = each;
     tree = tree;
@@ -178,6 +179,7 @@ module _ (o : Opening) (log : List SystemEntry) (s : State (Option BaseContent) 
         each_standing = λ c h. word_else (word_at o.bases (base_place (length o.timers) c)) (λ e. omega arith) ∙ home.each_standing c h;
         each_counter = λ k h. word_else (counter_at k) (λ e. omega arith) ∙ home.each_counter k h;
         no_counter = home.no_counter;
+        rings = home.rings;
         counters_len = home.counters_len;
         each_view = fits_on log (set s.words (lock_at b) word) (begins_refl log)
             (λ c h. each_lock (λ q x. slice_index s.words (lock_at q) ≤ x) rises (λ q n. omega arith) c)

@@ -51,4 +51,5 @@ module _ (o : Opening) (s : State (Option BaseContent) (BaseView BaseContent)) (
     all_takes = λ last b k h some_one below. all last (Take b k) h
         ∙ in_range k ((slice_index s.words (lock_at b) + 1) / 2) some_one (omega (arith, fits.met b h));
     counters = home.no_counter;
+    rings = home.rings;
   }

@@ -7,6 +7,7 @@ pub mod Taking
 pub mod Freeing
 pub mod Entering
 pub mod Shifting
+pub mod Ringing
 pub mod Rising
 pub mod Splitting
 pub mod Events

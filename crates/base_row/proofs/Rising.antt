@@ -1,5 +1,6 @@
 -- A counter rises: nothing else is other than before, and the rule stays.
 use Rattle.base_row.specs.Places.{counter_at, lock_at, word_at}
+use Rattle.base_row.specs.Rings.{counters_in, MayRiseTo}
 use Rattle.std.proofs.Common.{◌≡◌, ℕ, zero, suc, eqb, ◌+◌, ◌-◌, ◌<◌, ◌≤◌, ◌≢◌, ◌%◌, ◌/◌, Bool, true, false, List, [], ◌∷◌, ◌++◌, length, set, refl, ap, sym, ◌∙◌, subst, inr, ⊎_elim, arith, if◌then◌else◌}
 use Rattle.std.specs.Prelude.{slice_index, slice_set, max, Option, MatchBool}
 use Rattle.std.proofs.lemmas.Bool.{cases_eq, eq-eqb, ne_eqb, eqb-true, true≢false}
@@ -21,6 +22,7 @@ use Rattle.base_row.specs.Rules.{base_place, has, Hold, Take, HasOneHistory, IsI
 use Rattle.base_row.specs.Plays.{having_met, RaisedCounter, RaisesTo, rises, RisesFrom, RoseCounter, SawMore}
 use Rattle.base_row.proofs.Frames.{counted, fits_on, fits_whole, has_kept, kept_tree}
 use Rattle.base_row.proofs.Knowing.{knows_of}
+use Rattle.base_row.proofs.Ringing.{may_later, may_missing, rings_rises, rises_many, rises_none}
 use Rattle.base_row.proofs.Looking.{looks_with}
 use Rattle.base_row.proofs.Stable.{steady_along}
 
@@ -44,15 +46,6 @@ no_shifts : (b k n : ℕ) → shifts_of b (rises k n) ≡ []
 no_shifts b k zero = refl
 no_shifts b k (suc n) = no_shifts b k n
 
-pub rises_many : (k n : ℕ) → rises_of k (rises k n) ≡ n
-rises_many k zero = refl
-rises_many k (suc n) = ap (λ (b : Bool). if b then rises_of k (rises k n) + 1 else rises_of k (rises k n)) (eq-eqb k k refl) ∙ omega (arith, rises_many k n)
-
-rises_none : (j k n : ℕ) → j ≢ k → rises_of j (rises k n) ≡ 0
-rises_none j k zero apart = refl
-rises_none j k (suc n) apart =
-    ap (λ (b : Bool). if b then rises_of j (rises k n) + 1 else rises_of j (rises k n)) (ne_eqb k j (λ e. apart (sym e))) ∙ rises_none j k n apart
-
 -- the count after a counter was raised
 pub count_raised : (k to : ℕ) (old new : List SystemEntry) → RaisesTo k to old new → to ≤ rises_of k new
 count_raised k to old new r = omega (
@@ -71,9 +64,9 @@ raised_already k to seen far = let none : to - rises_of k seen ≡ 0 = omega (ar
 }
 
 module _ (o : Opening) (slots id : ℕ) (v : BaseView BaseContent) (carried : List (ℕ × Option BaseContent)) (live : v.id.live ≡ true) (k : ℕ)
-    (inside : k < o.counters) where
+    (inside : k < counters_in o) where
   module _ (log : List SystemEntry) (s : State (Option BaseContent) (BaseView BaseContent)) (home : RowHolds o log s)
-      (at : get_elem? s.views id ≡ some v) (n : ℕ) where
+      (at : get_elem? s.views id ≡ some v) (n : ℕ) (may : MayRiseTo o k (rises_of k log + n) log) where
     abbrev log' : List SystemEntry
     log' = log ++ rises k n
 
@@ -113,7 +106,7 @@ module _ (o : Opening) (slots id : ℕ) (v : BaseView BaseContent) (carried : Li
     no_shift : (b : ℕ) → shifts_of b log' ≡ shifts_of b log
     no_shift b = shifts_of-append b log (rises k n) ∙ (ap (λ l. shifts_of b log ++ l) (no_shifts b k n) ∙ append-nil (shifts_of b log))
 
-    each_counter : (j : ℕ) → j < o.counters → slice_index words (counter_at j) ≡ rises_of j log'
+    each_counter : (j : ℕ) → j < counters_in o → slice_index words (counter_at j) ≡ rises_of j log'
     each_counter j h = ⊎_elim
         (λ (e : j ≡ k). subst (λ i. slice_index words (counter_at i) ≡ rises_of i log') (sym e) (omega (
           arith,
@@ -163,6 +156,7 @@ module _ (o : Opening) (slots id : ℕ) (v : BaseView BaseContent) (carried : Li
           ∙ (home.each_standing b h ∙ ap (λ (x : System). standing_number (x.bases b).standing) (sym same));
       each_counter = each_counter;
       no_counter = λ j past. omega (arith, rises_of-append j log (rises k n), rises_none j k n (λ e. omega (arith, e, inside, past)), home.no_counter j past);
+      rings = rings_rises o k n log home.rings may;
       counters_len = home.counters_len;
       each_view = fits_on o log s home id v v' at refl log' words (begins_more log (rises k n)) (λ b h. omega (arith, lock_same b))
           (λ b h. inr (ap (λ (x : System). x.bases b) same, lock_same b)) (λ t. inr (ap (λ (x : System). x.timers t) same)) (inr no_shift) fits';
@@ -179,10 +173,11 @@ module _ (o : Opening) (slots id : ℕ) (v : BaseView BaseContent) (carried : Li
       knows = knows_of o _ id v' risen (set_there s.views id v v' at) live;
     }
 
-  pub raises : (to : ℕ) → Allows (HasOneHistory o) slots id (v, carried) (counter_at k) (λ n. max n to)
-      (λ found new. (j : ℕ) → counter_at k ≡ counter_at j → j < o.counters → RaisedCounter o j to (v, carried) new)
-  raises to s (log, home) many at small =
+  pub raises : (to : ℕ) → MayRiseTo o k to v.seen → Allows (HasOneHistory o) slots id (v, carried) (counter_at k) (λ n. max n to)
+      (λ found new. (j : ℕ) → counter_at k ≡ counter_at j → j < counters_in o → RaisedCounter o j to (v, carried) new)
+  raises to may s (log, home) many at small =
       let n = to - rises_of k log in
+      let so_far = may_missing o k to log home.rings (may_later o k to (home.each_view id v at).seen may) in
       let stored : slice_index s.words (counter_at k) + n ≡ max (slice_index s.words (counter_at k)) to = omega (arith, home.each_counter k inside) in (
         having_met (log ++ rises k n) v.met v,
         keeps,
@@ -193,10 +188,10 @@ module _ (o : Opening) (slots id : ℕ) (v : BaseView BaseContent) (carried : Li
             words = slice_set s.words (counter_at k) x;
             homes = s.homes;
             views = slice_set s.views id (having_met (log ++ rises k n) v.met v);
-          }) stored (risen log s home at n),
+          }) stored (risen log s home at n so_far),
         ),
         λ j e h. subst (λ i. RaisedCounter o i to (v, carried) (having_met (log ++ rises k n) v.met v, carried)) (omega (arith, e)) (record {
-          saw = saw log s home at n;
+          saw = saw log s home at n so_far;
           raised = record { before = log; seen = (home.each_view id v at).seen; whole = refl };
         }),
       )
@@ -209,10 +204,11 @@ module _ (o : Opening) (slots id : ℕ) (v : BaseView BaseContent) (carried : Li
       × SawMore o (v, carried) (x, carried_after carried a)
       × MatchBool hit (RisesFrom k from v.seen x.seen) (rises_of k x.seen ≢ from)
 
-  told : (from : ℕ) (log : List SystemEntry) (s : State (Option BaseContent) (BaseView BaseContent)) → RowHolds o log s
+  told : (from : ℕ) → MayRiseTo o k (from + 1) v.seen → (log : List SystemEntry) (s : State (Option BaseContent) (BaseView BaseContent)) → RowHolds o log s
       → get_elem? s.views id ≡ some v → (hit : Bool) → eqb (slice_index s.words (counter_at k)) from ≡ hit → Told from hit s
-  told from log s home at true is =
-      let found : slice_index s.words (counter_at k) ≡ from = eqb-true (slice_index s.words (counter_at k)) from is in (
+  told from may log s home at true is =
+      let found : slice_index s.words (counter_at k) ≡ from = eqb-true (slice_index s.words (counter_at k)) from is in
+      let so_far = subst (λ m. MayRiseTo o k (m + 1) log) (sym found ∙ home.each_counter k inside) (may_later o k (from + 1) (home.each_view id v at).seen may) in (
         having_met (log ++ rises k 1) v.met v,
         keeps,
         tt,
@@ -222,12 +218,12 @@ module _ (o : Opening) (slots id : ℕ) (v : BaseView BaseContent) (carried : Li
             words = slice_set s.words (counter_at k) (x + 1);
             homes = s.homes;
             views = slice_set s.views id (having_met (log ++ rises k 1) v.met v);
-          }) found (risen log s home at 1),
+          }) found (risen log s home at 1 so_far),
         ),
-        saw log s home at 1,
+        saw log s home at 1 so_far,
         record { before = log; seen = (home.each_view id v at).seen; count = sym (home.each_counter k inside) ∙ found; last = refl },
       )
-  told from log s home at false is =
+  told from may log s home at false is =
       let fits = home.each_view id v at in
       let l = looks_with o slots id v carried live log s home at (counter_at k) v.met (record { size = refl; newer = λ b. omega arith; below = fits.met })
       (λ h e. refl) in (
@@ -239,11 +235,11 @@ module _ (o : Opening) (slots id : ℕ) (v : BaseView BaseContent) (carried : Li
         λ e. true≢false (sym (eq-eqb (slice_index s.words (counter_at k)) from (home.each_counter k inside ∙ e)) ∙ is),
       )
 
-  pub rises_by : (from : ℕ) → Allows (HasOneHistory o) slots id (v, carried) (counter_at k) (λ n. either (eqb n from) (from + 1) n)
-      (λ found new. (j : ℕ) → counter_at k ≡ counter_at j → j < o.counters → RoseCounter o j from (v, carried) found new)
-  rises_by from s home many at small =
+  pub rises_by : (from : ℕ) → MayRiseTo o k (from + 1) v.seen → Allows (HasOneHistory o) slots id (v, carried) (counter_at k) (λ n. either (eqb n from) (from + 1) n)
+      (λ found new. (j : ℕ) → counter_at k ≡ counter_at j → j < counters_in o → RoseCounter o j from (v, carried) found new)
+  rises_by from may s home many at small =
       let found = slice_index s.words (counter_at k) in
-      let r = told from home.0 s home.1 at (eqb found from) refl in (
+      let r = told from may home.0 s home.1 at (eqb found from) refl in (
         r.0,
         r.1,
         r.2,

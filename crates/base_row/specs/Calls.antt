@@ -13,6 +13,7 @@ use Rattle.seq_timer.specs.Tables.{timer_at}
 use Rattle.seq_timer.specs.Histories as seq
 use Rattle.seq_timer.specs.Systems.{BaseContent, IsFresh, IsOn, changed, entries_of, openings, shifts_of, system_after}
 use Rattle.base_row.specs.declared.log.Noted.TheVariants as noteds
+use Rattle.base_row.specs.Places.{most_counters}
 use Rattle.base_row.specs.declared.log.Receipt.{Receipt}
 use Rattle.base_row.specs.declared.view.Claimed.{Claimed}
 use Rattle.base_row.specs.declared.view.HeldContent.{HeldContent}
@@ -37,18 +38,27 @@ pub record IsBasePassOf (r : BaseRowOf) (p : BasePassOf) : Type 0 where
   pub row : p.row ≡ r.id
   pub about : p.knows.opening ≡ r.about
 
--- what a row of so many bases, of timers that are declared so, and of so many counters begins with
-abbrev pub opening_with : ℕ → List Declared → Terms → ℕ → Opening
-opening_with bases declareds terms counters = record { bases = bases; timers = openings declareds terms; counters = counters }
+-- what a row of so many bases, of timers that are declared so, of so many counters, and of rings with so much room begins with
+abbrev pub opening_ringed : ℕ → List Declared → Terms → ℕ → List ℕ → Opening
+opening_ringed bases declareds terms counters rings = record { bases = bases; timers = openings declareds terms; counters = counters; rings = rings }
 
--- the same without counters
+-- the same without rings
+abbrev pub opening_with : ℕ → List Declared → Terms → ℕ → Opening
+opening_with bases declareds terms counters = opening_ringed bases declareds terms counters []
+
+-- the same with as many counters as there may be
 abbrev pub opening_of : ℕ → List Declared → Terms → Opening
-opening_of bases declareds terms = opening_with bases declareds terms 0
+opening_of bases declareds terms = opening_with bases declareds terms (most_counters bases (length declareds))
+
+-- timers that were made of declarations, on the same terms
+abbrev pub AreOpened : List Timer → Type 0
+AreOpened timers = (declareds : List Declared) × (terms : Terms) × (0 < terms.limit) × HasRoom terms × (timers ≡ openings declareds terms)
 
 -- nothing has happened to any of the timers
 pub record AreFresh (timers : List Timer) : Type 0 where
   pub each : (t : ℕ) → IsFresh (timer_at timers t)
   pub room : (t : ℕ) → HasRoom (timer_at timers t).terms
+  pub opened : AreOpened timers
 
 -- a pass may make this entry, by what it has seen
 pub record MayAppend (o : Opening) (v : BaseView BaseContent) (h : HeldContent BaseContent) (t : ℕ) (event : Event) : Type 0 where

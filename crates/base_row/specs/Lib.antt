@@ -1,4 +1,5 @@
 pub mod Places
+pub mod Rings
 pub mod Rests
 pub mod Rules
 pub mod Logs

@@ -1,5 +1,6 @@
 -- What each step tells.
 use Rattle.base_row.specs.Places.{counter_at, lock_at, word_at}
+use Rattle.base_row.specs.Rings.{counters_in, KeepsRings}
 use Rattle.std.specs.Prelude.{◌≡◌, ℕ, ◌+◌, ◌<◌, ◌≤◌, ◌==◌, Bool, true, false, List, [], ◌∷◌, ◌++◌, length, set}
 use Rattle.std.specs.Prelude.{slice_index, max, replicate, ◌≢◌, ◌⊎◌, ◌^◌, ◌-◌, Option, Some, None, MatchBool, unwrap_or, if◌then◌else◌}
 use Rattle.atomic_table.specs.Seated.{TableId}
@@ -93,7 +94,7 @@ greater (x ∷ xs) [] = x ∷ xs
 greater (x ∷ xs) (y ∷ ys) = max x y ∷ greater xs ys
 
 abbrev pub no_opening : Opening
-no_opening = record { bases = 0; timers = []; counters = 0 }
+no_opening = record { bases = 0; timers = []; counters = 0; rings = [] }
 
 -- a pass that has nothing of its own, by what it has seen and met
 abbrev pub bare_view : PassId → Opening → List SystemEntry → List ℕ → BaseView BaseContent
@@ -192,7 +193,9 @@ module _ (o : Opening) where
     pub all_carried : IsLast v.id → (t : ℕ) → t < length o.timers → (timer_seen o v t).moving ≡ true → v.carry ≡ Some t
     pub all_takes : IsLast v.id → (b k : ℕ) → b < o.bases → 0 < k → k + k ≤ slice_index v.met b + 1 → takes_at b k v ≡ 1
     -- a counter that isn't there never rose
-    pub counters : (k : ℕ) → o.counters ≤ k → rises_of k v.seen ≡ 0
+    pub counters : (k : ℕ) → counters_in o ≤ k → rises_of k v.seen ≡ 0
+    -- each ring had its counts in bounds at each moment
+    pub rings : KeepsRings o v.seen
 
   -- a load of word 0, or of a timer's, a base's or a counter's word
   pub record LoadedWord (st : Step (Option BaseContent)) (me : SeatState) (found : ℕ)
@@ -205,7 +208,7 @@ module _ (o : Opening) where
     pub timer : (t : ℕ) → st.word ≡ word_at o.bases t → t < length o.timers → found ≡ number_of (timer_seen o new.0 t)
     pub standing : (b : ℕ) → st.word ≡ word_at o.bases (base_place (length o.timers) b) → b < o.bases
         → found ≡ standing_number (base_seen o new.0 b).standing
-    pub counter : (k : ℕ) → st.word ≡ counter_at k → k < o.counters → found ≡ rises_of k new.0.seen
+    pub counter : (k : ℕ) → st.word ≡ counter_at k → k < counters_in o → found ≡ rises_of k new.0.seen
 
   -- a pass has seen more, and nothing else is other than before
   pub record SawMore (me new : SeatState) : Type 0 where
@@ -380,10 +383,10 @@ abbrev pub LooksOwn : StepMeaning
 LooksOwn st me found new = LoadedWord me.0.opening st me found new
 
 abbrev pub RaisesOwn : StepMeaning
-RaisesOwn st me found new = (k : ℕ) → st.word ≡ counter_at k → k < me.0.opening.counters → RaisedCounter me.0.opening k st.first me new
+RaisesOwn st me found new = (k : ℕ) → st.word ≡ counter_at k → k < counters_in me.0.opening → RaisedCounter me.0.opening k st.first me new
 
 abbrev pub RisesOwn : StepMeaning
-RisesOwn st me found new = (k : ℕ) → st.word ≡ counter_at k → k < me.0.opening.counters → RoseCounter me.0.opening k st.first me found new
+RisesOwn st me found new = (k : ℕ) → st.word ≡ counter_at k → k < counters_in me.0.opening → RoseCounter me.0.opening k st.first me found new
 
 abbrev pub MeetsOwn : StepMeaning
 MeetsOwn st me found new = (b : ℕ) → st.word ≡ lock_at b → Met me.0.opening b me found new

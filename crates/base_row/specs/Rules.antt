@@ -1,5 +1,6 @@
 -- The rule of the table: one history of all timers, of which each pass has seen a beginning; words and slots are what it says.
 use Rattle.base_row.specs.Places.{counter_at, lock_at, most_counters, word_at}
+use Rattle.base_row.specs.Rings.{counters_in, KeepsRings}
 use Rattle.std.specs.Prelude.{zero, suc, ◌%◌, ◌/◌, ◌≡◌, ℕ, ◌+◌, ◌*◌, ◌<◌, ◌≤◌, Bool, true, false, ◌==◌, ◌&&◌, List, [], length, map, slice_index, Option, Some, None}
 use mathlib.Core.Option.{some, none}
 use lib.ListN.{get_elem?}
@@ -22,7 +23,7 @@ use Rattle.seq_timer.specs.Systems.{BaseContent, System, first_system, rises_of,
 
 -- what a table is of, by what it was made for
 abbrev pub opening_in : About → Opening
-opening_in about = record { bases = about.bases; timers = about.timers.value.items; counters = about.counters }
+opening_in about = record { bases = about.bases; timers = about.timers.value.items; counters = about.counters; rings = about.rings.value.items }
 
 abbrev pub base_pass_id : BaseView BaseContent → PassId
 base_pass_id v = v.id
@@ -154,9 +155,11 @@ module _ (o : Opening) where
     pub each_standing : (b : ℕ) → b < o.bases
         → slice_index s.words (word_at o.bases (base_place (length o.timers) b)) ≡ standing_number ((system_after o.timers log).bases b).standing
     -- a counter's word is how often it rose; one that isn't there never did
-    pub each_counter : (k : ℕ) → k < o.counters → slice_index s.words (counter_at k) ≡ rises_of k log
-    pub no_counter : (k : ℕ) → o.counters ≤ k → rises_of k log ≡ 0
-    pub counters_len : o.counters ≤ most_counters o.bases (length o.timers)
+    pub each_counter : (k : ℕ) → k < counters_in o → slice_index s.words (counter_at k) ≡ rises_of k log
+    pub no_counter : (k : ℕ) → counters_in o ≤ k → rises_of k log ≡ 0
+    -- each ring had its counts in bounds at each moment
+    pub rings : KeepsRings o log
+    pub counters_len : counters_in o ≤ most_counters o.bases (length o.timers)
     pub each_view : (j : ℕ) (v : BaseView BaseContent) → get_elem? s.views j ≡ some v → PassHolds log s.words v
     pub tree : IsPassTree (map base_pass_id s.views)
     -- each token is one pass's, once

@@ -1,6 +1,7 @@
 //! Counters, whose rises stand among the entries of timers and bases.
 ghost use Rattle.std.specs.Prelude.{◌≡◌, ◌≢◌, ◌+◌, ◌^◌, ◌<◌, ◌≤◌, length, MatchBool};
 ghost use Rattle.base_row.specs.Places.{counter_at, word_at};
+ghost use Rattle.base_row.specs.Rings.{counters_in, MayRiseTo};
 ghost use Rattle.base_row.specs.Plays.{RaisesTo, RisesFrom, Steady};
 ghost use Rattle.base_row.specs.Calls.{IsBasePassOf, SeesFurther};
 ghost use Rattle.seq_timer.specs.Systems.{rises_of};
@@ -8,7 +9,7 @@ ghost use Rattle.seq_timer.specs.Systems.{rises_of};
 use crate::held::Pass;
 use crate::parts::counter_index;
 use crate::row::BaseRow;
-use crate::steps::{look, raise, rise};
+use crate::steps::{raise, rise};
 
 impl BaseRow {
     /// How often a counter has risen. It waits for nobody.
@@ -20,8 +21,7 @@ impl BaseRow {
         ensures steady { Steady pass.old.knows pass.new.knows }
         ensures count { result ≡ rises_of counter pass.new.knows.seen }
     {
-        let word = self.counter_word(counter);
-        look(&self.table.shared, &mut pass.seat, word)
+        self.load_count(pass, counter)
     }
 
     /// Raises a counter to at least `to`. It waits for nobody, and where the counter is known to be as far it touches no memory.
@@ -41,13 +41,15 @@ impl BaseRow {
         }
     }
 
-    fn raise_word(&self, pass: &mut Pass, counter: u32, to: u64)
+    pub(crate) fn raise_word(&self, pass: &mut Pass, counter: u32, to: u64)
         requires row { IsBasePassOf self.now pass.old }
-        requires within { counter < self.now.about.counters }
+        requires within { counter < counters_in self.now.about }
+        requires may { MayRiseTo self.now.about counter to pass.old.knows.seen }
         ensures row { IsBasePassOf self.now pass.new }
         ensures sees { SeesFurther pass.old.knows pass.new.knows }
         ensures steady { Steady pass.old.knows pass.new.knows }
         ensures raised { RaisesTo counter to pass.old.knows.seen pass.new.knows.seen }
+        ensures count { to ≤ rises_of counter pass.new.knows.seen }
     {
         let word = self.counter_word(counter);
         raise(&self.table.shared, &mut pass.seat, counter, word, to);
@@ -68,8 +70,8 @@ impl BaseRow {
     }
 
     /// Which word a counter has.
-    fn counter_word(&self, counter: u32) -> usize
-        requires { counter < self.now.about.counters }
+    pub(crate) fn counter_word(&self, counter: u32) -> usize
+        requires { counter < counters_in self.now.about }
         ensures place { result ≡ counter_at counter }
         ensures inside { result < word_at self.now.about.bases (length self.now.about.timers + self.now.about.bases) }
     {

@@ -9,6 +9,7 @@ mod laws;
 mod log;
 mod parts;
 mod plays;
+mod rings;
 mod row;
 mod slot;
 mod slots;
@@ -22,6 +23,7 @@ pub use laws::{
     passes_tell_what_they_saw,
 };
 pub use log::{Log, Noted, Receipt, ReceiptLog, ReceiptSink, Unlogged};
+pub use parts::most_counters;
 pub use row::BaseRow;
 pub use slot::BaseSlot;
 pub use view::{BaseView, Claimed, HeldContent, Opening};

@@ -1,5 +1,5 @@
 //! What a row's table is made of.
-ghost use Rattle.base_row.specs.Places.{counter_at, lock_at, word_at};
+ghost use Rattle.base_row.specs.Places.{counter_at, lock_at, most_counters, word_at};
 ghost use Rattle.std.specs.Prelude.{◌≡◌, ◌<◌, ◌≤◌, ◌^◌, Some, IfOk, IfSome, length, replicate};
 ghost use Rattle.base_row.specs.Rules.{number_of, standing_number};
 ghost use Rattle.seq_timer.specs.declared.standing.Standing as standings;
@@ -47,6 +47,14 @@ pub fn counter_index(counter: usize) -> usize
     ensures { result ≡ counter_at counter }
 {
     16 * (counter / 2) + 1 + counter % 2
+}
+
+/// How many counters there may be beside so many bases and timers: they take no memory of their own.
+pub fn most_counters(bases: u32, timers: usize) -> u32
+    requires few { (bases ≤ 256) × (timers ≤ 65536) }
+    ensures { result ≡ most_counters bases timers }
+{
+    4 * bases + 2 * (timers as u32) + 2
 }
 
 /// The number in a base's word.

@@ -15,6 +15,7 @@ pub struct About {
     pub bases: u64,
     pub timers: Snapshot<Vec<TimerState>>,
     pub counters: u64,
+    pub rings: Snapshot<Vec<u64>>,
 }
 
 pub struct BaseRule;

@@ -12,13 +12,13 @@ ghost use Rattle.seq_timer.specs.Halves.{running_on};
 ghost use Rattle.ktime.specs.declared.clock_id.ClockId.{ClockId};
 ghost use Rattle.seq_timer.specs.Systems.{IsOn, next_on};
 ghost use Rattle.base_row.specs.Plays.{KnowsOwn, first_base_view, Lost, GotBase, carried_slots, split_base_view, new_base_view, Steady};
-ghost use Rattle.base_row.specs.Calls.{AreFresh, GetsBase, MissesBase, opening_of, opening_with, IsBasePassOf, LetsGo, SeesFurther, Absorbs};
+ghost use Rattle.base_row.specs.Calls.{AreFresh, GetsBase, MissesBase, opening_of, opening_ringed, opening_with, IsBasePassOf, LetsGo, SeesFurther, Absorbs};
 ghost use Rattle.base_row.specs.Calls.{LearnsFrom, MayAppend, Appended, own_receipt, timer_seen, base_seen};
 
 use crate::cell::BaseCell;
 use crate::held::{HeldBase, Pass};
 use crate::log::{ReceiptSink, Unlogged};
-use crate::parts::{empty_slots, lock_index, number_of, timer_index, zeros};
+use crate::parts::{empty_slots, lock_index, most_counters, number_of, timer_index, zeros};
 use crate::plays::{About, BaseRule, Child, SlotView};
 use crate::slots::{attempt, put_back};
 use crate::steps::{absorb, enter, free, look, tell};
@@ -37,11 +37,13 @@ pub struct BaseRow {
     pub(crate) table: Table<BaseCell, SlotView, About, BaseRule, Global>,
     pub(crate) bases: usize,
     pub(crate) timers: usize,
+    pub(crate) counters: u32,
 }
 
 impl Model for BaseRow {
     ghost use Rattle.std.specs.Prelude.{◌≡◌, ◌+◌, ◌<◌, ◌≤◌, length};
     ghost use Rattle.base_row.specs.Places.{most_counters, word_at};
+    ghost use Rattle.base_row.specs.Rings.{counters_in};
     ghost use Rattle.base_row.specs.Rules.{opening_in};
     ghost use Rattle.base_row.specs.Calls.{BaseRowOf, AreFresh};
 
@@ -55,12 +57,13 @@ impl Model for BaseRow {
         × (r.timers ≡ length r.table.shared.key.timers.value.items)
         × (length r.table.shared.key.timers.value.items ≤ 65536) × (AreFresh r.table.shared.key.timers.value.items)
         × (0 < r.table.shared.key.bases) × (r.table.shared.key.bases ≤ 256)
-        × (r.table.shared.key.counters ≤ most_counters r.table.shared.key.bases (length r.table.shared.key.timers.value.items)) };
+        × (r.counters ≡ r.table.shared.key.counters)
+        × (counters_in (opening_in r.table.shared.key) ≤ most_counters r.table.shared.key.bases (length r.table.shared.key.timers.value.items)) };
 }
 
 impl BaseRow {
-    /// A row of so many bases, and of timers that are declared so and take entries on these terms, with the first pass. It takes memory, for all
-    /// calls; no other call does.
+    /// A row of so many bases, and of timers that are declared so and take entries on these terms, with as many counters as there may be, and the first
+    /// pass. It takes memory, for all calls; no other call does.
     pub fn make(
         alloc: Global,
         bases: u32,
@@ -74,10 +77,11 @@ impl BaseRow {
         ensures about { IfOk result (λ r. r.0.about ≡ opening_of bases timers.now terms) }
         ensures first { IfOk result (λ r. r.1.knows ≡ first_base_view (opening_of bases timers.now terms)) }
     {
-        BaseRow::make_counting(alloc, bases, timers, terms, 0)
+        let counters = most_counters(bases, timers.len());
+        BaseRow::make_counting(alloc, bases, timers, terms, counters)
     }
 
-    /// The same, with so many counters beside, whose rises stand in the history of the timers.
+    /// The same, with so many counters, whose rises stand in the history of the timers.
     pub fn make_counting(
         alloc: Global,
         bases: u32,
@@ -93,8 +97,28 @@ impl BaseRow {
         ensures about { IfOk result (λ r. r.0.about ≡ opening_with bases timers.now terms counters) }
         ensures first { IfOk result (λ r. r.1.knows ≡ first_base_view (opening_with bases timers.now terms counters)) }
     {
+        BaseRow::make_ringed(alloc, bases, timers, terms, counters, &Vec::new(alloc))
+    }
+
+    /// The same, with rings of so much room each beside the counters (`rings.rt`).
+    pub fn make_ringed(
+        alloc: Global,
+        bases: u32,
+        timers: &[Declared],
+        terms: Terms,
+        counters: u32,
+        rings: &Vec<u64>,
+    ) -> Result<(BaseRow, Pass), AllocError>
+        requires few { (0 < bases) × (bases ≤ 256) × (length timers.now ≤ 65536) }
+        requires counters { counters + (length rings.now.items + length rings.now.items) ≤ most_counters bases (length timers.now) }
+        requires limit { 0 < terms.limit }
+        requires room { HasRoom terms }
+        ensures row { IfOk result (λ r. IsBasePassOf r.0 r.1) }
+        ensures about { IfOk result (λ r. r.0.about ≡ opening_ringed bases timers.now terms counters rings.now.items) }
+        ensures first { IfOk result (λ r. r.1.knows ≡ first_base_view (opening_ringed bases timers.now terms counters rings.now.items)) }
+    {
         let timers = make_timers(alloc, timers, terms)?;
-        BaseRow::with_timers(alloc, bases, timers, counters)
+        BaseRow::with_timers(alloc, bases, timers, counters, rings)
     }
 
     fn with_timers(
@@ -102,18 +126,20 @@ impl BaseRow {
         bases: u32,
         timers: Vec<TimerState>,
         counters: u32,
+        rings: &Vec<u64>,
     ) -> Result<(BaseRow, Pass), AllocError>
         requires fresh { AreFresh timers.items }
         requires few { (0 < bases) × (bases ≤ 256) × (length timers.items ≤ 65536) }
-        requires counters { counters ≤ most_counters bases (length timers.items) }
+        requires counters { counters + (length rings.now.items + length rings.now.items) ≤ most_counters bases (length timers.items) }
         ensures row { IfOk result (λ r. IsBasePassOf r.0 r.1) }
-        ensures about { IfOk result (λ r. r.0.about ≡ record { bases = bases; timers = timers.items; counters = counters }) }
-        ensures first { IfOk result (λ r. r.1.knows ≡ first_base_view (record { bases = bases; timers = timers.items; counters = counters })) }
+        ensures about { IfOk result (λ r. r.0.about ≡ record { bases = bases; timers = timers.items; counters = counters; rings = rings.now.items }) }
+        ensures first { IfOk result (λ r. r.1.knows ≡ first_base_view (record { bases = bases; timers = timers.items; counters = counters; rings = rings.now.items })) }
     {
         let about = About {
             bases: u64::from(bases),
             timers: Snapshot::of(&timers),
             counters: u64::from(counters),
+            rings: Snapshot::of(rings),
         };
         let count = timers.len();
         let words = zeros(alloc, timer_index(bases as usize, count + bases as usize))?;
@@ -124,6 +150,7 @@ impl BaseRow {
                     table,
                     bases: bases as usize,
                     timers: count,
+                    counters,
                 },
                 Pass { seat },
             )),

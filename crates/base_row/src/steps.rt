@@ -5,6 +5,7 @@ ghost use mathlib.Core.Option.{none};
 ghost use Rattle.atomic_table.specs.Table.{step};
 ghost use Rattle.pass_names.specs.Names.{AnswersFor};
 ghost use Rattle.seq_timer.specs.Steps.{after};
+ghost use Rattle.base_row.specs.Rings.{counters_in, MayRiseTo};
 ghost use Rattle.base_row.specs.Rules.{base_place, number_of, opening_in, standing_number, timer_seen};
 ghost use Rattle.seq_timer.specs.Standings.{standing_after};
 ghost use Rattle.seq_timer.specs.Systems.{BaseContent};
@@ -88,7 +89,8 @@ pub fn look(cells: &BaseCells, seat: &mut BaseSeat, word: usize) -> u64
 pub fn raise(cells: &BaseCells, seat: &mut BaseSeat, counter: u32, word: usize, to: u64)
     requires same { seat.old.table_id ≡ cells.now.table_id }
     requires about { seat.old.me.0.opening ≡ opening_in cells.now.key }
-    requires word { (counter < cells.now.key.counters) × (word ≡ counter_at counter) × (word < cells.now.table_id.words) }
+    requires word { (counter < counters_in (opening_in cells.now.key)) × (word ≡ counter_at counter) × (word < cells.now.table_id.words) }
+    requires may { MayRiseTo (opening_in cells.now.key) counter to seat.old.me.0.seen }
     requires live { seat.old.me.0.id.live ≡ true }
     ensures same { seat.new.table_id ≡ seat.old.table_id }
     ensures raised { RaisedCounter (opening_in cells.now.key) counter to seat.old.me seat.new.me }

@@ -18,11 +18,13 @@ pub struct HeldContent<B> {
     pub content: B,
 }
 
-/// What was made: so many bases, these timers, and so many counters.
+/// What was made: so many bases, these timers, so many counters, and rings.
 pub struct Opening {
     pub bases: u64,
     pub timers: LinkedList<TimerState>,
     pub counters: u64,
+    /// How much room each ring has. It has two counters more: how much was put in, and how much was taken off.
+    pub rings: LinkedList<u64>,
 }
 
 /// What a pass knows. No value of it is made.

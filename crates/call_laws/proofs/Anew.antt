@@ -40,7 +40,7 @@ use Rattle.lane_notes.proofs.SeenMore.{begins_same, goes_before}
 use Rattle.call_laws.proofs.Armed.{IsArmedSo, TimerPart, TimersPart, WantsAtMost, disarmed_part, start_at_most}
 use Rattle.call_laws.proofs.Signals.{IsNoTrigger, turns_alone}
 use Rattle.run_history.specs.Signals.{popped_by}
-use Rattle.call_laws.proofs.ObjectMade.{keeps_made, made_unpushed, outcome_is, receipts, start_is, stop_begun, stop_first, stop_last, timer_found, turn_found, turn_place}
+use Rattle.call_laws.proofs.ObjectMade.{has_begun, keeps_made, made_unpushed, outcome_is, receipts, start_is, stop_begun, stop_first, stop_last, timer_found, turn_found, turn_place}
 use Rattle.call_laws.proofs.Parts.{ClockHas, IsNotedAs}
 use Rattle.call_laws.proofs.SettimeParts.{like_start}
 
@@ -81,8 +81,9 @@ module _ {s : Script} {x : WorldOf} {l : LaneOf} (m : LaneOf) {of : Call} (next 
     is_anew =
         let off = sight_of (witness_of s e) (length begin.seen) (length w.seen) in
         record {
-          arms = as_wider off (sight_of (witness_of s e) (turn_place m next anew.enters anew.turn part after) (length m.pass.timers.known.seen))
-              (sight_wider (witness_of s e) (turn_found m next anew.enters anew.turn part after) (begins_length anew.turn.ends.looks.seen)) s.limit timer may
+          turn = has_begun m next anew.enters anew.turn part after follows joined;
+          arms = as_wider off (sight_of (witness_of s e) (length anew.begun.seen) (length m.pass.timers.known.seen))
+              (sight_wider (witness_of s e) (begins_length after) (begins_length anew.turn.ends.looks.seen)) s.limit timer may
               reading.stamp (base_of (kind_of s timer)) (arm_noted anew.arm) part.start
               (subst (λ b. ArmsAs off s.limit timer may reading.stamp b (arm_noted anew.arm) part.start) (declared_base s x timer next.world)
               (part.arms e joined (goes_before anew.turn.ends.looks.seen follows.timers)));

@@ -1,17 +1,18 @@
 -- The callbacks of timers by themselves, behind the claims that they are run for.
 use Rattle.call_laws.proofs.Parts.{part_alone}
-use Rattle.call_laws.proofs.Stays.{saw_quiet}
+use Rattle.call_laws.proofs.Stays.{saw_quiet, timer_stays}
+use Rattle.pass_names.proofs.Passes.{begins_trans}
 use Rattle.call_laws.proofs.Parts.{part_none}
 use Rattle.pass_names.specs.Passes.{Begins}
 use Rattle.std.proofs.Common.{◌++◌}
-use Rattle.std.proofs.Common.{◌≡◌, ◌≤◌, ◌<◌, ℕ, ◌+◌, length, inl, inr, IsSome, Some, List, [], ◌∷◌, arith, refl, sym, ap, ◌∙◌, subst}
+use Rattle.std.proofs.Common.{◌≡◌, ◌≤◌, ◌<◌, ℕ, ◌+◌, length, inl, inr, IsSome, Some, List, [], ◌∷◌, arith, le_refl, refl, sym, ap, ◌∙◌, subst}
 use Rattle.std.proofs.lemmas.List.{append-nil}
 use Rattle.ktime.specs.Readings.{ClockReading}
 use Rattle.seq_timer.specs.declared.context.Context.{Context}
 use Rattle.ktime.specs.declared.mode.Mode.TheVariants as modes
 use Rattle.seq_timer.specs.Histories as seq
 use Rattle.seq_timer.specs.Histories.{Holds}
-use Rattle.seq_timer.specs.Steps.{moved_by}
+use Rattle.seq_timer.specs.Steps.{Timer, moved_by}
 use Rattle.seq_timer.specs.Systems.{openings}
 use Rattle.seq_timer.specs.declared.event.EventBy.TheVariants as events
 use Rattle.seq_timer.specs.Events.{Asked, Event}
@@ -51,7 +52,7 @@ use Rattle.run_history.specs.Receipts.{count_owned}
 use Rattle.run_history.specs.Promises.{RunGoesOn}
 use Rattle.run_history.specs.Runs.{witness_of, Ending, IsJoined}
 use Rattle.run_history.specs.Witnesses.{TimersList}
-use Rattle.lane_notes.proofs.SeenMore.{begins_same, count_begins}
+use Rattle.lane_notes.proofs.SeenMore.{begins_same, count_begins, goes_before}
 use Rattle.lane_notes.specs.Worlds.{callback_of, opening_for}
 use Rattle.call_laws.proofs.Entering.{enters_none, stamp_counts}
 use Rattle.run_history.proofs.Stamped.{HasReading, entry_stamped}
@@ -188,12 +189,23 @@ module _ (s : Script) (o : Opening) (is : o ≡ opening_for s) (some : 1 ≤ s.l
           let few : u.stamp < s.limit = omega (arith, f.fits.1, (limit_within s o is some f.at c.timer)) in
           entered_kept made (λ clock has. ap (λ r. events.Start (asked_for modes.Rel ns 0 last r)) has) logs
           (λ e joined goes finish restarted.
-          let sight = sight_of (witness_of s e) (length v.seen) (length w.seen) in rw kind (
+          let sight = sight_of (witness_of s e) (length v.seen) (length w.seen) in
+          let seen = begins_trans f.made.from f.made.seen in rw kind (
             inl (
               arming_of u asks_for [] last,
               refl,
-              is_arming sight c.timer s.limit asked u asks_for [] last few
-                  (sent_seen s o is e joined v.seen w.seen goes c.timer u asked [] last way),
+              record {
+                begun = length v.seen;
+                from = le_refl (length v.seen);
+                claimed = omega (
+                  arith,
+                  claim.within,
+                  stamp_counts o (declareds_of s) (terms_of s) v.seen c.timer on,
+                  ap (λ (y : Timer). y.stamp) (timer_stays is joined v.seen (goes_before seen goes) c.timer),
+                );
+                arming = is_arming sight c.timer s.limit asked u asks_for [] last few
+                    (sent_seen s o is e joined v.seen w.seen goes c.timer u asked [] last way);
+              },
             ),
             ap asks run.1,
           ))

@@ -65,7 +65,7 @@ use Rattle.call_laws.proofs.Claimed.{claimed_in-append}
 use Rattle.call_laws.proofs.Bodies.{callback_kept}
 use Rattle.call_laws.proofs.Parts.{BodyKept, fired_of, ClockHas, IsClaimed, IsPart, part_none, turns_of}
 use Rattle.lane_notes.proofs.PartLists.{notes-append}
-use Rattle.call_laws.proofs.Entering.{enters_once}
+use Rattle.call_laws.proofs.Entering.{enters_once, stamp_counts}
 use Rattle.seq_timer.specs.declared.event.Restarted.{Restarted}
 use Rattle.seq_timer.specs.declared.event.Reply.TheVariants as replies
 use Rattle.seq_timer.specs.declared.event.EventBy.TheVariants as events
@@ -144,6 +144,7 @@ module _ (s : Script) (x : WorldOf) (is : IsWorldOf s x) (queue : HasQueue x.obj
         there = claims.there;
         some = omega (arith, claims.number);
         more = omega (arith, (count_begins (TimersList c.timer) claims.made.from), ap length claims.made.own, own);
+        within = omega (arith, claims.number, stamp_counts o (declareds_of s) (terms_of s) claims.at c.timer on, ap length claims.made.own, own);
       }
 
   -- the function of a claim, by the handler's meaning

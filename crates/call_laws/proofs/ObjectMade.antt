@@ -6,7 +6,7 @@ use Rattle.call_laws.proofs.Noted.{HasNoTurns, notes_of, notes_of-append, whole_
 use Rattle.call_laws.proofs.Parts.{part_began, part_made, part_none, part_then}
 use Rattle.call_laws.proofs.Stays.{timer_stays}
 use Rattle.lane_notes.specs.Notes.{both_noted}
-use Rattle.std.proofs.Common.{◌≤◌, ◌≡◌, ℕ, suc, ◌+◌, Option, None, Some, List, [], length, arith, refl, sym, ap, ◌∙◌, subst, Bool, ◌∷◌, ◌++◌}
+use Rattle.std.proofs.Common.{◌≤◌, ◌<◌, ◌≡◌, ℕ, suc, ◌+◌, Option, None, Some, List, [], length, arith, refl, sym, ap, ◌∙◌, subst, Bool, ◌∷◌, ◌++◌}
 use Rattle.ktime.specs.Readings.{ClockReading}
 use Rattle.base_row.specs.declared.log.Receipt.{Receipt}
 use Rattle.hr_timers.specs.Known.{KnownOfTimers, timer_then}
@@ -20,16 +20,16 @@ use Rattle.run_history.specs.Objects.{armed_in_phase}
 use Rattle.script_text.specs.declared.script.Script.{Script}
 use Rattle.lane_notes.specs.Objects.{arm_noted}
 use Rattle.run_history.specs.Runs.{witness_of, Ending, IsJoined, moves_spans, signal_spans}
-use Rattle.run_history.specs.Truths.{IsTrueStart}
+use Rattle.run_history.specs.Truths.{IsTrueStart, sight_of}
 use Rattle.run_history.specs.Actions.{Began}
 use Rattle.run_history.specs.Witnesses.{OfRise}
 use Rattle.run_history.specs.Promises.{RunGoesOn}
 use Rattle.run_history.specs.Receipts.{PlacedEntry}
-use Rattle.run_history.specs.ObjectCalls.{cancels}
+use Rattle.run_history.specs.ObjectCalls.{HasBegun, cancels}
 use Rattle.run_history.proofs.Known.{AreMade, behind_all, made-append, made_goes_on}
 use Rattle.timer_objects.specs.Turns.{HasTurn}
 use Rattle.pass_names.specs.Passes.{Begins}
-use Rattle.call_laws.proofs.ObjectTurns.{enters_entry, enters_turn}
+use Rattle.call_laws.proofs.ObjectTurns.{enters_entry, enters_turn, turn_begun}
 use Rattle.run_history.proofs.ObjectsMade.{anew_actions}
 use Rattle.run_history.proofs.OthersMade.{turning}
 use Rattle.run_history.specs.Signals.{popped_by, pushed_in}
@@ -39,7 +39,7 @@ use Rattle.lane_notes.specs.Called.{lane_caller, LaneOf, ReadsClock, with_done}
 use Rattle.lane_notes.proofs.Kept.{Follows, IsNextCall, KeepsCall, seen_by}
 use Rattle.lane_notes.proofs.SeenMore.{goes_before}
 use Rattle.lane_notes.specs.Worlds.{WorldOf}
-use Rattle.pass_names.proofs.Passes.{begins_length}
+use Rattle.pass_names.proofs.Passes.{begins_length, begins_trans}
 use Rattle.timer_setting.specs.declared.arming.Arm.{Arm}
 use Rattle.timer_setting.specs.declared.object_call.ObjectReply.{ObjectReply}
 use Rattle.timer_setting.specs.declared.object_call.ObjectCall.{ObjectCall}
@@ -48,6 +48,7 @@ use Rattle.run_history.specs.Fits.{FitsCall}
 use Rattle.run_history.proofs.Kept.{IsKept, Stops}
 use Rattle.timer_setting.specs.declared.arming.Wanted.{Wanted}
 use Rattle.run_history.specs.Witnesses as witnesses
+use Rattle.run_history.specs.Witnesses.{turns_along}
 use Rattle.call_laws.proofs.Armed.{IsArmedSo, IsLike, start_true, TimerPart}
 use Rattle.call_laws.proofs.CallKept.{clock_left, reading_goes_on}
 use Rattle.call_laws.proofs.PartKept.{keeps_part}
@@ -149,6 +150,16 @@ module _ {s : Script} {x : WorldOf} {l : LaneOf} (m : LaneOf) {call : Call} (nex
   module _ {e : Ending} (follows : Follows m.pass e) (joined : IsJoined s e) where
     worked : RunGoesOn w.seen e
     worked = goes_before turn.ends.looks.seen follows.timers
+
+    pub begun_behind : turn_place ≤ length begun.seen
+    begun_behind = omega (arith, opens.1.made.below.0)
+
+    pub begun_there : stamp + stamp < turns_along (witness_of s e) (length begun.seen) timer
+    begun_there = omega (arith, turn_begun turn joined (goes_before (begins_trans behind k.part.1.enters.seen) worked))
+
+    -- law: behind the rise that begins it the call has its turn
+    abbrev pub has_begun : HasBegun (sight_of (witness_of s e) turn_place (length m.pass.timers.known.seen)) timer stamp
+    has_begun = record { begun = length begun.seen; from = begun_behind; turn = begun_there }
 
     timer_now : witnesses.timer_along (witness_of s e) (length w.seen) timer ≡ timer_then x.timers.about w.seen timer
     timer_now = timer_stays next.world.timers joined w.seen worked timer

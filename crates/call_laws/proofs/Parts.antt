@@ -325,6 +325,7 @@ pub record IsClaimed (s : Script) (base : ℕ) (c : ClaimNumbers) (reading : Clo
   pub there : c.base ≡ base
   pub some : 0 < c.number
   pub more : count_owned (TimersList c.timer) k.seen < count_owned (TimersList c.timer) v.seen
+  pub within : c.number ≤ count_owned (TimersList c.timer) v.seen
 
 -- the pushes and pops that the handler's pass of the queue has seen
 abbrev pub turns_of : QueuedFiring → List Turn

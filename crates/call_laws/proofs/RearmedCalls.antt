@@ -38,7 +38,7 @@ use Rattle.lane_notes.specs.Called.{accept_told, CalledThen, lane_caller, CallsO
 use Rattle.lane_notes.proofs.Kept.{IsNextCall, KeepsCall, Follows, seen_by}
 use Rattle.lane_notes.specs.Worlds.{WorldOf}
 use Rattle.call_laws.proofs.Sights.{keeps_full, keeps_same}
-use Rattle.std.proofs.Common.{false, arith}
+use Rattle.std.proofs.Common.{false, arith, le_refl}
 use Rattle.ktime.specs.declared.mode.Mode.TheVariants as modes
 use Rattle.timer_objects.specs.Calls.{wanted_by}
 use Rattle.record_text.specs.declared.record.Armed.{Armed}
@@ -61,7 +61,7 @@ use Rattle.pass_names.proofs.Passes.{begins_length, begins_refl}
 use Rattle.call_laws.proofs.CallKept.{clock_left}
 use Rattle.call_laws.proofs.Parts.{noted_at}
 use Rattle.lane_notes.proofs.Declared.{declared_base}
-use Rattle.call_laws.proofs.ObjectMade.{keeps_made, made_unpushed, receipts, start_is, stop_first, stop_last, turn_found, turn_place}
+use Rattle.call_laws.proofs.ObjectMade.{has_begun, keeps_made, made_unpushed, receipts, start_is, stop_first, stop_last, turn_found, turn_place}
 use Rattle.call_laws.proofs.Rearmed.{like_restart, rearm_part, RearmPart, wanted_timely}
 use Rattle.script_text.specs.declared.script.Call.{Call}
 use Rattle.timer_objects.specs.declared.wanting.Rearming.{Rearming}
@@ -100,10 +100,11 @@ module _ {s : Script} {x : WorldOf} {l : LaneOf} (m : LaneOf) {call : Call}
   rearmed {e = e} follows joined = record {
     ns = part.ns;
     timely = part.timely;
+    turn = has_begun m next made.enters made.turn part.does (begins_refl made.begun.seen) follows joined;
     arms = arms_wider (sight_of (witness_of s e) (length made.begun.seen) (length made.worked.seen))
-        (sight_of (witness_of s e) (turn_place m next made.enters made.turn part.does (begins_refl made.begun.seen)) (length m.pass.timers.known.seen))
-        (sight_wider (witness_of s e) (turn_found m next made.enters made.turn part.does (begins_refl made.begun.seen))
-        (begins_length made.turn.ends.looks.seen)) s.limit timer modes.Keep part.ns reading.stamp
+        (sight_of (witness_of s e) (length made.begun.seen) (length m.pass.timers.known.seen))
+        (sight_wider (witness_of s e) (le_refl (length made.begun.seen)) (begins_length made.turn.ends.looks.seen))
+        s.limit timer modes.Keep part.ns reading.stamp
         (base_of (kind_of s timer)) (arm_noted made.arm) part.does.start (subst (λ b. Arms (sight_of (witness_of s e) (length made.begun.seen) (length made.worked.seen)) s.limit timer
         modes.Keep part.ns reading.stamp b (arm_noted made.arm) part.does.start) (declared_base s x timer next.world)
         (part.does.arms e joined (goes_before made.turn.ends.looks.seen follows.timers)));

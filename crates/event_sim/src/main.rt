@@ -1,12 +1,11 @@
-//! A simulator of events on one thread: a sensor is read at every interval, until a fault silences it.
+//! A simulator of events on one thread: a sensor is read at every interval, until at a time of day a fault silences it.
 #![tactic(auto)]
 
 ghost use Rattle.std.specs.Prelude.{◌≡◌, IfSome, length, true};
 ghost use Rattle.seq_timer.specs.Tables.{is_due_on};
 ghost use Rattle.timer_core.specs.Kept.{timer_in};
 
-use ktime::{ClockId, Mode, Reading};
-use seq_timer::Context;
+use ktime::{Clock, ClockId, Mode, Reading};
 use std::alloc::{AllocError, Global};
 use std::io;
 use timer_core::{ClaimAnswer, Core};
@@ -21,8 +20,10 @@ const FAULT: u32 = 1;
 /// Nanoseconds between two ticks.
 const INTERVAL: u64 = 250;
 
-/// No clock shows a later time.
-const LATEST: u64 = 1 << 62;
+/// The time of day at the beginning, and at the fault.
+const MORNING: u64 = 10_000;
+
+const NOON: u64 = 10_900;
 
 /// What has happened: whose function ran, by which reading.
 #[derive(Clone, Copy, Debug, PartialEq, Eq)]
@@ -31,32 +32,36 @@ struct Event {
     reading: Reading,
 }
 
-/// Two timers on one base. The two facts hold between all calls.
+/// Two timers on one base, each on its own clock. The two facts hold between all calls.
 #[derive(Drop)]
 struct Sim {
     core: Core<ListQueue>,
+    clock: Clock,
     ghost timers: { length core.timers ≡ 2 },
     ghost bases: { length core.bases ≡ 1 },
 }
 
 impl Sim {
-    /// Starts both timers at time 0.
+    /// Starts both timers in the morning.
     fn make(alloc: Global) -> Result<Sim, AllocError> {
-        let mut core = Core::<ListQueue>::make(alloc, 1, &[ClockId::Monotonic; 2], 1000)?;
-        core.start(SENSOR, Mode::Rel, INTERVAL, 0, Reading::at(0));
-        core.start(FAULT, Mode::Rel, 900, 0, Reading::at(0));
-        Ok(Sim { core })
+        let clocks = [ClockId::Monotonic, ClockId::Realtime];
+        let mut core = Core::<ListQueue>::make(alloc, 1, &clocks, 1000)?;
+        let morning = Reading {
+            real: MORNING,
+            ..Reading::at(0)
+        };
+        core.start(SENSOR, Mode::Rel, INTERVAL, 0, morning);
+        core.start(FAULT, Mode::Abs, NOON, 0, morning);
+        let clock = Clock::at(morning);
+        Ok(Sim { core, clock })
     }
 
-    /// Goes on to the next expiry, and runs the function of its timer. It answers nothing where no timer is armed.
+    /// Sleeps until the next expiry, and runs the function of its timer. It answers nothing where no timer is armed.
     fn step(&mut self) -> Option<Event>
         ensures due { IfSome result (λ event. is_due_on 0 event.reading (timer_in self.old.core event.timer) ≡ true) }
     {
-        let (time, _) = self.core.first(Context::Hard, 0, Reading::at(LATEST))?;
-        if time > LATEST {
-            return None;
-        }
-        let reading = Reading::at(time);
+        let wait = self.core.next_wait(0, self.clock.reading())?;
+        let reading = self.clock.advance(wait).ok()?;
         let ClaimAnswer::Claimed { timer, .. } = self.core.claim_next(0, reading) else {
             return None;
         };

@@ -38,7 +38,7 @@ use Rattle.script_text.proofs.Lists.{All-append}
 use Rattle.script_text.proofs.VersionOne.{version_one_is_hard}
 use Rattle.record_text.proofs.Lists.{All-back, All-front}
 use Rattle.record_text.specs.declared.version.Version.TheVariants as versions
-use Rattle.run_history.specs.Starts.{Arming, SentTo, arming_actions, moves, Sight}
+use Rattle.run_history.specs.Starts.{Arming, SentTo, arming_actions, from_moment, moves, Sight}
 use Rattle.script_text.specs.declared.script.Call.{Call}
 use Rattle.script_text.specs.declared.script.Call.TheVariants as calls
 use Rattle.script_text.specs.declared.script.Callback.TheVariants as callbacks
@@ -174,13 +174,15 @@ module _ (sight : Sight) (s : Script) where
   as_none timer None reading base arm start is = subst AllNone (sym is.1) tt
   as_none timer (Some wanted) reading base arm start is = arms_none timer wanted.ns reading base wanted.mode arm start is
 
+module _ (sight : Sight) (s : Script) where
   anew_made_none : {kind : Kind} {timer : ℕ} {wanted : Option Wanted} {reading : ℕ} {entry : Armed → ObjectEntry} {actions : List Action}
       → MakesAnew sight s.limit kind timer wanted reading entry actions → AllNone actions
   anew_made_none {timer = timer} {wanted = wanted} makes =
       subst AllNone (sym makes.done) (
         tt,
         none-append (cancels timer makes.cancel ++ makes.start) _
-            (none-append (cancels timer makes.cancel) makes.start (cancelled makes.cancel) (as_none _ wanted _ _ makes.arm makes.start makes.arms)) (tt, tt),
+            (none-append (cancels timer makes.cancel) makes.start (cancelled makes.cancel)
+            (as_none (from_moment sight makes.turn.begun) s _ wanted _ _ makes.arm makes.start makes.arms)) (tt, tt),
       )
     where
       cancelled : (cancel : Option (ℕ × ℕ)) → AllNone (cancels timer cancel)
@@ -191,7 +193,11 @@ module _ (sight : Sight) (s : Script) where
       → MakesRearming sight s.limit kind timer reading entry actions
       → AllNone actions
   rearming_made_none makes =
-      subst AllNone (sym makes.done) (tt, none-append makes.start _ (arms_none _ _ _ _ _ makes.arm makes.start makes.arms) (tt, tt))
+      subst AllNone (sym makes.done) (
+        tt,
+        none-append makes.start _
+            (arms_none (from_moment sight makes.turn.begun) s _ _ _ _ _ makes.arm makes.start makes.arms) (tt, tt),
+      )
 
   -- an expiry of an object's timer starts nothing
   trigger_none : (reading : ℕ) (f : Fired) → IsTrigger reading f → AllNone f.body

@@ -42,6 +42,7 @@ module _ (o : Opening) (v : BaseView BaseContent) (knows : KnowsBases o v) (h : 
         × (next_on y (base_seen o v h.base) reading ≡ Some ((timer_seen o v timer).expires, timer))) (sym own)
         (subst (λ (b : BaseContent). running_in x b.content ≡ None) (knows.held h held).1.0 free, first);
     online = λ is. absurd (true≢false (sym is));
+    heir = λ moves. tt;
   }
 
   pub may_claim : MayAppend o v h timer (events.Claim h.base reading)

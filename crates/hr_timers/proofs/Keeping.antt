@@ -59,18 +59,23 @@ pub keeps_freed : (o : Opening) (h g : HeldContent BaseContent) (t : ℕ) (event
 keeps_freed o h g t event v w x told free =
     keeps_trans v w x (keeps_appended o h t event v w told) free.steady.shifts (ap (λ (y : BaseView BaseContent). y.id) told.rest)
 
--- a timer on its way may be sent on by who carries it, from a base to one of a lower number
+-- a timer on its way may be sent on by who carries it, from a base that is off line to its heir
 pub may_send_on : (o : Opening) (v : BaseView BaseContent) (h : HeldContent BaseContent) (t to : ℕ) → t < length o.timers → v.held ≡ Some h
     → v.carry ≡ Some t → (rows.timer_seen o v t).moving ≡ true → (rows.timer_seen o v t).base ≡ h.base → (rows.timer_seen o v t).running ≡ None
-    → to < h.base → h.base < o.bases → o.bases ≤ 64 → 0 < (rows.timer_seen o v t).terms.reach → rows.MayAppend o v h t (events.Out to)
-may_send_on o v h t to inside held carry moves here idle down within few reach = record {
+    → to < h.base → h.base < o.bases → o.bases ≤ 64 → 0 < (rows.timer_seen o v t).terms.reach
+    → (rows.base_seen o v h.base).standing.heir ≡ Some to → rows.MayAppend o v h t (events.Out to)
+may_send_on o v h t to inside held carry moves here idle down within few reach off = record {
   may = record {
     held = held;
     allowed = record {
       within = inside;
       needs = (ap is_some idle, (λ same. omega (arith, same, here, down)), sends_down (rows.timer_seen o v t) to moves (omega (arith, here, down)) (omega (arith, down, within, few)) reach);
       reply = refl;
-      base = record { needs = omega (arith, down, within); online = λ is. absurd (true≢false (sym is)) };
+      base = record {
+        needs = omega (arith, down, within);
+        online = λ is. absurd (true≢false (sym is));
+        heir = λ moving. subst (λ q. (rows.base_seen o v q).standing.heir ≡ Some to) (sym here) off;
+      };
     };
     base = here;
     carries = λ m. carry;

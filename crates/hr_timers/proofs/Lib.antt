@@ -16,6 +16,7 @@ pub mod Last
 pub mod Moments
 pub mod Ends
 pub mod Answered
+pub mod Bounded
 pub mod Claims
 pub mod Hindered
 pub mod ExpiryTurns

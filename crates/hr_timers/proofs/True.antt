@@ -25,6 +25,7 @@ true_of o v fresh is free own =
       shifts = λ last b n inside. knows.all_shifts last b n inside ∙ ap (λ k. one_if (within n k)) (stamp_shifts o v b);
       still = λ last t inside. not_true (rows.timer_seen o v t).moving (λ moves. carries_none (knows.all_carried last t inside moves));
       counters = knows.counters;
+      rings = knows.rings;
     }
   where
     carries_none : {t : ℕ} → v.carry ≡ Some t → ⊥

@@ -5,11 +5,14 @@ use Rattle.pass_names.specs.Counts.{count, one_if}
 use Rattle.pass_names.specs.Names.{IsLast}
 use Rattle.pass_names.specs.Passes.{Begins, is_place, places, within}
 use Rattle.pass_names.specs.SharedHistory as shared
+use Rattle.seq_timer.specs.declared.context.Declared.{Declared}
+use Rattle.seq_timer.specs.declared.context.Terms.{Terms}
 use Rattle.seq_timer.specs.declared.system.SystemEntry.{SystemEntry}
 use Rattle.seq_timer.specs.Histories as seq
 use Rattle.seq_timer.specs.Steps.{Timer, most_entries}
 use Rattle.seq_timer.specs.Tables.{timer_at}
-use Rattle.seq_timer.specs.Systems.{BaseContent, AreSystemSteps, IsOn, entries_of, first_system, rises_of, shifts_of, system_after}
+use Rattle.seq_timer.specs.Systems.{BaseContent, AreSystemSteps, IsOn, IsSystemHistory, entries_of, first_system, openings, rises_of, shifts_of, system_after}
+use Rattle.base_row.specs.Rings.{counters_in, KeepsRings}
 use Rattle.base_row.specs.declared.view.Claimed.{Claimed}
 use Rattle.base_row.specs.declared.view.Opening.{Opening}
 use Rattle.base_row.specs.declared.view.BaseView.{BaseView}
@@ -49,6 +52,13 @@ limit_of o t = (timer_at o.timers t).terms.limit
 abbrev pub IsEvacuable : Opening → Type 0
 IsEvacuable o = (t : ℕ) → t < length o.timers → 0 < (timer_at o.timers t).terms.reach
 
+-- these timers were made of declarations on the same terms, and this is a history of them
+pub record IsDeclaredHistory (o : Opening) (x : List SystemEntry) : Type 0 where
+  pub declareds : List Declared
+  pub terms : Terms
+  pub opened : o.timers ≡ openings declareds terms
+  pub history : IsSystemHistory o.bases declareds terms x
+
 -- a claim as it stands among a pass's
 abbrev pub claimed_as : ClaimNumbers → Claimed
 claimed_as c = record { timer = c.timer; generation = c.generation; base = c.base }
@@ -67,7 +77,7 @@ HasEachShift o k = (b n : ℕ) → b < o.bases
     → count (is_place (base_place (length o.timers) b) n) k.mine ≡ one_if (within n (length (shifts_of b k.seen)))
 
 -- what is known is true: a history of all timers was seen, which has few entries of a timer past its limit, and whose claims run; and the last
--- pass has made each entry, and no timer is on the move; and a counter that isn't there never rose
+-- pass has made each entry, and no timer is on the move; a counter that isn't there never rose, and each ring was in its bounds at each moment
 pub record KnowsTimers (o : Opening) (k : KnownOfTimers) : Type 0 where
   pub history : AreSystemSteps o.bases (length o.timers) (first_system o.timers) k.seen
   pub few : (t : ℕ) → (timer_then o k.seen t).stamp ≤ most_entries (timer_at o.timers t).terms
@@ -77,7 +87,8 @@ pub record KnowsTimers (o : Opening) (k : KnownOfTimers) : Type 0 where
   pub whole : IsLast k.id → HasEachPlace o k
   pub shifts : IsLast k.id → HasEachShift o k
   pub still : IsLast k.id → (t : ℕ) → t < length o.timers → (timer_then o k.seen t).moving ≡ false
-  pub counters : (n : ℕ) → o.counters ≤ n → rises_of n k.seen ≡ 0
+  pub counters : (n : ℕ) → counters_in o ≤ n → rises_of n k.seen ≡ 0
+  pub rings : KeepsRings o k.seen
 
 -- a pass of these timers, and what it knows is true
 pub record IsPassOf (timers : rows.BaseRowOf) (p : PassOf) : Type 0 where

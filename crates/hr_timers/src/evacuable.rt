@@ -9,7 +9,7 @@ use crate::answer::{OfflineAnswer, OnlineAnswer};
 use crate::evacuating;
 use crate::timers::Timers;
 use crate::tokens::Pass;
-use base_row::{ReceiptSink, Unlogged};
+use base_row::{ReceiptSink, Unlogged, most_counters};
 use ktime::Reading;
 use seq_timer::{Declared, Terms};
 use std::alloc::{AllocError, Global};
@@ -36,7 +36,8 @@ impl Timers {
             limit: max_events,
             reach,
         };
-        let made = Timers::make_counting(alloc, bases, timers, terms, 0)?;
+        let counters = most_counters(bases, timers.len());
+        let made = Timers::make_counting(alloc, bases, timers, terms, counters)?;
         Ok(made)
     }
 

@@ -2,7 +2,7 @@
 ghost use Rattle.std.specs.Prelude.{◌≡◌, ◌<◌, ◌≤◌, ◌+◌, ℕ, List, length, Some, None, [], ◌∷◌, true};
 ghost use Rattle.seq_timer.specs.Steps.{Needs, after};
 ghost use Rattle.seq_timer.specs.declared.event.EventBy.TheVariants.{Out, Start};
-ghost use Rattle.base_row.specs.Calls.{IsBasePassOf, known_of, timer_seen};
+ghost use Rattle.base_row.specs.Calls.{IsBasePassOf, base_seen, known_of, timer_seen};
 ghost use Rattle.base_row.specs.Plays.{Steady};
 ghost use Rattle.hr_timers.specs.Known.{AddsBehind, HoldsTimer, IsAtRest, LocksGoOnIn, OnlySeesMore};
 ghost use Rattle.hr_timers.specs.Calls.{entry_by};
@@ -152,7 +152,7 @@ fn bring<R: Wait, S: ReceiptSink>(
     }
 }
 
-/// Sends a timer on that the pass carries, from the held base to another of a lower number, and lets the base go.
+/// Sends a timer on that the pass carries, from the held base, which is off line, to its heir, and lets the base go.
 fn send_on<S: ReceiptSink>(
     row: &BaseRow,
     pass: &mut Pass,
@@ -168,6 +168,7 @@ fn send_on<S: ReceiptSink>(
     requires state { state.now ≡ timer_seen row.now.about pass.old.knows timer }
     requires moving { (state.now.moving ≡ true) × (state.now.base ≡ held.base) × (state.now.running ≡ None) }
     requires down { (to < held.base) × (0 < state.now.terms.reach) }
+    requires off { (base_seen row.now.about pass.old.knows held.base).standing.heir ≡ Some to }
     requires room { 0 < S.room sink.old }
     ensures row { IsBasePassOf row.now pass.new }
     ensures carries { (pass.new.knows.held ≡ None) × (pass.new.knows.carry ≡ Some timer) }

@@ -15,7 +15,7 @@ ghost use Rattle.hr_timers.specs.declared.answer.NowAnswer.TheVariants as nows;
 use crate::answer::{ClaimAnswer, NowAnswer, StartAnswer};
 use crate::tokens::{Claim, Pass};
 use crate::trying_now;
-use base_row::{BaseRow, Unlogged};
+use base_row::{BaseRow, Unlogged, most_counters};
 use ktime::{ClockId, Mode, Reading};
 use seq_timer::{
     Asked, CancelAnswer, Context, Declared, Finished, ForwardAnswer, Peek, Terms, all_hard,
@@ -42,8 +42,8 @@ impl Model for Timers {
 }
 
 impl Timers {
-    /// Timers that are declared on these clocks, on so many bases, with the first pass. At `max_events` entries a timer takes no start, no
-    /// forward and no restart any more. It alone takes memory, for all calls.
+    /// Timers that are declared on these clocks, on so many bases, with as many counters as there may be, and the first pass. At `max_events` entries a timer
+    /// takes no start, no forward and no restart any more. It alone takes memory, for all calls.
     pub fn make(
         alloc: Global,
         bases: u32,
@@ -75,7 +75,8 @@ impl Timers {
         ensures first { IfOk result (λ r. r.1.known ≡ first_known) }
         ensures locks { IfOk result (λ r. (r.1.takes ≡ []) × (r.1.met ≡ replicate bases 0)) }
     {
-        Timers::make_counting(alloc, bases, timers, Terms::limited(max_events), 0)
+        let counters = most_counters(bases, timers.len());
+        Timers::make_counting(alloc, bases, timers, Terms::limited(max_events), counters)
     }
 
     /// Arms a timer on a base, with no slack (`hrtimer_start`).
@@ -309,7 +310,7 @@ impl Timers {
         row.close(inner);
     }
 
-    /// The bases on which these timers stand, for the same passes.
+    /// The bases on which these timers stand, for the passes that `lend` gives.
     pub fn base_row(&self) -> &BaseRow
         ensures { result.now ≡ self.now }
     {

@@ -34,6 +34,7 @@ pub fn read_all<S: Source>(alloc: Global, source: &mut S) -> Result<Vec<u8>, Rea
     ensures read { IfOk result (λ bytes. IsRead (S.left source.old) (S.left source.new) bytes.items) }
     ensures ok { OnOk result (S.faults source.new ≡ S.faults source.old) }
     ensures failed { IsErrOf result ReadFault.Failed → Rose (S.faults source.old) (S.faults source.new) }
+    ensures given_up { IsErrOf result ReadFault.OutOfMemory → S.faults source.new ≡ S.faults source.old }
     ensures short { IsErrOf result ReadFault.Failed → TakesAtMost (S.left source.old) (S.left source.new) most_bytes }
     ensures later { S.faults source.old ≤ S.faults source.new }
 {

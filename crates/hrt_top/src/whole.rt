@@ -1,5 +1,5 @@
 //! All that the program does, over the streams that it is handed.
-ghost use Rattle.std.specs.Prelude.{◌≡◌, ◌≤◌, ◌⊎◌, ℕ, [], Some, None, IfSome};
+ghost use Rattle.std.specs.Prelude.{◌≡◌, ◌<◌, ◌≤◌, ◌⊎◌, ℕ, [], Some, None, IfSome};
 ghost use Rattle.byte_streams.specs.Streams.{Rose, GrowsBy};
 ghost use Rattle.hrt_top.specs.Transfer.{TakesAtMost, most_bytes};
 ghost use Rattle.hrt_top.specs.Command.{request_in};
@@ -34,8 +34,10 @@ pub fn top<R: Threads + Wait + Sync + AllocGlobal, S: Source, K: Sink, G: Gate>(
     ensures refused { result ≡ Status.Refused → HasRefused (S.left source.old) (S.left source.new) (K.taken sink.old) (K.taken sink.new) }
     ensures calm { (result ≡ Status.Ok) ⊎ (result ≡ Status.Refused) → (S.faults source.new ≡ S.faults source.old) × (K.faults sink.new ≡ K.faults sink.old) }
     ensures read_fault { result ≡ Status.ReadFault → Rose (S.faults source.old) (S.faults source.new) }
+    ensures read_told { S.faults source.old < S.faults source.new → result ≡ Status.ReadFault }
     ensures read_few { result ≡ Status.ReadFault → TakesAtMost (S.left source.old) (S.left source.new) most_bytes }
     ensures write_fault { result ≡ Status.WriteFault → Rose (K.faults sink.old) (K.faults sink.new) }
+    ensures write_told { K.faults sink.old < K.faults sink.new → result ≡ Status.WriteFault }
     ensures prefix { request_in words.now ≡ Some Request.Run → result ≡ Status.WriteFault → HasStopped (S.left source.old) (S.left source.new) (K.taken sink.old) (K.taken sink.new) }
     ensures unwritten { (result ≡ Status.ReadFault) ⊎ (result ≡ Status.OutOfMemory) → sink.new ≡ sink.old }
     ensures complete { request_in words.now ≡ Some Request.Run → (Rose (S.faults source.old) (S.faults source.new) → ⊥) → (Rose (K.faults sink.old) (K.faults sink.new) → ⊥) → IfSome (S.left source.old) (λ bytes. MustAnswer bytes result) }
@@ -69,8 +71,10 @@ fn run_script<R: Threads + Wait + Sync + AllocGlobal, S: Source, K: Sink, G: Gat
     ensures refused { result ≡ Status.Refused → HasRefused (S.left source.old) (S.left source.new) (K.taken sink.old) (K.taken sink.new) }
     ensures calm { (result ≡ Status.Ok) ⊎ (result ≡ Status.Refused) → (S.faults source.new ≡ S.faults source.old) × (K.faults sink.new ≡ K.faults sink.old) }
     ensures read_fault { result ≡ Status.ReadFault → Rose (S.faults source.old) (S.faults source.new) }
+    ensures read_told { S.faults source.old < S.faults source.new → result ≡ Status.ReadFault }
     ensures read_few { result ≡ Status.ReadFault → TakesAtMost (S.left source.old) (S.left source.new) most_bytes }
     ensures write_fault { result ≡ Status.WriteFault → Rose (K.faults sink.old) (K.faults sink.new) }
+    ensures write_told { K.faults sink.old < K.faults sink.new → result ≡ Status.WriteFault }
     ensures prefix { result ≡ Status.WriteFault → HasStopped (S.left source.old) (S.left source.new) (K.taken sink.old) (K.taken sink.new) }
     ensures unwritten { (result ≡ Status.ReadFault) ⊎ (result ≡ Status.OutOfMemory) → sink.new ≡ sink.old }
     ensures complete { (Rose (S.faults source.old) (S.faults source.new) → ⊥) → (Rose (K.faults sink.old) (K.faults sink.new) → ⊥) → IfSome (S.left source.old) (λ bytes. MustAnswer bytes result) }
@@ -111,6 +115,7 @@ fn make_summary<R: Threads + Wait + Sync + AllocGlobal, K: Sink, G: Gate>(
     ensures ok { result ≡ Status.Ok → HasSummed seed lanes calls (K.taken sink.old) (K.taken sink.new) }
     ensures calm { result ≡ Status.Ok → K.faults sink.new ≡ K.faults sink.old }
     ensures write_fault { result ≡ Status.WriteFault → Rose (K.faults sink.old) (K.faults sink.new) }
+    ensures write_told { K.faults sink.old < K.faults sink.new → result ≡ Status.WriteFault }
     ensures prefix { result ≡ Status.WriteFault → HasSummedInPart seed lanes calls (K.taken sink.old) (K.taken sink.new) }
     ensures unwritten { result ≡ Status.OutOfMemory → sink.new ≡ sink.old }
     ensures sink_later { K.faults sink.old ≤ K.faults sink.new }

@@ -1,6 +1,5 @@
--- Lemmas about handles, and about the check of a trace.
+-- Lemmas about handles.
 pub mod Boxes
-pub mod Checked
 pub mod Handles
 pub mod Returned
 pub mod Words

@@ -1,5 +1,5 @@
 -- What each call of C answers, and what it leaves.
-use Rattle.std.specs.Prelude.{ℕ, ℤ, ◌≡◌, ◌+◌, ◌<◌, ◌≤◌, ◌⊎◌, Bool, not, ◌&&◌, map, nat_le, IsSome, List, [], ◌∷◌, Option, Some, None, Result, Ok, Err, length, nat_eq, nat_lt, is_some, unwrap_or, if◌then◌else◌}
+use Rattle.std.specs.Prelude.{ℕ, ℤ, ◌≡◌, ◌+◌, ◌^◌, ◌<◌, ◌≤◌, ◌⊎◌, Bool, not, ◌&&◌, map, nat_le, IsSome, List, [], ◌∷◌, Option, Some, None, Result, Ok, Err, length, nat_eq, nat_lt, is_some, unwrap_or, if◌then◌else◌}
 use Rattle.ktime.specs.declared.mode.Mode.{Mode}
 use Rattle.ktime.specs.Readings.{ClockReading}
 use Rattle.seq_timer.specs.Events.{Asked}
@@ -18,10 +18,9 @@ use Rattle.seq_timer.specs.declared.context.Declared.{Declared}
 use Rattle.ktime.specs.declared.clock_id.ClockId.TheVariants as clocks
 use Rattle.seq_timer.specs.declared.event.EventBy.TheVariants as events
 use Rattle.timer_core.specs.Answers.{started_as}
-use Rattle.timer_core.specs.declared.answer.ClaimAnswer.{ClaimAnswer}
-use Rattle.timer_core.specs.declared.answer.ClaimAnswer.TheVariants as claims
 use Rattle.timer_core.specs.declared.answer.StartAnswer.{StartAnswer}
 use Rattle.timer_core.specs.declared.answer.StartAnswer.TheVariants as starts
+use Rattle.timer_core.specs.Waits.{IsNextWait}
 use Rattle.timer_core.specs.Kept.{Kept, IsBelowLimit, IsSpent, after_events, content_at, opened, timer_in}
 use Rattle.hulayban_c.specs.Numbers.{clock_number, clock_by_number, context_by_number, mode_by_number, nothing, reading_by_times}
 use Rattle.hulayban_c.specs.declared.codes.TheConstants.{NO_TIMERS, DONE, SPENT, ARMED, RUNNING, BUSY, CLAIMED, CANCELLED, AGAIN, BAD_TIMER, BAD_BASE, BAD_MODE, BAD_TIME, BAD_CLOCK, BAD_CONTEXT, BAD_COUNT, BAD_LIMIT, IN_USE, NO_MEMORY, NOT_RUNNING}
@@ -57,11 +56,19 @@ claim_asks k context base now = if nat_lt base (length k.bases) then claim_asks_
 abbrev pub fault_inside : Kept → ℕ → Option ℤ
 fault_inside k timer = if nat_lt timer (length k.timers) then (if is_some (timer_in k timer).running then None else Some NOT_RUNNING) else Some BAD_TIMER
 
+-- a reading that is asked for
+abbrev pub reading_asked : Option ClockReading → Result ClockReading ℤ
+reading_asked None = Err BAD_TIME
+reading_asked (Some reading) = Ok reading
+
+-- the reading of a look at a base, or the number for its first bad argument
+abbrev pub next_asks : Kept → ℕ → Time → Result ClockReading ℤ
+next_asks k base now = if nat_lt base (length k.bases) then reading_asked (reading_by_times now) else Err BAD_BASE
+
 -- the reading of a forward
 abbrev pub forward_asks_at : Option ℤ → Option ClockReading → Result ClockReading ℤ
 forward_asks_at (Some code) reading = Err code
-forward_asks_at None None = Err BAD_TIME
-forward_asks_at None (Some reading) = Ok reading
+forward_asks_at None reading = reading_asked reading
 
 -- the same, or the number for its first bad argument
 abbrev pub forward_asks : Kept → ℕ → Time → Result ClockReading ℤ
@@ -88,8 +95,8 @@ timer_declared d = record { clock = unwrap_or (clock_by_number d.clock) clocks.M
 -- the number for the first bad argument of a new handle
 abbrev pub fault_new : ℕ → List Declares → ℕ → Option ℤ
 fault_new bases declares max_events =
-    if nat_lt 0 bases && nat_le bases 8 then (
-    if nat_le (length declares) 256 then (
+    if nat_lt 0 bases && nat_le bases 64 then (
+    if nat_lt (length declares) (2 ^ 32) then (
     if nat_lt 0 max_events && nat_le max_events greatest_limit then first_fault declares
     else Some BAD_LIMIT) else Some BAD_COUNT) else Some BAD_BASE
 
@@ -147,11 +154,17 @@ cancel_tells id (cancels.Idle stamp) = (DONE, of_count id stamp)
 cancel_tells id (cancels.Cancelled generation number) = (CANCELLED, of_generation id generation number)
 cancel_tells id (cancels.Running generation stamp) = (RUNNING, of_generation id generation stamp)
 
--- what a claim tells
-abbrev pub claim_tells : ClaimAnswer → ℤ × Answer
-claim_tells (claims.Claimed id generation number) = (CLAIMED, of_generation id generation number)
-claim_tells claims.NoneDue = (DONE, nothing)
-claim_tells (claims.BaseBusy id generation) = (BUSY, of_generation id generation 0)
+-- what a claim tells of the timer that it claims: how it was armed, and the number of the claim's entry
+abbrev pub claimed_tells : ℕ → Timer → Answer
+claimed_tells id t = record nothing {
+  timer = id;
+  base = t.base;
+  clock = clock_number t.clock;
+  generation = unwrap_or t.armed 0;
+  number = t.stamp + 1;
+  soft = t.soft;
+  expires = t.expires;
+}
 
 -- what a forward tells
 abbrev pub forward_tells : ℕ → ForwardAnswer → ℤ × Answer
@@ -164,6 +177,11 @@ abbrev pub finish_tells : ℕ → ℕ → Rearmed → ℤ × Answer
 finish_tells id number rearmings.No = (DONE, of_count id number)
 finish_tells id number (rearmings.Again generation) = (AGAIN, of_generation id generation number)
 finish_tells id number (rearmings.Spent stamp) = (SPENT, of_count id number)
+
+-- how long a base may be left alone
+abbrev pub next_tells : Option ℕ → ℤ × Answer
+next_tells None = (DONE, nothing)
+next_tells (Some wait) = (ARMED, record nothing { wait = wait })
 
 -- how a timer is kept
 abbrev pub peek_tells : ℕ → Timer → Answer
@@ -204,12 +222,12 @@ pub record AnswersCancel (old : Kept) (timer : ℕ) (told : Told) (new : Kept) :
 pub record AnswersClaim (old : Kept) (context base : ℕ) (now : Time) (told : Told) (new : Kept) : Type 0 where
   pub bad : (code : ℤ) → claim_asks old context base now ≡ Err code → (told ≡ Err code) × (new ≡ old)
   pub busy : (c : Context) (reading : ClockReading) (t g : ℕ) → claim_asks old context base now ≡ Ok (c, reading) → running_in c (content_at old base) ≡ Some (t, g)
-      → (told ≡ Ok (claim_tells (claims.BaseBusy t g))) × (new ≡ old)
+      → (told ≡ Ok (BUSY, of_generation t g 0)) × (new ≡ old)
   pub none : (c : Context) (reading : ClockReading) → claim_asks old context base now ≡ Ok (c, reading) → running_in c (content_at old base) ≡ None
-      → first_due c (timer_in old) (content_at old base) reading ≡ None → (told ≡ Ok (claim_tells claims.NoneDue)) × (new ≡ old)
+      → first_due c (timer_in old) (content_at old base) reading ≡ None → (told ≡ Ok (DONE, nothing)) × (new ≡ old)
   pub claimed : (c : Context) (reading : ClockReading) (e t : ℕ) → claim_asks old context base now ≡ Ok (c, reading) → running_in c (content_at old base) ≡ None
       → first_due c (timer_in old) (content_at old base) reading ≡ Some (e, t)
-      → (told ≡ Ok (claim_tells (claims.Claimed t (unwrap_or (timer_in old t).armed 0) ((timer_in old t).stamp + 1)))) × (new ≡ after_events old t (events.Claim base reading ∷ []))
+      → (told ≡ Ok (CLAIMED, claimed_tells t (timer_in old t))) × (new ≡ after_events old t (events.Claim base reading ∷ []))
 
 -- a forward
 pub record AnswersForward (old : Kept) (timer : ℕ) (now : Time) (interval : ℕ) (told : Told) (new : Kept) : Type 0 where
@@ -227,6 +245,12 @@ pub record AnswersFinish (old : Kept) (timer restart : ℕ) (told : Told) (new :
   pub finished : fault_inside old timer ≡ None
       → (told ≡ Ok (finish_tells timer ((timer_in old timer).stamp + 1) (rearmed_by (timer_in old timer) (not (nat_eq restart 0)))))
       × (new ≡ after_events old timer (events.Finish (not (nat_eq restart 0)) ∷ []))
+
+-- a look at a base: how long it may be left alone
+pub record AnswersNext (old : Kept) (base : ℕ) (now : Time) (told : Told) (new : Kept) : Type 0 where
+  pub bad : (code : ℤ) → next_asks old base now ≡ Err code → (told ≡ Err code) × (new ≡ old)
+  pub next : (reading : ClockReading) → next_asks old base now ≡ Ok reading
+      → ((wait : Option ℕ) × (told ≡ Ok (next_tells wait)) × IsNextWait old base reading wait) × (new ≡ old)
 
 -- a look at a timer
 pub record AnswersPeek (old : Kept) (timer : ℕ) (told : Told) (new : Kept) : Type 0 where

@@ -1,5 +1,4 @@
 -- What contracts cite.
 pub mod Calls
-pub mod Checks
 pub mod Handles
 pub mod Numbers

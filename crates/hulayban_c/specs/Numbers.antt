@@ -35,4 +35,4 @@ reading_by_times t = if nat_lt latest t.mono || (nat_lt latest t.real || nat_lt 
 
 -- an answer that says nothing
 abbrev pub nothing : Answer
-nothing = record { timer = 0; base = 0; clock = 0; armed = 0; running = 0; moved = 0; generation = 0; number = 0; soft = 0; expires = 0; count = 0 }
+nothing = record { timer = 0; base = 0; clock = 0; armed = 0; running = 0; moved = 0; generation = 0; number = 0; soft = 0; expires = 0; count = 0; wait = 0 }

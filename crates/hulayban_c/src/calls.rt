@@ -1,16 +1,21 @@
 //! The calls of C on all timers: each tests its arguments, makes the call, and tells its number and its answer.
 ghost use Rattle.std.specs.Prelude.{◌≡◌, ◌<◌, IfOk, IfNone, IsSome, length};
 ghost use Rattle.timer_core.specs.Kept.{timer_in};
-ghost use Rattle.hulayban_c.specs.Calls.{AnswersCancel, AnswersClaim, AnswersFinish, AnswersForward, AnswersPeek, AnswersStart, start_asks, claim_asks, fault_inside, forward_asks};
+ghost use Rattle.hulayban_c.specs.Numbers.{reading_by_times};
+ghost use Rattle.hulayban_c.specs.Calls.{AnswersCancel, AnswersClaim, AnswersFinish, AnswersForward, AnswersNext, AnswersPeek, AnswersStart, start_asks, claim_asks, fault_inside, forward_asks, next_asks, reading_asked};
 
-use crate::codes::{BAD_BASE, BAD_CONTEXT, BAD_MODE, BAD_TIME, BAD_TIMER, DONE, NOT_RUNNING};
-use crate::crossing::{Answer, Time, context_by_number, mode_by_number, reading_by_times};
+use crate::codes::{
+    BAD_BASE, BAD_CONTEXT, BAD_MODE, BAD_TIME, BAD_TIMER, BUSY, CLAIMED, DONE, NOT_RUNNING,
+};
+use crate::crossing::{Answer, NOTHING, Time, context_by_number, mode_by_number, reading_by_times};
 use crate::home::Home;
 use crate::told::{
-    cancel_tells, claim_tells, finish_tells, forward_tells, peek_tells, start_tells,
+    cancel_tells, claimed_tells, finish_tells, forward_tells, next_tells, of_generation,
+    peek_tells, start_tells,
 };
 use ktime::Reading;
 use seq_timer::{Asked, Context};
+use timer_core::ClaimAnswer;
 
 impl Home {
     /// Tests what a start asks for.
@@ -100,8 +105,39 @@ impl Home {
         ensures { AnswersClaim self.old context base now.now result self.new }
     {
         let (context, reading) = self.claim_asks(context, base, now)?;
-        let answer = self.core.claim_in(context, base, reading);
-        Ok(claim_tells(answer))
+        match self.core.claim_in(context, base, reading) {
+            ClaimAnswer::Claimed {
+                timer,
+                generation,
+                number,
+            } => {
+                let state = self.core.state(timer);
+                Ok((CLAIMED, claimed_tells(timer, generation, number, &state)))
+            }
+            ClaimAnswer::NoneDue => Ok((DONE, NOTHING)),
+            ClaimAnswer::BaseBusy { timer, generation } => {
+                Ok((BUSY, of_generation(timer, generation, 0)))
+            }
+        }
+    }
+
+    /// Tests what a look at a base asks for.
+    fn next_asks(&self, base: u32, now: &Time) -> Result<Reading, i32>
+        ensures asked { result ≡ next_asks self.now base now.now }
+        ensures within { IfOk result (λ a. base < length self.now.bases) }
+    {
+        if base >= self.bases {
+            return Err(BAD_BASE);
+        }
+        reading_asked(now)
+    }
+
+    /// How long a base may be left alone.
+    pub fn next(&mut self, base: u32, now: &Time) -> Result<(i32, Answer), i32>
+        ensures { AnswersNext self.old base now.now result self.new }
+    {
+        let reading = self.next_asks(base, now)?;
+        Ok(next_tells(self.core.next_wait(base, reading)))
     }
 
     /// Tests whether the function of a timer runs.
@@ -126,10 +162,7 @@ impl Home {
         if let Some(code) = self.fault_inside(timer) {
             return Err(code);
         }
-        match reading_by_times(now) {
-            Some(reading) => Ok(reading),
-            None => Err(BAD_TIME),
-        }
+        reading_asked(now)
     }
 
     /// Moves the expiry of a timer whose function runs.
@@ -160,5 +193,15 @@ impl Home {
             return Err(BAD_TIMER);
         }
         Ok((DONE, peek_tells(timer, &self.core.state(timer))))
+    }
+}
+
+/// The reading of these times, if none is too late.
+fn reading_asked(now: &Time) -> Result<Reading, i32>
+    ensures { result ≡ reading_asked (reading_by_times now.now) }
+{
+    match reading_by_times(now) {
+        Some(reading) => Ok(reading),
+        None => Err(BAD_TIME),
     }
 }

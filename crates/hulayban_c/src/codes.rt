@@ -1,9 +1,10 @@
 //! The numbers that calls answer. `include/hrt.h` has them under the same names with `HRT_` before each.
-/// A call was made. A cancel found the timer neither armed nor running; a claim found none that is due; a finish didn't arm it again.
+/// A call was made. A cancel found the timer neither armed nor running; a claim found none that may run now; a finish didn't arm it again; on a
+/// base no timer is armed.
 pub const DONE: i32 = 0;
 /// The limit on entries was reached: nothing has changed, but that a finish ends the run.
 pub const SPENT: i32 = 1;
-/// A start came in while the function ran: a forward changes nothing.
+/// A start came in while the function ran: a forward changes nothing. Of a base: a timer is armed there.
 pub const ARMED: i32 = 2;
 /// The function of the timer runs: a cancel changes nothing.
 pub const RUNNING: i32 = 3;
@@ -15,14 +16,6 @@ pub const CLAIMED: i32 = 5;
 pub const CANCELLED: i32 = 6;
 /// A finish armed the timer again.
 pub const AGAIN: i32 = 7;
-/// A trace fits.
-pub const FITS: i32 = 8;
-/// With a line of a trace no history shows the lines so far.
-pub const MISFIT: i32 = 9;
-/// A line of a trace is of a timer's event and can't be read.
-pub const UNREADABLE: i32 = 10;
-/// A trace has no event of a timer.
-pub const NO_EVENTS: i32 = 11;
 
 /// The handle has no timers.
 pub const NO_TIMERS: i32 = -1;

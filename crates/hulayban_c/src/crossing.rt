@@ -37,6 +37,7 @@ pub struct Answer {
     pub soft: u64,
     pub expires: u64,
     pub count: u64,
+    pub wait: u64,
 }
 
 /// An answer that says nothing.
@@ -52,6 +53,7 @@ pub const NOTHING: Answer = Answer {
     soft: 0,
     expires: 0,
     count: 0,
+    wait: 0,
 };
 
 /// The clock of a number: `CLOCK_REALTIME`, `CLOCK_MONOTONIC` and `CLOCK_BOOTTIME` of Linux.

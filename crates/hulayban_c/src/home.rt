@@ -3,12 +3,12 @@ ghost use Rattle.std.specs.Prelude.{◌≡◌, length};
 
 use std::marker::Model;
 use timer_core::Core;
-use timer_queue::ListQueue;
+use timer_tree::TimerTree;
 
 /// All timers and bases of a handle, and how many there are. Contracts see it as its core.
 #[derive(Drop)]
 pub struct Home {
-    pub core: Core<ListQueue>,
+    pub core: Core<TimerTree>,
     pub timers: u32,
     pub bases: u32,
 }

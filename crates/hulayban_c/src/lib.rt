@@ -3,7 +3,7 @@
 
 ghost use Rattle.std.specs.Prelude.{◌≡◌, None};
 ghost use Rattle.hulayban_c.specs.declared.codes.TheConstants.{DONE};
-ghost use Rattle.hulayban_c.specs.Calls.{AnswersCancel, AnswersClaim, AnswersFinish, AnswersForward, OnTimers, AnswersNew, AnswersPeek, AnswersStart};
+ghost use Rattle.hulayban_c.specs.Calls.{AnswersCancel, AnswersClaim, AnswersFinish, AnswersForward, OnTimers, AnswersNew, AnswersNext, AnswersPeek, AnswersStart};
 
 use codes::{DONE, IN_USE, NO_MEMORY, NO_TIMERS};
 use crossing::{Answer, Declares, Time};
@@ -13,8 +13,6 @@ use std::alloc::Global;
 use told::give;
 
 mod calls;
-mod causes;
-mod checking;
 mod codes;
 mod crossing;
 mod handle;
@@ -23,7 +21,7 @@ mod opening;
 mod told;
 mod unboxed;
 
-/// Puts new timers behind a handle that has none: 1 to 8 bases, at most 256 timers, and a limit on entries from 1 to 2^48 - 16.
+/// Puts new timers behind a handle that has none: 1 to 64 bases, fewer than 2^32 timers, and a limit on entries from 1 to 2^48 - 16.
 #[unsafe(no_mangle)]
 pub extern "C" fn hrt_new(
     alloc: Global,
@@ -158,6 +156,26 @@ pub extern "C" fn hrt_finish(
         return NO_TIMERS;
     };
     let told = home.finish(timer, restart);
+    timers.put(home);
+    give(out, told)
+}
+
+/// How long a base may be left alone: the least time that a timer which is armed there still has to its expiry.
+#[unsafe(no_mangle)]
+#[tactic(auto, using(crate::proofs::Returned::on_timers))]
+pub extern "C" fn hrt_next(
+    alloc: Global,
+    timers: &mut Handle,
+    base: u32,
+    now: &Time,
+    out: &mut Answer,
+) -> i32
+    ensures { OnTimers (λ old told new. AnswersNext old base now.now told new) timers.old.kept timers.new.kept result out.old out.new }
+{
+    let Some(mut home) = timers.take(alloc) else {
+        return NO_TIMERS;
+    };
+    let told = home.next(base, now);
     timers.put(home);
     give(out, told)
 }

@@ -1,5 +1,5 @@
 //! New timers for a handle.
-ghost use Rattle.std.specs.Prelude.{◌≡◌, ◌+◌, ◌≤◌, ◌<◌, IfOk, None, length, map};
+ghost use Rattle.std.specs.Prelude.{◌≡◌, ◌+◌, ◌≤◌, ◌<◌, ◌^◌, IfOk, None, length, map};
 ghost use Rattle.seq_timer.specs.Steps.{greatest_limit, limited};
 ghost use Rattle.timer_core.specs.Kept.{opened};
 ghost use Rattle.hulayban_c.specs.Calls.{timer_declared, fault_new, fault_of, first_fault};
@@ -12,8 +12,14 @@ use seq_timer::{Context, Declared};
 use std::alloc::{AllocError, Global};
 use timer_core::Core;
 
+/// The most bases of a handle. `include/hrt.h` has these three numbers too.
+const MAX_BASES: u32 = 64;
+
+/// The most timers of a handle.
+const MAX_TIMERS: usize = 4294967295;
+
 /// The greatest limit on entries.
-const GREATEST_LIMIT: u64 = (1 << 48) - 16;
+const MAX_EVENTS: u64 = 281474976710640;
 
 /// Tests a declaration.
 fn fault_of(declares: Declares) -> Option<i32>
@@ -43,17 +49,17 @@ fn first_fault(declares: &[Declares]) -> Option<i32>
 /// Tests what new timers are asked for.
 pub fn fault_new(bases: u32, declares: &[Declares], max_events: u64) -> Option<i32>
     ensures fault { result ≡ fault_new bases declares.now max_events }
-    ensures bases { result ≡ None → (1 ≤ bases) × (bases ≤ 8) }
-    ensures timers { result ≡ None → length declares.now ≤ 256 }
+    ensures bases { result ≡ None → (1 ≤ bases) × (bases ≤ 64) }
+    ensures timers { result ≡ None → length declares.now < 2 ^ 32 }
     ensures limit { result ≡ None → (0 < max_events) × (max_events ≤ greatest_limit) }
 {
-    if bases == 0 || bases > 8 {
+    if bases == 0 || bases > MAX_BASES {
         return Some(BAD_BASE);
     }
-    if declares.len() > 256 {
+    if declares.len() > MAX_TIMERS {
         return Some(BAD_COUNT);
     }
-    if max_events == 0 || max_events > GREATEST_LIMIT {
+    if max_events == 0 || max_events > MAX_EVENTS {
         return Some(BAD_LIMIT);
     }
     first_fault(declares)
@@ -87,8 +93,8 @@ pub fn open(
     declares: &[Declares],
     max_events: u64,
 ) -> Result<Box<Home>, AllocError>
-    requires bases { (1 ≤ bases) × (bases ≤ 8) }
-    requires timers { length declares.now ≤ 256 }
+    requires bases { (1 ≤ bases) × (bases ≤ 64) }
+    requires timers { length declares.now < 2 ^ 32 }
     requires limit { (0 < max_events) × (max_events ≤ greatest_limit) }
     ensures { IfOk result (λ b. b.value ≡ opened bases (map timer_declared declares.now) (limited max_events)) }
 {

@@ -1,11 +1,12 @@
 //! What calls tell C of what the timers answer.
 ghost use Rattle.std.specs.Prelude.{◌≡◌};
-ghost use Rattle.hulayban_c.specs.Calls.{IsReturned, cancel_tells, claim_tells, finish_tells, forward_tells, of_generation, peek_tells, of_count, start_tells};
+ghost use Rattle.hulayban_c.specs.Numbers.{clock_number};
+ghost use Rattle.hulayban_c.specs.Calls.{IsReturned, cancel_tells, claimed_tells, finish_tells, forward_tells, of_generation, next_tells, peek_tells, of_count, start_tells};
 
-use crate::codes::{AGAIN, ARMED, BUSY, CANCELLED, CLAIMED, DONE, RUNNING, SPENT};
+use crate::codes::{AGAIN, ARMED, CANCELLED, DONE, RUNNING, SPENT};
 use crate::crossing::{Answer, NOTHING, clock_number};
 use seq_timer::{CancelAnswer, Finished, ForwardAnswer, Rearmed, TimerState};
-use timer_core::{ClaimAnswer, StartAnswer};
+use timer_core::StartAnswer;
 
 /// Of a timer with so many entries.
 fn of_count(timer: u32, stamp: u64) -> Answer
@@ -19,7 +20,7 @@ fn of_count(timer: u32, stamp: u64) -> Answer
 }
 
 /// Of a generation, and the number of an entry.
-fn of_generation(timer: u32, generation: u64, number: u64) -> Answer
+pub fn of_generation(timer: u32, generation: u64, number: u64) -> Answer
     ensures { result ≡ of_generation timer generation number }
 {
     Answer {
@@ -74,18 +75,16 @@ pub fn cancel_tells(timer: u32, answer: CancelAnswer) -> (i32, Answer)
     }
 }
 
-/// What a claim tells.
-pub fn claim_tells(answer: ClaimAnswer) -> (i32, Answer)
-    ensures { result ≡ claim_tells answer }
+/// How the timer of a claim was armed, by its generation, the number of the claim's entry, and how the timer is kept behind it.
+pub fn claimed_tells(timer: u32, generation: u64, number: u64, state: &TimerState) -> Answer
+    ensures { result ≡ record (of_generation timer generation number) { base = state.now.base; clock = clock_number state.now.clock; soft = state.now.soft; expires = state.now.expires } }
 {
-    match answer {
-        ClaimAnswer::Claimed {
-            timer,
-            generation,
-            number,
-        } => (CLAIMED, of_generation(timer, generation, number)),
-        ClaimAnswer::NoneDue => (DONE, NOTHING),
-        ClaimAnswer::BaseBusy { timer, generation } => (BUSY, of_generation(timer, generation, 0)),
+    Answer {
+        base: state.base(),
+        clock: clock_number(state.clock()),
+        soft: state.soft(),
+        expires: state.expires(),
+        ..of_generation(timer, generation, number)
     }
 }
 
@@ -121,6 +120,16 @@ pub fn finish_tells(timer: u32, finished: Finished) -> (i32, Answer)
         Rearmed::No => (DONE, of_count(timer, finished.number)),
         Rearmed::Again { generation } => (AGAIN, of_generation(timer, generation, finished.number)),
         Rearmed::Spent { .. } => (SPENT, of_count(timer, finished.number)),
+    }
+}
+
+/// How long a base may be left alone.
+pub fn next_tells(wait: Option<u64>) -> (i32, Answer)
+    ensures { result ≡ next_tells wait }
+{
+    match wait {
+        None => (DONE, NOTHING),
+        Some(wait) => (ARMED, Answer { wait, ..NOTHING }),
     }
 }
 

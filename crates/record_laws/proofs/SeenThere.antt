@@ -6,6 +6,7 @@ use Rattle.std.proofs.Math.Logic.{⊎_elim}
 use Rattle.std.proofs.lemmas.Bool.{and_right, cases_lt, lt-leb}
 use Rattle.std.proofs.lemmas.List.{append-nil, get_or_past, length-map, take_all}
 use Rattle.std.proofs.lemmas.Option.{same_Some, slice_get_within}
+use Rattle.base_row.specs.Rings.{counters_in}
 use Rattle.base_row.specs.declared.view.Opening.{Opening}
 use Rattle.pass_names.specs.Counts.{count, one_if}
 use Rattle.pass_names.specs.Passes.{Begins, is_place, within}
@@ -56,8 +57,8 @@ module _ {s : Script} {x : WorldOf} {q : WorldPass} (last : AreLastPasses s x q)
   pub bases_many : x.timers.about.bases ≡ s.bases
   bases_many = ap (λ (o : Opening). o.bases) last.world.timers
 
-  many_counters : x.timers.about.counters ≡ length s.timers + 1
-  many_counters = ap (λ (o : Opening). o.counters) last.world.timers
+  many_counters : counters_in x.timers.about ≡ length s.timers + 1
+  many_counters = omega (arith, ap (λ (o : Opening). counters_in o) last.world.timers)
 
   -- law: where a rise was seen its counter has risen more often than before it
   pub rose_more : (p k : ℕ) → slice_get q.timers.known.seen p ≡ Some (entries.Rise k)

@@ -6,25 +6,28 @@ use Rattle.ktime.specs.declared.mode.Mode.TheVariants as modes
 use Rattle.seq_timer.specs.Systems.{after_entry, after_shift, changed, shifted}
 use Rattle.seq_timer.specs.Tables.{is_armed_on, runs_on}
 use Rattle.seq_timer.specs.declared.standing.BaseEvent.TheVariants as shifts
-use Rattle.run_history.specs.Actions.{Action, Entered, Looked, Shifted}
-use Rattle.run_history.specs.Deeds.{fires, IsBody, IsExpiryRun}
+use Rattle.run_history.specs.Actions.{Action, Entered, Looked, Shifted, entered}
+use Rattle.run_history.specs.Deeds.{fires, IsBody, IsExpiryRun, StartsItself}
 use Rattle.run_history.specs.Signals.{SignalMove}
-use Rattle.run_history.specs.Starts.{Arming, FindsOnLine, IsArming, IsSentByHeirs, SentTo, Sight, arming_actions}
-use Rattle.run_history.specs.Traces.{all_entered}
+use Rattle.run_history.specs.Starts.{Arming, FindsOnLine, IsSentByHeirs, SentTo, Sight, arming_actions, from_moment}
 use Rattle.run_history.specs.Truths.{IsMoment, sight_of}
 use Rattle.fit_laws.proofs.EachTimer.{heads}
+use Rattle.fit_laws.proofs.OwnPoints.{entered_then}
 use Rattle.record_text.specs.declared.record.CallbackReply.TheVariants as told
+use Rattle.record_text.specs.declared.record.Entry.{Entry}
 use Rattle.record_text.specs.declared.record.Label.{Label}
 use Rattle.script_text.specs.Declarations.{kind_of, without_slack}
+use Rattle.script_text.specs.declared.script.Callback.TheVariants as callbacks
+use Rattle.script_text.specs.declared.script.Script.{Script}
 use Rattle.seq_timer.specs.declared.context.Context.TheVariants as contexts
 use Rattle.seq_timer.specs.declared.event.EventBy.{EventBy}
 use Rattle.seq_timer.specs.declared.event.EventBy.TheVariants as events
 use Rattle.std.proofs.lemmas.List.{append-nil}
 use Rattle.run_history.specs.Fits.{Fits}
-use Rattle.run_history.specs.Witnesses.{BasesList, Fired, Move, OfBase, OfRise, OfTimer, Shown, TimersList, Trace, Witness, standing_along, witness_with}
+use Rattle.run_history.specs.Witnesses.{BasesList, Fired, Move, TimersList, Trace, Witness, standing_along, witness_with}
 use Rattle.run_cases.specs.Fitting.{asking_record, asking_script}
 use Rattle.run_cases.specs.Wrong.{asking_off_record}
-use Rattle.run_cases.specs.Lines.{at, case_start_entry, claim_entry, finish_entry, start}
+use Rattle.run_cases.specs.Lines.{at, case_start_entry, claim_entry, finish_entry, hard_raw, start}
 use Rattle.run_cases.proofs.Calls.{right}
 use Rattle.run_cases.proofs.Orders.{in_one_order_of}
 use Rattle.run_cases.proofs.SentOff.{ends_on_line}
@@ -78,9 +81,14 @@ asking_fits = fits_by asking_witness (record {
                 armed_by 3 50,
                 refl,
                 record {
-                  below = le refl;
-                  next = tt;
-                  way = record { path = 0 ∷ []; at = 2; way = (2, le refl, refl, (refl, le refl, refl)); no_later = le refl; before = lt refl };
+                  begun = 3;
+                  from = le refl;
+                  claimed = le refl;
+                  arming = record {
+                    below = le refl;
+                    next = tt;
+                    way = record { path = 0 ∷ []; at = 3; way = (3, le refl, refl, (refl, le refl, refl)); no_later = le refl; before = lt refl };
+                  };
                 },
               ),
               refl,
@@ -105,57 +113,72 @@ abbrev asked_in : EventBy ℕ → ℕ
 asked_in (events.Start asked) = suc asked.base
 asked_in event = 0
 
-abbrev asked_by : Shown → ℕ
-asked_by (OfTimer t entry) = asked_in entry.event
-asked_by (OfBase b event) = 0
-asked_by (OfRise k) = 0
-
 second : {X : Type 0} (x y z u v : X) (xs ys : List X) → x ∷ y ∷ z ∷ xs ≡ u ∷ v ∷ ys → y ≡ v
 second x y z u v xs ys is = cc
 
 none_more : {X : Type 0} (x y z u v : X) → x ∷ y ∷ z ∷ [] ≡ u ∷ v ∷ [] → ⊥
 none_more x y z u v is = cc
 
--- what the claim, the start and the finish of the callback show
-abbrev own_three : List (ℕ × Shown)
-own_three = (2, OfTimer 0 (claim_entry 0 0 1)) ∷ (3, OfTimer 0 (case_start_entry modes.Rel 50 0 1 0 50 false)) ∷ (4, OfTimer 0 (finish_entry true 1)) ∷ []
+-- the claim, the start and the finish of the callback
+abbrev own_three : List (ℕ × Entry)
+own_three = (2, claim_entry 0 0 1) ∷ (3, case_start_entry modes.Rel 50 0 1 0 50 false) ∷ (4, finish_entry true 1) ∷ []
 
--- a callback that made the start found the base that it tells on line before
-asked_found : (sight : Sight) (reading : ℕ) (f : Fired) → f.timer ≡ 0 → own_three ≡ all_entered (fires 0 reading f)
-    → IsBody sight 100 (kind_of asking_script 0) reading f → FindsOnLine sight 0 sight.first 3 1 1
-asked_found sight reading f timer same body = ⊎_elim started looked body.0
+-- it found the base that it tells on line, from a moment on that stands behind its claim
+abbrev pub HasFound : Sight → Type 0
+HasFound sight = (low : ℕ) × (sight.first ≤ low) × (2 ≤ sight.stamp low 0) × FindsOnLine (from_moment sight low) 0 low 3 1 1
+
+-- a callback of timer 0 that made the start did
+asked_found : (sight : Sight) (reading : ℕ) (f : Fired) → own_three ≡ entered 0 (fires 0 reading (record f { timer = 0 }))
+    → IsBody sight 100 (hard_raw (callbacks.Starts 50 1)) reading (record f { timer = 0 }) → HasFound sight
+asked_found sight reading f same body = ⊎_elim started looked body.0
   where
-    looked : (number : ℕ) × (f.body ≡ Looked f.timer number told.Spent ∷ []) → FindsOnLine sight 0 sight.first 3 1 1
-    looked l = absurd (none_more _ _ _ _ _ (same ∙ ap (λ b. all_entered (fires 0 reading (record f { body = b }))) l.1))
+    claim : 2 ≡ f.claim
+    claim = ap (λ (x : ℕ × Entry). x.0) (heads _ _ _ _ same)
 
-    started : (a : Arming) × (f.body ≡ arming_actions f.timer (without_slack modes.Rel 50 1) reading a) × IsArming sight f.timer 100 1 a
-        → FindsOnLine sight 0 sight.first 3 1 1
-    started s = go s.0.outs (same ∙ ap (λ b. all_entered (fires 0 reading (record f { body = b }))) s.1) s.2.way
+    looked : (number : ℕ) × (f.body ≡ Looked 0 number told.Spent ∷ []) → HasFound sight
+    looked l = absurd (none_more _ _ _ _ _ (same ∙ ap (λ b. entered 0 (fires 0 reading (record f { timer = 0; body = b }))) l.1))
+
+    started : (a : Arming) × (f.body ≡ arming_actions 0 (without_slack modes.Rel 50 1) reading a) × StartsItself sight 100 1 (record f { timer = 0 }) a
+        → HasFound sight
+    started s = (
+      s.2.begun,
+      s.2.from,
+      subst (λ k. k ≤ sight.stamp s.2.begun 0) (sym claim) s.2.claimed,
+      go s.0.outs (same ∙ ap (λ b. entered 0 (fires 0 reading (record f { timer = 0; body = b }))) s.1) s.2.arming.way,
+    )
       where
+        later : Sight
+        later = from_moment sight s.2.begun
+
         sent_none : ◌≡◌ {A = ℕ} 2 0 → ⊥
         sent_none is = omega (arith, is)
 
         go : (outs : List SentTo)
-            → own_three ≡ all_entered (fires 0 reading (record f { body = arming_actions f.timer (without_slack modes.Rel 50 1) reading (record s.0 { outs = outs }) }))
-            → IsSentByHeirs sight f.timer 1 outs s.0.number s.0.asked → FindsOnLine sight 0 sight.first 3 1 1
-        go (out ∷ outs) is way = absurd (sent_none (ap (λ (x : ℕ × Shown). asked_by x.1) (second _ _ _ _ _ _ _ is)))
+            → own_three ≡ entered 0 (fires 0 reading
+            (record f { timer = 0; body = arming_actions 0 (without_slack modes.Rel 50 1) reading (record s.0 { outs = outs }) }))
+            → IsSentByHeirs later 0 1 outs s.0.number s.0.asked → FindsOnLine later 0 later.first 3 1 1
+        go (out ∷ outs) is way = absurd (sent_none (ap (λ (x : ℕ × Entry). asked_in x.1.event) (second _ _ _ _ _ _ _ is)))
         go [] is way =
             let own = second _ _ _ _ _ _ _ is in
-            let number : 3 ≡ s.0.number = ap (λ (x : ℕ × Shown). x.0) own in
-            let asked : 1 ≡ s.0.asked = omega (arith, ap (λ (x : ℕ × Shown). asked_by x.1) own) in
-            subst (λ t. FindsOnLine sight t sight.first 3 1 1) timer
-            (subst (λ n. FindsOnLine sight f.timer sight.first n 1 1) (sym number)
-            (subst (λ b. FindsOnLine sight f.timer sight.first s.0.number 1 b) (sym asked) way))
+            let number : 3 ≡ s.0.number = ap (λ (x : ℕ × Entry). x.0) own in
+            let asked : 1 ≡ s.0.asked = omega (arith, ap (λ (x : ℕ × Entry). asked_in x.1.event) own) in
+            subst (λ n. FindsOnLine later 0 later.first n 1 1) (sym number)
+            (subst (λ b. FindsOnLine later 0 later.first s.0.number 1 b) (sym asked) way)
 
--- the one callback of the run
-one_fired : (sight : Sight) (reading : ℕ) (fired : List Fired) (actions : List Action) (shown : ℕ) → own_three ≡ all_entered actions
-    → IsExpiryRun sight asking_script contexts.Hard reading 0 fired shown (0 ∷ []) actions → FindsOnLine sight 0 sight.first 3 1 1
-one_fired sight reading [] actions shown same run = absurd (let none = run.claimed in cc)
-one_fired sight reading (f ∷ g ∷ fs) actions shown same run = absurd (let many = run.claimed in cc)
-one_fired sight reading (f ∷ []) actions shown same run =
+-- law: the one callback of a run did, where it made these three
+pub one_fired : (sight : Sight) (s : Script) → kind_of s 0 ≡ hard_raw (callbacks.Starts 50 1) → s.limit ≡ 100 → (reading : ℕ) (fired : List Fired)
+    (actions : List Action) (shown : ℕ) → own_three ≡ entered 0 actions → IsExpiryRun sight s contexts.Hard reading 0 fired shown (0 ∷ []) actions
+    → HasFound sight
+one_fired sight s kind limit reading [] actions shown same run = absurd (let none = run.claimed in cc)
+one_fired sight s kind limit reading (f ∷ g ∷ fs) actions shown same run = absurd (let many = run.claimed in cc)
+one_fired sight s kind limit reading (f ∷ []) actions shown same run =
     let timer : 0 ≡ f.timer = heads 0 f.timer [] [] run.claimed in
-    asked_found sight reading f (sym timer) (same ∙ ap all_entered (run.done ∙ append-nil (fires 0 reading f)))
-    (subst (λ t. IsBody sight 100 (kind_of asking_script t) reading f) (sym timer) run.bodies.0)
+    asked_found sight reading f
+    (subst (λ t. own_three ≡ entered 0 (fires 0 reading (record f { timer = t }))) (sym timer)
+    (same ∙ ap (entered 0) (run.done ∙ append-nil (fires 0 reading f))))
+    (subst (λ k. IsBody sight 100 k reading (record f { timer = 0 })) kind
+    (subst (λ n. IsBody sight n (kind_of s 0) reading (record f { timer = 0 })) limit
+    (subst (λ t. IsBody sight s.limit (kind_of s t) reading (record f { timer = t })) (sym timer) run.bodies.0)))
 
 off_line : {heir : ℕ} → Some heir ≡ None → ⊥
 off_line wrong = cc
@@ -184,6 +207,8 @@ asking_off_doesnt_fit fits =
     let call = (o.2.calls 0).2.2.1.0 in
     let t = o.1 (at 0 2) in
     let sight = sight_of (w o.0 o.1) t.first t.last in
-    let f = one_fired sight t.at t.fired t.actions 0 call.traced.moves call.does.0 in
-    let ends = ends_on_line sight t.first 1 f.path 1 f.at f.way in
-    never_on o.0 o.1 t.first f.at call.begins ends.0 ends.1
+    let own = entered_then (w o.0 o.1) o.2.history o.2.timers (at 0 2) t.actions 0 call.traced.moves in
+    let f = one_fired sight asking_script refl refl t.at t.fired t.actions 0 own call.does.0 in
+    let found = f.3 in
+    let ends = ends_on_line (from_moment sight f.0) f.0 1 found.path 1 found.at found.way in
+    never_on o.0 o.1 t.first found.at call.begins (omega (arith, f.1, ends.0)) ends.1

@@ -20,7 +20,7 @@ use Rattle.run_history.specs.Histories.{answers_of}
 use Rattle.run_cases.specs.Fitting.{accept_entry, accepted_record, accepted_script, beside, beside_script, cancelled_record, expired_lines, idle_record, idle_script, kept_start, late_record, moved_record, moved_script, moved_start, rearming_start, none_entry, running_record, set_entry, told_record, told_script, trigger_entry}
 use Rattle.run_cases.specs.Lines.{at, start, cancel_entry, out_entry}
 use Rattle.run_cases.proofs.Calls.{are_placed, IsRight, right}
-use Rattle.run_cases.proofs.Witnesses.{on_line, set_anew, armed_as, armed_by, did, done_by, fired, ran, stays, step, three, turn_of, two, witness_along, witness_by}
+use Rattle.run_cases.proofs.Witnesses.{begins, on_line, set_anew, armed_as, armed_by, did, done_by, fired, ran, stays, step, three, turn_of, two, witness_along, witness_by}
 use Rattle.run_cases.proofs.Small.{fits_by}
 use Rattle.run_cases.proofs.Tests.{le, lt, point_passes}
 
@@ -132,7 +132,7 @@ moved_fits = fits_by moved_witness (record {
                 record
                     (armed_by 3 50) { asked = 1 },
                 refl,
-                stays refl refl refl refl refl refl,
+                record { begun = 2; from = le refl; claimed = le refl; arming = stays refl refl refl refl refl refl },
               ),
               refl,
             ),
@@ -263,7 +263,7 @@ accepted_fits = fits_by accepted_witness (record {
       (three (lt refl) refl (three (lt refl, (λ e. absurd (cc), λ e. absurd (cc))) refl (three (lt refl, (λ e. refl, λ e. refl)) refl tt)))) tt;
   placed = (refl, tt);
   calls = two (
-      two (right refl refl refl (refl, tt) (refl, tt) (refl, tt) (set_anew 0 1 (record { known = refl; good_value = lt refl; good_interval = lt refl })
+      two (right refl refl refl (refl, tt) (refl, tt) (refl, tt) (set_anew 0 1 refl (record { known = refl; good_value = lt refl; good_interval = lt refl })
       (armed_by 1 100, refl, refl, stays refl refl refl refl refl refl)) (refl, ((refl, (refl, refl, λ e. refl)), tt))
       (1, le refl, le refl, point_passes _ _ _ _ _ refl, record { armed = refl; running = refl; moving = refl }))
       (two (right refl refl refl (refl, tt) (refl, tt) (refl, tt) refl (refl, tt) tt)
@@ -277,11 +277,12 @@ accepted_fits = fits_by accepted_witness (record {
         start = Entered 0 4 rearming_start ∷ [];
         stamp = 2;
         timely = le refl;
+        turn = begins refl;
         arms = (armed_by 4 140, refl, refl, stays refl refl refl refl refl refl);
         done = refl;
       }) (refl, ((refl, (refl, refl, λ e. refl)), tt)) tt)
       (two (right refl refl refl (refl, tt) (refl, tt) (refl, tt)
-      (record { arm = armings.None; ns = 0; start = []; stamp = 3; timely = le refl; arms = refl; done = refl }) (refl, (tt, tt)) tt)
+      (record { arm = armings.None; ns = 0; start = []; stamp = 3; timely = le refl; turn = begins refl; arms = refl; done = refl }) (refl, (tt, tt)) tt)
       (two (right refl refl refl (refl, tt) (refl, tt) (refl, tt) refl (refl, tt) (refl, refl)) tt))))))
       ) tt;
 })

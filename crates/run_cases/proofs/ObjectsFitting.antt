@@ -1,5 +1,5 @@
 -- Records that fit, of two lanes beside each other that call and look at objects: a witness for each, and what makes it fit.
-use Rattle.std.proofs.Common.{ℕ, true, false, List, [], ◌∷◌, None, Some, refl, inl, inr}
+use Rattle.std.proofs.Common.{ℕ, true, false, List, [], ◌∷◌, None, Some, refl, inl, inr, nat_lt, ◌+◌, ◌≡◌}
 use Rattle.ktime.specs.declared.write.Write.TheVariants as writes
 use Rattle.ktime.specs.Times.{passed}
 use Rattle.ktime.specs.declared.clock_id.ClockId.TheVariants as clocks
@@ -29,22 +29,24 @@ use Rattle.run_cases.specs.Lines.{at, by, case_object_line, case_script, line, o
 use Rattle.run_cases.proofs.Calls.{IsRight, right}
 use Rattle.run_cases.proofs.Small.{fits_by}
 use Rattle.run_cases.proofs.Tests.{le, lt, point_passes}
-use Rattle.run_cases.proofs.Witnesses.{set_anew, armed_by, did, done_by, fired, ran, stays, step, three, turn_of, two, witness_along}
+use Rattle.run_cases.proofs.Witnesses.{begins, set_anew, armed_by, did, done_by, fired, ran, stays, step, three, turn_of, two, witness_along}
 
 -- ---- calls that make an entry of an object
 
 -- one that starts no timer
 none_armed : {sight : Sight} {limit timer reading : ℕ} {kind : Kind} {entry : Armed → ObjectEntry} (stamp : ℕ)
+    → nat_lt (stamp + stamp) (sight.turns (sight.first + 1) timer) ≡ true
     → MakesRearming sight limit kind timer reading entry (turn_of timer stamp [] (entry armings.None))
-none_armed stamp = record { arm = armings.None; ns = 0; start = []; stamp = stamp; timely = le refl; arms = refl; done = refl }
+none_armed stamp begun =
+    record { arm = armings.None; ns = 0; start = []; stamp = stamp; timely = le refl; turn = begins begun; arms = refl; done = refl }
 
 -- a settime that disarms an object, and was the first
-disarmed : {sight : Sight} {limit timer : ℕ}
+disarmed : {sight : Sight} {limit timer : ℕ} → nat_lt 0 (sight.turns (sight.first + 1) timer) ≡ true
     → MakesAnew sight limit (kinds.Fd 0) timer (Some (record { mode = modes.Rel; ns = 0 })) 0 (λ arm. object_entries.Settime 0 0 0 0 arm (settings.Old 0 0))
     (turn_of timer 0 [] disarmed_entry)
     × AreValidFor (kinds.Fd 0) 0 (record { sec = 0; nsec = 0 }) (record { sec = 0; nsec = 0 })
-disarmed = (
-  record { cancel = None; arm = armings.None; start = []; stamp = 0; arms = refl; done = refl },
+disarmed begun = (
+  record { cancel = None; arm = armings.None; start = []; stamp = 0; turn = begins begun; arms = refl; done = refl },
   record { known = refl; good_value = lt refl; good_interval = lt refl },
 )
 
@@ -75,7 +77,7 @@ unreadable_fits = fits_by unreadable_witness (record {
   placed = (refl, (refl, tt));
   calls = two (
       two (right refl refl refl (refl, tt) (refl, tt) (refl, tt) refl (refl, tt) tt)
-      (two (right refl refl refl (refl, tt) (refl, tt) (refl, tt) (set_anew 0 1 (record { known = refl; good_value = lt refl; good_interval = lt refl })
+      (two (right refl refl refl (refl, tt) (refl, tt) (refl, tt) (set_anew 0 1 refl (record { known = refl; good_value = lt refl; good_interval = lt refl })
       (armed_by 1 5, refl, refl, stays refl refl refl refl refl refl)) (refl, ((refl, (refl, refl, λ e. refl)), tt))
       (2, le refl, le refl, point_passes _ _ _ _ _ refl, record { armed = refl; running = refl; moving = refl }))
       (two (right refl refl refl (refl, tt) (refl, tt) (refl, tt)
@@ -110,11 +112,11 @@ seen_fits = fits_by seen_witness (record {
       (two (three (lt refl, refl, le refl, le refl, (λ e. refl, λ e. refl)) refl tt) tt);
   placed = (refl, (refl, tt));
   calls = two (
-      two (right refl refl refl (refl, (refl, tt)) (refl, (refl, tt)) (refl, (refl, tt)) disarmed
+      two (right refl refl refl (refl, (refl, tt)) (refl, (refl, tt)) (refl, (refl, tt)) (disarmed refl)
       (refl, (tt, tt)) (1, le refl, le refl, point_passes _ _ _ _ _ refl, record { armed = refl; running = refl; moving = refl }))
       (two (right refl refl refl (refl, (refl, tt)) (refl, (refl, tt)) (refl, (refl, tt)) (refl, refl) (refl, tt) (refl, refl)) tt)
       ) (two (
-      two (right refl refl refl (refl, (refl, tt)) (refl, (refl, tt)) (refl, (refl, tt)) disarmed
+      two (right refl refl refl (refl, (refl, tt)) (refl, (refl, tt)) (refl, (refl, tt)) (disarmed refl)
       (refl, (tt, tt)) (3, le refl, le refl, point_passes _ _ _ _ _ refl, record { armed = refl; running = refl; moving = refl }))
       (two (right refl refl refl (refl, (refl, tt)) (refl, (refl, tt)) (refl, (refl, tt)) (refl, refl) (refl, tt) (refl, refl)) tt)
       ) tt);
@@ -146,14 +148,14 @@ accepts_fit = fits_by accepts_witness (record {
   placed = (refl, (refl, tt));
   calls = two (
       two (right refl refl refl (refl, (refl, tt)) (refl, (refl, tt)) (refl, (refl, tt))
-      (none_armed 0) (refl, (tt, tt)) tt)
+      (none_armed 0 refl) (refl, (tt, tt)) tt)
       (two (right refl refl refl (refl, (refl, tt)) (refl, (refl, tt)) (refl, (refl, tt))
-      (none_armed 0) (refl, (tt, tt)) tt) tt)
+      (none_armed 0 refl) (refl, (tt, tt)) tt) tt)
       ) (two (
       two (right refl refl refl (refl, (refl, tt)) (refl, (refl, tt)) (refl, (refl, tt))
-      (none_armed 1) (refl, (tt, tt)) tt)
+      (none_armed 1 refl) (refl, (tt, tt)) tt)
       (two (right refl refl refl (refl, (refl, tt)) (refl, (refl, tt)) (refl, (refl, tt))
-      (none_armed 1) (refl, (tt, tt)) tt) tt)
+      (none_armed 1 refl) (refl, (tt, tt)) tt) tt)
       ) tt);
 })
 
@@ -185,7 +187,7 @@ skipped_fits = fits_by skipped_witness (record {
   placed = (refl, (refl, tt));
   calls = two (
       two (right refl refl refl (refl, tt) (refl, tt) (refl, tt) refl (refl, tt) tt)
-      (two (right refl refl refl (refl, tt) (refl, tt) (refl, tt) (set_anew 0 1 (record { known = refl; good_value = lt refl; good_interval = lt refl })
+      (two (right refl refl refl (refl, tt) (refl, tt) (refl, tt) (set_anew 0 1 refl (record { known = refl; good_value = lt refl; good_interval = lt refl })
       (armed_by 1 5, refl, refl, stays refl refl refl refl refl refl)) (refl, ((refl, (refl, refl, λ e. refl)), tt))
       (2, le refl, le refl, point_passes _ _ _ _ _ refl, record { armed = refl; running = refl; moving = refl }))
       (two (right refl refl refl (refl, tt) (refl, tt) (refl, tt)
@@ -194,7 +196,7 @@ skipped_fits = fits_by skipped_witness (record {
       ) (two (
       two (right refl refl refl (refl, tt) (refl, tt) (refl, tt) refl (refl, tt) (record { stamp = refl; holds = refl }))
       (two (right refl refl refl (refl, tt) (refl, tt) (refl, tt)
-      (none_armed 1) (refl, (tt, tt)) tt) tt)
+      (none_armed 1 refl) (refl, (tt, tt)) tt) tt)
       ) tt);
 })
 
@@ -232,13 +234,13 @@ two_expiries_fit = fits_by two_expiries_witness (record {
   placed = (refl, (refl, tt));
   calls = two (
       two (right refl refl refl (refl, tt) (refl, tt) (refl, tt) refl (refl, tt) tt)
-      (two (right refl refl refl (refl, tt) (refl, tt) (refl, tt) (set_anew 0 1 (record { known = refl; good_value = lt refl; good_interval = lt refl })
+      (two (right refl refl refl (refl, tt) (refl, tt) (refl, tt) (set_anew 0 1 refl (record { known = refl; good_value = lt refl; good_interval = lt refl })
       (armed_by 1 5, refl, refl, stays refl refl refl refl refl refl)) (refl, ((refl, (refl, refl, λ e. refl)), tt))
       (2, le refl, le refl, point_passes _ _ _ _ _ refl, record { armed = refl; running = refl; moving = refl }))
       (two (right refl refl refl (refl, tt) (refl, tt) (refl, tt)
       (record { one_reading = refl; claimed = refl; done = refl; contexts = (refl, tt); bodies = ((inl (1, true, refl), refl), tt) }, lt refl)
       (refl, (tt, tt)) (done_by two_expiries_witness contexts.Hard 1 0 8 refl refl (refl, tt) (λ clock. (refl, tt))))
-      (two (right refl refl refl (refl, tt) (refl, tt) (refl, tt) (set_anew 2 4 (record { known = refl; good_value = lt refl; good_interval = lt refl })
+      (two (right refl refl refl (refl, tt) (refl, tt) (refl, tt) (set_anew 2 4 refl (record { known = refl; good_value = lt refl; good_interval = lt refl })
       (armed_by 4 6, refl, refl, stays refl refl refl refl refl refl)) (refl, ((refl, (refl, refl, λ e. refl)), tt))
       (9, le refl, le refl, point_passes _ _ _ _ _ refl, record { armed = refl; running = refl; moving = refl }))
       (two (right refl refl refl (refl, tt) (refl, tt) (refl, tt)
@@ -246,7 +248,7 @@ two_expiries_fit = fits_by two_expiries_witness (record {
       (refl, (tt, tt)) (done_by two_expiries_witness contexts.Hard 1 0 17 refl refl (refl, tt) (λ clock. (refl, tt)))) tt))))
       ) (two (
       two (right refl refl refl (refl, tt) (refl, tt) (refl, tt) refl (refl, tt) (record { stamp = refl; holds = refl }))
-      (two (right refl refl refl (refl, tt) (refl, tt) (refl, tt) (none_armed 3, le refl) (refl, (tt, tt)) tt) tt)
+      (two (right refl refl refl (refl, tt) (refl, tt) (refl, tt) (none_armed 3 refl, le refl) (refl, (tt, tt)) tt) tt)
       ) tt);
 })
 
@@ -275,11 +277,11 @@ canceled_fits = fits_by canceled_witness (record {
       (three (lt refl, (λ e. refl, λ e. refl)) refl tt)) tt;
   placed = (refl, (refl, tt));
   calls = two (
-      two (right refl refl refl (refl, tt) (refl, tt) (refl, tt) (set_anew 0 1 (record { known = refl; good_value = lt refl; good_interval = lt refl })
+      two (right refl refl refl (refl, tt) (refl, tt) (refl, tt) (set_anew 0 1 refl (record { known = refl; good_value = lt refl; good_interval = lt refl })
       (record (armed_by 1 50) { placement = record { base = 0; clock = clocks.Realtime; soft = 50; expires = 50 } }, refl, refl, stays refl refl refl refl refl refl)) (refl, ((refl, (refl, refl, λ e. refl)), tt))
       (1, le refl, le refl, point_passes _ _ _ _ _ refl, record { armed = refl; running = refl; moving = refl }))
       (two (right refl refl refl (refl, tt) (refl, tt) (refl, tt)
-      (none_armed 1, le refl) (refl, (tt, tt)) tt) tt)
+      (none_armed 1 refl, le refl) (refl, (tt, tt)) tt) tt)
       ) (two (
       two (right refl refl refl (refl, tt) (refl, tt) (refl, tt) (refl, refl) (refl, tt) (refl, refl))
       (two (right refl refl refl (refl, tt) (refl, tt) (refl, tt) refl (refl, tt) tt) tt)
@@ -299,7 +301,7 @@ set_beside looks told times = witness_along (case_script 1 2 (kinds.Posix 0 ∷ 
 set_right : (looks : List LaneCall) (told : List Answer) (times : List Trace) → IsRight (set_beside looks told times) (at 0 0) (settime_to 50) (answers.Old 0 0)
 unfolding after_entry changed passed
 set_right looks told times =
-    right refl refl refl (refl, tt) (refl, tt) (refl, tt) (set_anew 0 1 (record { known = refl; good_value = lt refl; good_interval = lt refl })
+    right refl refl refl (refl, tt) (refl, tt) (refl, tt) (set_anew 0 1 refl (record { known = refl; good_value = lt refl; good_interval = lt refl })
     (armed_by 1 50, refl, refl, stays refl refl refl refl refl refl)) (refl, ((refl, (refl, refl, λ e. refl)), tt))
     (1, le refl, le refl, point_passes _ _ _ _ _ refl, record { armed = refl; running = refl; moving = refl })
 

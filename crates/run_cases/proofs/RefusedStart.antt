@@ -24,7 +24,7 @@ use Rattle.run_cases.proofs.ObjectsWrong.{some_none, still_then, unarmed_then}
 use Rattle.run_cases.proofs.Settimes.{refused_idle}
 use Rattle.run_cases.proofs.Small.{fits_by}
 use Rattle.run_cases.proofs.Tests.{le, lt, point_passes}
-use Rattle.run_cases.proofs.Witnesses.{set_anew, armed_by, did, done_by, fired, ran, stays, step, three, turn_of, two, witness_along}
+use Rattle.run_cases.proofs.Witnesses.{begins, set_anew, armed_by, did, done_by, fired, ran, stays, step, three, turn_of, two, witness_along}
 
 -- ---- it is told of the timer with the cancel
 
@@ -55,7 +55,7 @@ full_fits = fits_by full_witness (record {
       (three (lt refl, refl, le refl, le refl, (λ e. absurd (cc), λ e. absurd (cc))) refl tt))) tt;
   placed = (refl, tt);
   calls = two (
-      two (right refl refl refl (refl, tt) (refl, tt) (refl, tt) (set_anew 0 1 (record { known = refl; good_value = lt refl; good_interval = lt refl })
+      two (right refl refl refl (refl, tt) (refl, tt) (refl, tt) (set_anew 0 1 refl (record { known = refl; good_value = lt refl; good_interval = lt refl })
       (armed_by 1 50, refl, refl, stays refl refl refl refl refl refl)) (refl, ((refl, (refl, refl, λ e. refl)), tt))
       (1, le refl, le refl, point_passes _ _ _ _ _ refl, record { armed = refl; running = refl; moving = refl }))
       (two (right refl refl refl (refl, tt) (refl, tt) (refl, tt) (
@@ -64,6 +64,7 @@ full_fits = fits_by full_witness (record {
           arm = armings.Generation 3;
           start = Entered 0 3 (set_start 60 0 false) ∷ [];
           stamp = 1;
+          turn = begins refl;
           arms = (armed_by 3 60, refl, refl, stays refl refl refl refl refl refl);
           done = refl;
         },
@@ -75,6 +76,7 @@ full_fits = fits_by full_witness (record {
           arm = armings.Unarmed;
           start = [];
           stamp = 2;
+          turn = begins refl;
           arms = refl;
           done = refl;
         },
@@ -136,7 +138,7 @@ ended_fits = fits_by ended_witness (record {
       (three (lt refl, refl, le refl, le refl, (λ e. absurd (cc), λ e. absurd (cc))) refl tt)))) tt;
   placed = (refl, (refl, tt));
   calls = two (
-      two (right refl refl refl (refl, tt) (refl, tt) (refl, tt) (set_anew 0 1 (record { known = refl; good_value = lt refl; good_interval = lt refl })
+      two (right refl refl refl (refl, tt) (refl, tt) (refl, tt) (set_anew 0 1 refl (record { known = refl; good_value = lt refl; good_interval = lt refl })
       (armed_by 1 50, refl, refl, stays refl refl refl refl refl refl)) (refl, ((refl, (refl, refl, λ e. refl)), tt))
       (1, le refl, le refl, point_passes _ _ _ _ _ refl, record { armed = refl; running = refl; moving = refl }))
       (two (right refl refl refl (refl, tt) (refl, tt) (refl, tt) (
@@ -145,6 +147,7 @@ ended_fits = fits_by ended_witness (record {
           arm = armings.Generation 3;
           start = Entered 0 3 (set_start 60 0 false) ∷ [];
           stamp = 1;
+          turn = begins refl;
           arms = (armed_by 3 60, refl, refl, stays refl refl refl refl refl refl);
           done = refl;
         },
@@ -152,7 +155,7 @@ ended_fits = fits_by ended_witness (record {
       ) (refl, ((refl, (refl, refl, λ e. refl)), tt)) tt)
       (two (right refl refl refl (refl, tt) (refl, tt) (refl, tt) refl (refl, tt) tt)
       (two (right refl refl refl (refl, tt) (refl, tt) (refl, tt) (
-        record { cancel = None; arm = armings.Unarmed; start = []; stamp = 3; arms = refl; done = refl },
+        record { cancel = None; arm = armings.Unarmed; start = []; stamp = 3; turn = begins refl; arms = refl; done = refl },
         record { known = refl; good_value = lt refl; good_interval = lt refl },
       ) (refl, ((record { stamp = refl; holds = le refl }, refl), tt)) (record {
         early = Began 0 3 ∷ [];

@@ -15,7 +15,7 @@ use Rattle.run_cases.specs.Lines.{accepted_entry, at, counted_entry, set_entry_o
 use Rattle.run_cases.proofs.Calls.{right}
 use Rattle.run_cases.proofs.Small.{fits_by}
 use Rattle.run_cases.proofs.Tests.{le, lt, point_passes, saw_waiting}
-use Rattle.run_cases.proofs.Witnesses.{set_anew, armed_by, did, done_by, fired, ran, stays, step, three, turn_of, two, witness_along}
+use Rattle.run_cases.proofs.Witnesses.{begins, set_anew, armed_by, did, done_by, fired, ran, stays, step, three, turn_of, two, witness_along}
 
 -- the callback of a queued timer whose expiry counted, and which was the timer's second entry
 abbrev counted_on : ℕ → Fired
@@ -78,11 +78,13 @@ signals_fit = fits_by signals_witness (record {
   placed = (refl, tt);
   calls = two (
       two (right refl refl refl (refl, (refl, tt)) (refl, (refl, tt)) (refl, (refl, tt))
-      (set_anew 0 1 (record { known = refl; good_value = lt refl; good_interval = lt refl }) (armed_by 1 200, refl, refl, stays refl refl refl refl refl refl))
+      (set_anew 0 1 refl (record { known = refl; good_value = lt refl; good_interval = lt refl })
+      (armed_by 1 200, refl, refl, stays refl refl refl refl refl refl))
       (refl, ((refl, (refl, refl, λ e. refl)), tt))
       (1, le refl, le refl, point_passes _ _ _ _ _ refl, record { armed = refl; running = refl; moving = refl }))
       (two (right refl refl refl (refl, (refl, tt)) (refl, (refl, tt)) (refl, (refl, tt))
-      (set_anew 0 1 (record { known = refl; good_value = lt refl; good_interval = lt refl }) (armed_by 1 100, refl, refl, stays refl refl refl refl refl refl))
+      (set_anew 0 1 refl (record { known = refl; good_value = lt refl; good_interval = lt refl })
+      (armed_by 1 100, refl, refl, stays refl refl refl refl refl refl))
       (refl, ((refl, (refl, refl, λ e. refl)), tt))
       (4, le refl, le refl, point_passes _ _ _ _ _ refl, record { armed = refl; running = refl; moving = refl }))
       (two (right refl refl refl (refl, (refl, tt)) (refl, (refl, tt)) (refl, (refl, tt)) refl (refl, tt) tt)
@@ -97,13 +99,13 @@ signals_fit = fits_by signals_witness (record {
         lt refl,
       ) (refl, (tt, (tt, tt))) (done_by signals_witness contexts.Hard 1 0 15 refl refl (refl, (refl, tt)) (λ clock. (refl, (refl, tt)))))
       (two (right refl refl refl (refl, (refl, tt)) (refl, (refl, tt)) (refl, (refl, tt)) (
-        record { cancel = None; arm = armings.None; start = []; stamp = 2; arms = refl; done = refl },
+        record { cancel = None; arm = armings.None; start = []; stamp = 2; turn = begins refl; arms = refl; done = refl },
         record { known = refl; good_value = lt refl; good_interval = lt refl },
       ) (refl, (tt, tt)) (16, le refl, le refl, point_passes _ _ _ _ _ refl, record { armed = refl; running = refl; moving = refl }))
       (two (right refl refl refl (refl, (refl, tt)) (refl, (refl, tt)) (refl, (refl, tt)) (refl, tt) (refl, tt)
       (record { stamp = 3; had = refl; sent = le refl; room = lt refl; stale = refl }))
       (two (right refl refl refl (refl, (refl, tt)) (refl, (refl, tt)) (refl, (refl, tt))
-      (record { arm = armings.None; ns = 0; start = []; stamp = 2; timely = le refl; arms = refl; done = refl }, tt) (refl, (tt, tt)) refl)
+      (record { arm = armings.None; ns = 0; start = []; stamp = 2; timely = le refl; turn = begins refl; arms = refl; done = refl }, tt) (refl, (tt, tt)) refl)
       (two (right refl refl refl (refl, (refl, tt)) (refl, (refl, tt)) (refl, (refl, tt)) refl (refl, tt) (saw_waiting 4 refl refl)) tt)))))))
       ) tt;
 })
@@ -137,7 +139,7 @@ spent_fits = fits_by spent_witness (record {
   object_histories = two (three (lt refl, refl, le refl, le refl, (λ e. absurd (cc), λ e. absurd (cc))) refl (three (lt refl) refl tt)) tt;
   placed = (refl, tt);
   calls = two (
-      two (right refl refl refl (refl, tt) (refl, tt) (refl, tt) (set_anew 0 1 (record { known = refl; good_value = lt refl; good_interval = lt refl })
+      two (right refl refl refl (refl, tt) (refl, tt) (refl, tt) (set_anew 0 1 refl (record { known = refl; good_value = lt refl; good_interval = lt refl })
       (armed_by 1 100, refl, refl, stays refl refl refl refl refl refl)) (refl, ((refl, (refl, refl, λ e. refl)), tt))
       (1, le refl, le refl, point_passes _ _ _ _ _ refl, record { armed = refl; running = refl; moving = refl }))
       (two (right refl refl refl (refl, tt) (refl, tt) (refl, tt) refl (refl, tt) tt)
@@ -180,7 +182,7 @@ filled_fits = fits_by filled_witness (record {
       (three (lt refl, refl, le refl, le refl, (λ e. refl, λ e. refl)) refl tt))) tt;
   placed = (refl, (refl, tt));
   calls = two (
-      two (right refl refl refl (refl, tt) (refl, tt) (refl, tt) (set_anew 0 1 (record { known = refl; good_value = lt refl; good_interval = lt refl })
+      two (right refl refl refl (refl, tt) (refl, tt) (refl, tt) (set_anew 0 1 refl (record { known = refl; good_value = lt refl; good_interval = lt refl })
       (armed_by 1 100, refl, refl, stays refl refl refl refl refl refl)) (refl, ((refl, (refl, refl, λ e. refl)), tt))
       (1, le refl, le refl, point_passes _ _ _ _ _ refl, record { armed = refl; running = refl; moving = refl }))
       (two (right refl refl refl (refl, tt) (refl, tt) (refl, tt) refl (refl, tt) tt)
@@ -188,7 +190,7 @@ filled_fits = fits_by filled_witness (record {
       (record { one_reading = refl; claimed = refl; done = refl; contexts = (refl, tt); bodies = (inl (inl (1, true, refl), refl), tt) }, lt refl)
       (refl, (tt, tt)) (done_by filled_witness contexts.Hard 1 0 8 refl refl (refl, tt) (λ clock. (refl, tt))))
       (two (right refl refl refl (refl, tt) (refl, tt) (refl, tt) (
-        record { cancel = None; arm = armings.None; start = []; stamp = 2; arms = refl; done = refl },
+        record { cancel = None; arm = armings.None; start = []; stamp = 2; turn = begins refl; arms = refl; done = refl },
         record { known = refl; good_value = lt refl; good_interval = lt refl },
       ) (refl, (tt, tt)) (9, le refl, le refl, point_passes _ _ _ _ _ refl, record { armed = refl; running = refl; moving = refl })) tt)))
       ) (two (

@@ -1,5 +1,5 @@
 -- Records of sleepers: a witness for each that fits, and what is wrong with the others.
-use Rattle.std.proofs.Common.{◌≡◌, ℕ, true, false, None, Some, [], ◌∷◌, refl, inl, inr}
+use Rattle.std.proofs.Common.{◌≡◌, ℕ, true, false, None, Some, [], ◌∷◌, refl, inl, inr, nat_lt, ◌+◌}
 use Rattle.ktime.specs.declared.write.Write.TheVariants as writes
 use Rattle.ktime.specs.Times.{passed}
 use Rattle.ktime.specs.declared.mode.Mode.TheVariants as modes
@@ -25,16 +25,16 @@ use Rattle.run_cases.specs.Wrong.{early_sleep_record, early_sleep_script, time_l
 use Rattle.run_cases.proofs.Calls.{right}
 use Rattle.run_cases.proofs.Small.{fits_by}
 use Rattle.run_cases.proofs.Tests.{le, lt, point_passes}
-use Rattle.run_cases.proofs.Witnesses.{armed_anew, armed_by, did, done_by, fired, ran, stays, step, three, turn_of, two, witness_along}
+use Rattle.run_cases.proofs.Witnesses.{begins, armed_anew, armed_by, did, done_by, fired, ran, stays, step, three, turn_of, two, witness_along}
 
 -- ---- calls on a sleeper that start no timer
 
 -- an interrupt, which cancelled this, if anything
-interrupts_by : {sight : Sight} {limit reading : ℕ} (stamp number generation : ℕ) (reply : InterruptReply)
-    → MakesAnew sight limit (kinds.Sleeper 0) 0 None reading (λ arm. object_entries.Interrupt reading reply)
+interrupts_by : {sight : Sight} {limit reading : ℕ} (stamp number generation : ℕ) → nat_lt (stamp + stamp) (sight.turns (sight.first + 1) 0) ≡ true
+    → (reply : InterruptReply) → MakesAnew sight limit (kinds.Sleeper 0) 0 None reading (λ arm. object_entries.Interrupt reading reply)
     (turn_of 0 stamp (Entered 0 number (cancel_entry generation) ∷ []) (object_entries.Interrupt reading reply))
-interrupts_by stamp number generation reply =
-    record { cancel = Some (number, generation); arm = armings.None; start = []; stamp = stamp; arms = (refl, refl); done = refl }
+interrupts_by stamp number generation begun reply =
+    record { cancel = Some (number, generation); arm = armings.None; start = []; stamp = stamp; turn = begins begun; arms = (refl, refl); done = refl }
 
 -- ---- a sleep's time comes, which is looked at, and told by an interrupt
 
@@ -64,8 +64,11 @@ woken_fits = fits_by woken_witness (record {
       (three (lt refl) refl (three (lt refl, refl) refl tt))) tt;
   placed = (refl, tt);
   calls = two (
-      two (right refl refl refl (refl, tt) (refl, tt) (refl, tt)
-      (armed_anew (λ arm. object_entries.Sleep 0 10 0 arm sleeps.Asleep) 0 1 (armed_by 1 10, refl, refl, stays refl refl refl refl refl refl), (refl, refl))
+      two (right refl refl refl (refl, tt) (refl, tt) (refl, tt) (
+        armed_anew (λ arm. object_entries.Sleep 0 10 0 arm sleeps.Asleep) 0 1 refl
+            (armed_by 1 10, refl, refl, stays refl refl refl refl refl refl),
+        (refl, refl),
+      )
       (refl, ((refl, (refl, refl, λ e. refl)), tt))
       (1, le refl, le refl, point_passes _ _ _ _ _ refl, record { armed = refl; running = refl; moving = refl }))
       (two (right refl refl refl (refl, tt) (refl, tt) (refl, tt) refl (refl, tt) tt)
@@ -74,7 +77,7 @@ woken_fits = fits_by woken_witness (record {
       (refl, (tt, tt)) (done_by woken_witness contexts.Hard 1 0 8 refl refl (refl, tt) (λ clock. (refl, tt))))
       (two (right refl refl refl (refl, tt) (refl, tt) (refl, tt) refl (refl, tt) (refl, refl))
       (two (right refl refl refl (refl, tt) (refl, tt) (refl, tt)
-      (record { cancel = None; arm = armings.None; start = []; stamp = 2; arms = (refl, refl); done = refl }) (refl, (tt, tt))
+      (record { cancel = None; arm = armings.None; start = []; stamp = 2; turn = begins refl; arms = (refl, refl); done = refl }) (refl, (tt, tt))
       (9, le refl, le refl, point_passes _ _ _ _ _ refl, record { armed = refl; running = refl; moving = refl })) tt))))
       ) tt;
 })
@@ -114,19 +117,25 @@ interrupted_fits = fits_by interrupted_witness (record {
       (three (lt refl, refl, le refl, refl, (λ e. refl, λ e. refl)) refl tt))))) tt;
   placed = (refl, tt);
   calls = two (
-      two (right refl refl refl (refl, tt) (refl, tt) (refl, tt)
-      (armed_anew (λ arm. object_entries.Sleep 0 100 0 arm sleeps.Asleep) 0 1 (armed_by 1 100, refl, refl, stays refl refl refl refl refl refl), (refl, refl))
+      two (right refl refl refl (refl, tt) (refl, tt) (refl, tt) (
+        armed_anew (λ arm. object_entries.Sleep 0 100 0 arm sleeps.Asleep) 0 1 refl
+            (armed_by 1 100, refl, refl, stays refl refl refl refl refl refl),
+        (refl, refl),
+      )
       (refl, ((refl, (refl, refl, λ e. refl)), tt))
       (1, le refl, le refl, point_passes _ _ _ _ _ refl, record { armed = refl; running = refl; moving = refl }))
       (two (right refl refl refl (refl, tt) (refl, tt) (refl, tt) refl (refl, tt) tt)
-      (two (right refl refl refl (refl, tt) (refl, tt) (refl, tt) (interrupts_by 1 2 1 (ended.Left 70)) (refl, (tt, tt)) tt)
-      (two (right refl refl refl (refl, tt) (refl, tt) (refl, tt)
-      (armed_anew (λ arm. object_entries.Sleep 1 100 1 arm sleeps.Asleep) 2 3 (armed_by 3 100, refl, refl, stays refl refl refl refl refl refl), (refl, refl))
+      (two (right refl refl refl (refl, tt) (refl, tt) (refl, tt) (interrupts_by 1 2 1 refl (ended.Left 70)) (refl, (tt, tt)) tt)
+      (two (right refl refl refl (refl, tt) (refl, tt) (refl, tt) (
+        armed_anew (λ arm. object_entries.Sleep 1 100 1 arm sleeps.Asleep) 2 3 refl
+            (armed_by 3 100, refl, refl, stays refl refl refl refl refl refl),
+        (refl, refl),
+      )
       (refl, ((refl, (refl, refl, λ e. refl)), tt))
       (8, le refl, le refl, point_passes _ _ _ _ _ refl, record { armed = refl; running = refl; moving = refl }))
-      (two (right refl refl refl (refl, tt) (refl, tt) (refl, tt) (interrupts_by 3 4 3 ended.Interrupted) (refl, (tt, tt)) tt)
+      (two (right refl refl refl (refl, tt) (refl, tt) (refl, tt) (interrupts_by 3 4 3 refl ended.Interrupted) (refl, (tt, tt)) tt)
       (two (right refl refl refl (refl, tt) (refl, tt) (refl, tt)
-      (record { cancel = None; arm = armings.None; start = []; stamp = 4; arms = refl; done = refl }, (refl, refl)) (refl, (tt, tt))
+      (record { cancel = None; arm = armings.None; start = []; stamp = 4; turn = begins refl; arms = refl; done = refl }, (refl, refl)) (refl, (tt, tt))
       (14, le refl, le refl, point_passes _ _ _ _ _ refl, record { armed = refl; running = refl; moving = refl })) tt)))))
       ) tt;
 })

@@ -1,7 +1,7 @@
 -- Small witnesses, given by lists: short words for them, facts of all numbers by the places of lists, and timers that are not there.
-use Rattle.std.proofs.Common.{◌≡◌, ◌≤◌, le_refl, ℕ, ◌+◌, zero, suc, Bool, true, false, ◌&&◌, not, is_some, nat_eq, nat_le, nat_lt, None, Option, Some, List, [], ◌∷◌, ◌++◌, if◌then◌else◌, filter, flat_map, length, map, take, get_or, arith, refl, sym, ap, ◌∙◌, subst, inl}
+use Rattle.std.proofs.Common.{◌≡◌, ◌≤◌, le_refl, ℕ, ◌+◌, zero, suc, Bool, true, false, ◌&&◌, not, is_some, nat_eq, nat_le, nat_lt, None, Option, Some, MatchOption, List, [], ◌∷◌, ◌++◌, if◌then◌else◌, filter, flat_map, length, map, take, get_or, arith, refl, sym, ap, ◌∙◌, subst, inl}
 use Rattle.std.specs.List.{AllByRecursion, list_all}
-use Rattle.std.proofs.lemmas.Bool.{and_parts, true≢false}
+use Rattle.std.proofs.lemmas.Bool.{and_parts, eqb-true, true≢false}
 use Rattle.std.proofs.lemmas.List.{get_or_past, length-map, take-map}
 use Rattle.ktime.specs.declared.mode.Mode.{Mode}
 use Rattle.ktime.specs.declared.timespec.TimeSpec.{TimeSpec}
@@ -33,9 +33,9 @@ use Rattle.run_history.specs.Actions.{Action, also, Began, Entered, Made}
 use Rattle.run_history.specs.Histories.{reading_at}
 use Rattle.script_text.specs.Declarations.{base_of, declared_as, declareds_of, terms_of}
 use Rattle.run_history.specs.Order.{calls_from}
-use Rattle.run_history.specs.Starts.{Arming, FindsOnLine, first_number, IsArming, IsJustBefore, IsSentByHeirs, Sight}
+use Rattle.run_history.specs.Starts.{Arming, FindsOnLine, first_number, from_moment, IsArming, IsJustBefore, IsSentByHeirs, Sight}
 use Rattle.run_history.specs.Deeds.{fires}
-use Rattle.run_history.specs.ObjectCalls.{AreValidFor, Arms, MakesAnew, nanoseconds_of}
+use Rattle.run_history.specs.ObjectCalls.{AreValidFor, Arms, HasBegun, MakesAnew, nanoseconds_of}
 use Rattle.timer_setting.specs.Arguments.{mode_by}
 use Rattle.run_history.specs.Truths.{IsDone}
 use Rattle.run_history.specs.Witnesses.{Witness, entries_in, entry_of_move, Fired, is_owner, Move, moves_on, OfBase, OfRise, OfTimer, Owner, owner_of, Shown, system_along, timer_along, TimersList, Trace}
@@ -132,25 +132,42 @@ stays {sight} {timer} {limit} {base} {a} below none same on ends early = record 
   way = subst (λ outs. IsSentByHeirs sight timer base outs a.number a.asked) (sym none) (on_line same on ends early);
 }
 
+-- a call on an object begins its turn by its first move
+abbrev pub begins : {sight : Sight} {timer stamp : ℕ} → nat_lt (stamp + stamp) (sight.turns (sight.first + 1) timer) ≡ true → HasBegun sight timer stamp
+begins {sight} begun = record { begun = sight.first + 1; from = omega arith; turn = lt begun }
+
+-- the sight of a call from behind its first move on
+abbrev pub behind_first : Sight → Sight
+behind_first sight = from_moment sight (sight.first + 1)
+
 -- a call on an object that found its timer idle, starts it by this entry, and makes this entry of its object
 pub armed_anew : {sight : Sight} {limit timer reading ns : ℕ} {kind : Kind} {mode : Mode} {entry : Entry} (of_object : Armed → ObjectEntry)
-    (stamp number : ℕ) → Arms sight limit timer mode ns reading (base_of kind) (armings.Generation number) (Entered timer number entry ∷ [])
+    (stamp number : ℕ) → nat_lt (stamp + stamp) (sight.turns (sight.first + 1) timer) ≡ true
+    → Arms (behind_first sight) limit timer mode ns reading (base_of kind) (armings.Generation number) (Entered timer number entry ∷ [])
     → MakesAnew sight limit kind timer (Some (record { mode = mode; ns = ns })) reading of_object
     (turn_of timer stamp (Entered timer number entry ∷ []) (of_object (armings.Generation number)))
-armed_anew {timer = timer} {entry = entry} of_object stamp number arms =
-    record { cancel = None; arm = armings.Generation number; start = Entered timer number entry ∷ []; stamp = stamp; arms = arms; done = refl }
+armed_anew {timer = timer} {entry = entry} of_object stamp number begun arms = record {
+  cancel = None;
+  arm = armings.Generation number;
+  start = Entered timer number entry ∷ [];
+  stamp = stamp;
+  turn = begins begun;
+  arms = arms;
+  done = refl;
+}
 
 -- a settime that did
 pub set_anew : {sight : Sight} {limit timer flags reading : ℕ} {kind : Kind} {value interval : TimeSpec} {entry : Entry} (stamp number : ℕ)
-    → AreValidFor kind flags value interval
-    → Arms sight limit timer (mode_by flags) (nanoseconds_of value) reading (base_of kind) (armings.Generation number) (Entered timer number entry ∷ [])
+    → nat_lt (stamp + stamp) (sight.turns (sight.first + 1) timer) ≡ true → AreValidFor kind flags value interval
+    → Arms (behind_first sight) limit timer (mode_by flags) (nanoseconds_of value) reading (base_of kind) (armings.Generation number)
+    (Entered timer number entry ∷ [])
     → MakesAnew sight limit kind timer (Some (record { mode = mode_by flags; ns = nanoseconds_of value })) reading
     (λ arm. object_entries.Settime flags (nanoseconds_of value) (nanoseconds_of interval) reading arm (settings.Old 0 0))
     (turn_of timer stamp (Entered timer number entry ∷ [])
     (object_entries.Settime flags (nanoseconds_of value) (nanoseconds_of interval) reading (armings.Generation number) (settings.Old 0 0)))
     × AreValidFor kind flags value interval
-set_anew {flags = flags} {reading = reading} {value = value} {interval = interval} stamp number valid arms = (
-  armed_anew (λ arm. object_entries.Settime flags (nanoseconds_of value) (nanoseconds_of interval) reading arm (settings.Old 0 0)) stamp number arms,
+set_anew {flags = flags} {reading = reading} {value = value} {interval = interval} stamp number begun valid arms = (
+  armed_anew (λ arm. object_entries.Settime flags (nanoseconds_of value) (nanoseconds_of interval) reading arm (settings.Old 0 0)) stamp number begun arms,
   valid,
 )
 
@@ -163,9 +180,24 @@ finds_pass true None e is = refl
 finds_pass true (Some heir) e is = absurd (cc)
 finds_pass false heir e is = absurd (true≢false (sym is))
 
+-- whether a timer that is sent on, if it is on the move, goes to the heir of its base
+abbrev pub follows : Bool → Option ℕ → Option ℕ → Bool
+follows false sent heir = true
+follows true None heir = true
+follows true (Some base) None = false
+follows true (Some base) (Some heir) = nat_eq heir base
+
+follows_pass : (moving : Bool) (sent heir : Option ℕ) → follows moving sent heir ≡ true → moving ≡ true
+    → MatchOption sent (Unit {0}) (λ base. heir ≡ Some base)
+follows_pass false sent heir e is = absurd (true≢false (sym is))
+follows_pass true None heir e is = tt
+follows_pass true (Some base) None e is = absurd (true≢false (sym e))
+follows_pass true (Some base) (Some heir) e is = ap (λ b. Some b) (eqb-true heir base e)
+
 -- an entry of a timer may come next
 pub step : {bases count : ℕ} {w : System} {e : TimerEntry}
-    → (nat_lt e.timer count && finds (is_start (effect (w.timers e.timer) e.event)) (w.bases (w.timers e.timer).base).standing.heir) ≡ true
+    → (nat_lt e.timer count && (finds (is_start (effect (w.timers e.timer) e.event)) (w.bases (w.timers e.timer).base).standing.heir
+    && follows (w.timers e.timer).moving (effect (w.timers e.timer) e.event).sent (w.bases (w.timers e.timer).base).standing.heir)) ≡ true
     → Needs (w.timers e.timer) e.event → e.reply ≡ reply_to (w.timers e.timer) e.event
     → NeedsOfBases (BeginsInTurn (w.bases (w.timers e.timer).base) e.timer (w.timers e.timer)) bases (effect (w.timers e.timer) e.event).function
     (effect (w.timers e.timer) e.event).sent
@@ -173,8 +205,16 @@ pub step : {bases count : ℕ} {w : System} {e : TimerEntry}
 step {w = w} {e = e} there needs reply base =
     let b = w.bases (w.timers e.timer).base in
     let starts = is_start (effect (w.timers e.timer) e.event) in
-    let parts = and_parts (nat_lt e.timer _) (finds starts b.standing.heir) there in
-    record { within = lt parts.0; needs = needs; reply = reply; base = record { needs = base; online = finds_pass starts b.standing.heir parts.1 } }
+    let moving = (w.timers e.timer).moving in
+    let sent = (effect (w.timers e.timer) e.event).sent in
+    let parts = and_parts (nat_lt e.timer _) (finds starts b.standing.heir && follows moving sent b.standing.heir) there in
+    let both = and_parts (finds starts b.standing.heir) (follows moving sent b.standing.heir) parts.1 in
+    record {
+      within = lt parts.0;
+      needs = needs;
+      reply = reply;
+      base = record { needs = base; online = finds_pass starts b.standing.heir both.0; heir = follows_pass moving sent b.standing.heir both.1 };
+    }
 
 -- ---- facts of all numbers
 

@@ -499,6 +499,60 @@ asking_by base = off_line_record ([] ∷ (base_entry_line 0 (shifts.Offline 0) �
 abbrev pub asking_record : RunRecord
 asking_record = asking_by 0
 
+-- ---- the same, while another lane's run goes on: its callback's claim stands behind the base that goes off line
+
+-- the script
+abbrev pub meanwhile_script : Script
+meanwhile_script = case_script_in versions.Two 2 2 (hard_raw (callbacks.Starts 50 1) ∷ [])
+    ((by 0 (calls.Offline 1 0 4) ∷ by 0 (case_start 0 modes.Abs 0 0) ∷ by 1 (hard_expire 0 1) ∷ []) ∷ [])
+
+-- the record, by the base that the callback's start asks for
+abbrev pub meanwhile_by : ℕ → RunRecord
+meanwhile_by base = record (off_line_record ([] ∷ (base_entry_line 0 (shifts.Offline 0) ∷ []) ∷ [])
+    ((line 0 1 (start modes.Abs 0 0) ∷ line 1 0 (claim_entry 0 0 1) ∷ line 1 0 (case_start_entry modes.Rel 50 0 base 0 50 false)
+    ∷ line 1 0 (finish_entry true 1) ∷ []) ∷ []) [])
+    { answers = (answers.Offline 0 1 ∷ answers.Started 1 0 false ∷ []) ∷ (answers.More 0 (0 ∷ []) ∷ []) ∷ [] }
+
+-- its record
+abbrev pub meanwhile_record : RunRecord
+meanwhile_record = meanwhile_by 0
+
+-- ---- a base goes off line and on line, and its lane sees a timer without an entry; then another lane's start sends the timer there
+
+-- the script
+abbrev pub again_script : Script
+again_script = case_script_in versions.Two 2 2 (hard_raw callbacks.Once ∷ [])
+    ((by 0 (calls.Offline 1 0 4) ∷ by 0 (calls.Online 1) ∷ by 0 (calls.Peek 0) ∷ by 1 (case_start 0 modes.Abs 50 1) ∷ []) ∷ [])
+
+-- the record, by the timer's entries, and what its start is answered
+abbrev pub again_by : List TimerLine → Answer → RunRecord
+again_by lines answer = record (off_line_record ([] ∷ (base_entry_line 0 (shifts.Offline 0) ∷ base_entry_line 1 shifts.Online ∷ []) ∷ []) (lines ∷ []) []) {
+  answers = (answers.Offline 0 1 ∷ answers.Online 2 ∷ answers.Peek 0 0 false false false ∷ [])
+      ∷ (answer ∷ []) ∷ [];
+}
+
+-- its record
+abbrev pub again_record : RunRecord
+again_record = again_by (line 1 0 (out_entry 1 false) ∷ line 1 0 (case_start_entry modes.Abs 50 0 1 1 50 false) ∷ []) (answers.Started 2 1 false)
+
+-- ---- a base goes off line, and its lane sees an object without an entry; then another lane sets the object, whose timer goes to the heir
+
+-- the script
+abbrev pub turning_script : Script
+turning_script = case_script_in versions.Two 2 2 (kinds.Posix 1 ∷ [])
+    ((by 0 (calls.Offline 1 0 4) ∷ by 0 (calls.Overrun 0) ∷ by 1 (settime_to 100) ∷ []) ∷ [])
+
+-- the record, by the timer's entries before its start, and the start's number
+abbrev pub turning_by : List TimerLine → ℕ → RunRecord
+turning_by lines number = record (object_record [] ((lines ++ line 1 0 (set_start 100 0 false) ∷ []) ∷ [])
+    ((case_object_line 1 0 (set_entry_of 100 0 number 0) ∷ []) ∷ [])
+    ((answers.Offline 0 1 ∷ answers.Overrun 0 0 ∷ []) ∷ (answers.Old 0 0 ∷ []) ∷ []))
+    { version = versions.Two; bases = [] ∷ (base_entry_line 0 (shifts.Offline 0) ∷ []) ∷ [] }
+
+-- its record
+abbrev pub turning_record : RunRecord
+turning_record = turning_by [] 1
+
 -- ---- a base is taken off line, and then another is asked to go off line with that one as its heir
 
 -- the script

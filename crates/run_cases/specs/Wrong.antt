@@ -20,7 +20,7 @@ use Rattle.script_text.specs.declared.script.Callback.TheVariants as callbacks
 use Rattle.script_text.specs.declared.script.Kind.TheVariants as kinds
 use Rattle.script_text.specs.declared.script.Kind.{Kind}
 use Rattle.script_text.specs.declared.script.Script.{Script}
-use Rattle.run_cases.specs.Fitting.{accepts_by, armed_seen_by, asking_by, asleep_entry, awaited_by, busy_by, canceled_by, ended_by, filled_by, first_expiry, full_by, interrupted_by, nothing_by, read_again, refused_by, second_set, seen_by, set_seen_by, signals_by, skipped_by, started_by, two_expiries_by, unreadable_by}
+use Rattle.run_cases.specs.Fitting.{accepts_by, armed_seen_by, asking_by, asleep_entry, awaited_by, busy_by, canceled_by, ended_by, filled_by, first_expiry, full_by, interrupted_by, meanwhile_by, nothing_by, read_again, refused_by, second_set, seen_by, set_seen_by, signals_by, skipped_by, started_by, turning_by, again_by, two_expiries_by, unreadable_by}
 use Rattle.run_cases.specs.Lines.{accepted_entry, advance_line, at, base_entry_line, by, cancel_entry, case_object_line, case_record_in, case_script, case_script_in, case_start, case_start_entry, claim_entry, claim_lines, claimed_by, counted_entry, expired_record, expired_script, finish_entry, hard_expire, hard_raw, line, object_record, off_line_record, out_entry, queued_record, queued_script, raw_record, set_entry_of, set_start, settime_of, settime_to, slack_entry, slack_start, sleep_of, sleeper_record, sleeper_script, start}
 
 -- two timers whose callbacks do nothing
@@ -270,6 +270,25 @@ sent_off_record = off_line_record ([] ∷ (base_entry_line 0 (shifts.Offline 0) 
 -- a record that breaks it
 abbrev pub asking_off_record : RunRecord
 asking_off_record = asking_by 1
+
+-- ---- the same, and the base went off line within the run, but before the callback's claim: the script of the run that goes on meanwhile
+
+-- a record that breaks it
+abbrev pub meanwhile_off_record : RunRecord
+meanwhile_off_record = meanwhile_by 1
+
+-- ---- a start sends its timer on from a base that is on line again: the script of the base that goes off line and on line
+
+-- a record that breaks it
+abbrev pub sent_again_record : RunRecord
+sent_again_record = again_by (line 1 0 (out_entry 1 false) ∷ line 1 0 (out_entry 0 false) ∷ line 1 0 (case_start_entry modes.Abs 50 0 0 0 50 false) ∷ [])
+    (answers.Started 3 0 false)
+
+-- ---- a settime sends its timer to a base that went off line before the settime's turn: the script of the object that is set behind that
+
+-- a record that breaks it
+abbrev pub turning_off_record : RunRecord
+turning_off_record = turning_by (line 1 0 (out_entry 1 false) ∷ line 1 0 (out_entry 0 false) ∷ []) 3
 
 -- ---- a base goes off line with a timer armed on it
 

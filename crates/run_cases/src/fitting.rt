@@ -124,6 +124,24 @@ pub fn a_callbacks_start_asks_for_the_heir()
     ensures { Fits fitting.asking_script fitting.asking_record }
 {}
 
+/// The same, while another lane's run goes on: its callback's claim stands behind the base that goes off line.
+#[tactic(auto, using(crate::proofs::ClaimedFirst::meanwhile_fits))]
+pub fn a_callback_asks_for_an_heir_of_its_own_run()
+    ensures { Fits fitting.meanwhile_script fitting.meanwhile_record }
+{}
+
+/// A base goes off line and on line again, and another lane's start sends its timer there.
+#[tactic(auto, using(crate::proofs::SentTwice::again_fits))]
+pub fn a_start_goes_to_a_base_that_is_on_line_again()
+    ensures { Fits fitting.again_script fitting.again_record }
+{}
+
+/// A base goes off line, and then another lane sets an object: its timer goes to the heir.
+#[tactic(auto, using(crate::proofs::TurnFirst::turning_fits))]
+pub fn a_settime_goes_to_the_heir()
+    ensures { Fits fitting.turning_script fitting.turning_record }
+{}
+
 /// A base isn't taken off line with an heir that is off line.
 #[tactic(auto, using(crate::proofs::RefusedHeir::refused_fits))]
 pub fn an_heir_off_line_is_refused()

@@ -160,6 +160,24 @@ pub fn no_callback_asks_for_a_base_off_line()
     ensures { Fits fitting.asking_script wrong.asking_off_record → ⊥ }
 {}
 
+/// A callback's start doesn't tell that it asked for a base that went off line within its run's call, but before the callback's own claim.
+#[tactic(auto, using(crate::proofs::ClaimedFirst::meanwhile_off_doesnt_fit))]
+pub fn no_callback_asks_for_a_base_off_line_at_its_claim()
+    ensures { Fits fitting.meanwhile_script wrong.meanwhile_off_record → ⊥ }
+{}
+
+/// A start doesn't send its timer on from a base that is on line, though that was off line while the start went on, before the timer left for it.
+#[tactic(auto, using(crate::proofs::SentTwice::sent_again_doesnt_fit))]
+pub fn no_timer_is_sent_on_from_a_base_on_line()
+    ensures { Fits fitting.again_script wrong.sent_again_record → ⊥ }
+{}
+
+/// A settime doesn't send its timer to a base that went off line within its call, but before its turn of the object.
+#[tactic(auto, using(crate::proofs::TurnFirst::turning_off_doesnt_fit))]
+pub fn no_settime_sends_to_a_base_off_line_at_its_turn()
+    ensures { Fits fitting.turning_script wrong.turning_off_record → ⊥ }
+{}
+
 /// A base doesn't go off line with a timer armed on it.
 #[tactic(auto, using(crate::proofs::OffLine::left_doesnt_fit))]
 pub fn a_base_goes_off_line_empty()

@@ -29,7 +29,7 @@ use Rattle.record_text.specs.declared.record.InterruptReply.{InterruptReply}
 use Rattle.timer_setting.specs.Arguments.{mode_by}
 use Rattle.timer_setting.specs.declared.arming.Wanted.{Wanted}
 use Rattle.run_history.specs.Actions.{Action, Began, Made}
-use Rattle.run_history.specs.ObjectCalls.{AreValidFor, Arms, ArmsAs, cancels, IsProperSleep, MakesAnew, MakesRearming, nanoseconds_of}
+use Rattle.run_history.specs.ObjectCalls.{AreValidFor, Arms, ArmsAs, HasBegun, cancels, IsProperSleep, MakesAnew, MakesRearming, nanoseconds_of}
 use Rattle.script_text.specs.Declarations.{base_of, kind_of, without_slack}
 use Rattle.run_history.specs.Starts.{SentTo, arming_actions, Sight}
 use Rattle.script_text.specs.declared.script.Call.TheVariants as calls
@@ -78,7 +78,8 @@ FoundIdle w timer (Some cancel) begun = Unit
 -- what such a call of a reading that makes an entry knows at its end, between a moment before its turn and its last
 pub record IsAnew (w : Witness) (c : Label) (notes : List PlacedEntry) (at begin last timer : ℕ) (wanted : Option Wanted) (cancel : Option (ℕ × ℕ))
     (arm : Armed) (start : List Action) (stamp : ℕ) : Type 0 where
-  pub arms : ArmsAs (sight_of w begin last) w.script.limit timer wanted at (base_of (kind_of w.script timer)) arm start
+  pub turn : HasBegun (sight_of w begin last) timer stamp
+  pub arms : ArmsAs (sight_of w turn.begun last) w.script.limit timer wanted at (base_of (kind_of w.script timer)) arm start
   -- where its turn had begun, and where it had made its entries of the timer, which it had found idle or cancelled; the object's was yet to come
   pub begun : ℕ
   pub ends : ℕ
@@ -142,7 +143,8 @@ module _ {w : Witness} {moves signals : Spans} {c : Label} {at begin last timer 
   -- such a call had disarmed its timer by any moment behind its turn's beginning
   disarmed_by : (to : ℕ) → anew.begun ≤ to → DisarmedFirst w c begin to timer (anew_actions timer cancel start stamp (entry arm))
   disarmed_by to behind =
-      disarmed (sight_of w begin last) w.script.limit w c timer at (base_of (kind_of w.script timer)) begin anew.begun to wanted cancel arm start stamp
+      disarmed (sight_of w anew.turn.begun last) w.script.limit w c timer
+      at (base_of (kind_of w.script timer)) begin anew.begun to wanted cancel arm start stamp
       (entry arm) anew.arms anew.idle anew.from behind
       (moment_of kept (Began timer stamp ∷ []) anew.begun (omega (arith, low, anew.from)) (omega (arith, anew.between, anew.high)) anew.begins)
 
@@ -173,12 +175,12 @@ module _ {w : Witness} {moves signals : Spans} {c : Label} {at begin last timer 
   anew_made holds does seen =
       let upto : begin ≤ anew.ends = omega (arith, anew.from, anew.between) in
       call_made kept low (omega (arith, upto, anew.high)) anew.behind
-      (does (record { cancel = cancel; arm = arm; start = start; stamp = stamp; arms = anew.arms; done = refl }))
+      (does (record { cancel = cancel; arm = arm; start = start; stamp = stamp; turn = anew.turn; arms = anew.arms; done = refl }))
       (none_moved _ call, none_moved _ call)
       (plain_then w c begin anew.ends last [] turn (Made timer (stamp + 1) (entry arm)) (
         tt,
         plain_both timer cancel start
-            (plain_anew (sight_of w begin last) w.script.limit timer at (base_of (kind_of w.script timer)) wanted arm start anew.arms),
+            (plain_anew (sight_of w anew.turn.begun last) w.script.limit timer at (base_of (kind_of w.script timer)) wanted arm start anew.arms),
       ) upto anew.high (point, holds anew.holds))
       seen
 
@@ -260,7 +262,8 @@ pub record IsRearmed (w : Witness) (c : Label) (notes : List PlacedEntry) (at be
     (stamp : ℕ) : Type 0 where
   pub ns : ℕ
   pub timely : ns ≤ last_time
-  pub arms : Arms (sight_of w begin last) w.script.limit timer modes.Keep ns at (base_of (kind_of w.script timer)) arm start
+  pub turn : HasBegun (sight_of w begin last) timer stamp
+  pub arms : Arms (sight_of w turn.begun last) w.script.limit timer modes.Keep ns at (base_of (kind_of w.script timer)) arm start
   -- where it had made its entries of the timer; the object's was yet to come
   pub ends : ℕ
   pub between : begin ≤ ends
@@ -283,11 +286,21 @@ module _ {w : Witness} {moves signals : Spans} {c : Label} {at begin last timer 
       → AnswerHolds w begin last c at (rearming_actions timer start stamp (entry arm)) call answer → FitsCall w c call answer before after
   rearming_made holds does seen =
       call_made kept low (omega (arith, rearmed.between, rearmed.high)) rearmed.behind
-      (does (record { arm = arm; ns = rearmed.ns; start = start; stamp = stamp; timely = rearmed.timely; arms = rearmed.arms; done = refl }))
+      (does (record {
+        arm = arm;
+        ns = rearmed.ns;
+        start = start;
+        stamp = stamp;
+        timely = rearmed.timely;
+        turn = rearmed.turn;
+        arms = rearmed.arms;
+        done = refl;
+      }))
       (none_moved _ call, none_moved _ call)
       (plain_then w c begin rearmed.ends last [] (Began timer stamp ∷ start) (Made timer (stamp + 1) (entry arm)) (
         tt,
-        plain_start (sight_of w begin last) w.script.limit timer rearmed.ns at (base_of (kind_of w.script timer)) modes.Keep arm start rearmed.arms,
+        plain_start (sight_of w rearmed.turn.begun last) w.script.limit timer rearmed.ns
+            at (base_of (kind_of w.script timer)) modes.Keep arm start rearmed.arms,
       ) rearmed.between rearmed.high (
         moment_of kept (Began timer stamp ∷ start) rearmed.ends (omega (arith, low, rearmed.between)) rearmed.high rearmed.stops,
         holds rearmed.holds,

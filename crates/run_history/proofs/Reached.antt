@@ -10,10 +10,10 @@ use Rattle.script_text.specs.declared.script.Callback.TheVariants as callbacks
 use Rattle.script_text.specs.declared.script.Kind.{Kind}
 use Rattle.script_text.specs.declared.script.Kind.TheVariants as kinds
 use Rattle.run_history.specs.Actions.{Action}
-use Rattle.run_history.specs.Deeds.{IsBody, IsCallback}
+use Rattle.run_history.specs.Deeds.{IsBody, IsCallback, StartsItself}
 use Rattle.run_history.specs.Truths.{sight_of}
 use Rattle.run_history.specs.ObjectCalls.{Arms, ArmsAs}
-use Rattle.run_history.specs.Starts.{Arming, FindsOnLine, IsArming, IsSentByHeirs, IsSentOnByHeirs, HeirsLeadTo, SentTo, Sight}
+use Rattle.run_history.specs.Starts.{Arming, FindsOnLine, IsArming, IsSentByHeirs, IsSentOnByHeirs, HeirsLeadTo, SentTo, Sight, from_moment}
 use Rattle.run_history.specs.Witnesses.{Fired, Witness}
 
 -- the same is seen of the run, over at least as long a time
@@ -72,7 +72,19 @@ module _ (narrow wide : Sight) (is : IsWider narrow wide) where
   as_wider limit timer None reading base arm start arms = arms
   as_wider limit timer (Some wanted) reading base arm start arms = arms_wider limit timer wanted.mode wanted.ns reading base arm start arms
 
-  -- ---- expiry runs
+-- ---- expiry runs
+
+module _ (narrow wide : Sight) (is : IsWider narrow wide) where
+  starts_wider : {limit base : ℕ} {f : Fired} {a : Arming} → StartsItself narrow limit base f a → StartsItself wide limit base f a
+  starts_wider {f = f} starts =
+      let later : IsWider (from_moment narrow starts.begun) (from_moment wide starts.begun) =
+      record { heir = is.heir; stamp = is.stamp; first = le_refl starts.begun; last = is.last } in
+      record {
+        begun = starts.begun;
+        from = omega (arith, is.first, starts.from);
+        claimed = omega (arith, is.stamp starts.begun f.timer, starts.claimed);
+        arming = arming_wider (from_moment narrow starts.begun) (from_moment wide starts.begun) later starts.arming;
+      }
 
   callback_wider : (limit : ℕ) (callback : Callback) (reading : ℕ) (f : Fired) → IsCallback narrow limit callback reading f
       → IsCallback wide limit callback reading f
@@ -80,7 +92,7 @@ module _ (narrow wide : Sight) (is : IsWider narrow wide) where
   callback_wider limit (callbacks.Every interval) reading f is = is
   callback_wider limit callbacks.Cancels reading f is = is
   callback_wider limit (callbacks.Starts ns base) reading f is =
-      (⊎_elim (λ started. inl (started.0, started.1, arming_wider started.2)) (λ spent. inr spent) is.0, is.1)
+      (⊎_elim (λ started. inl (started.0, started.1, starts_wider started.2)) (λ spent. inr spent) is.0, is.1)
 
   pub body_wider : (limit : ℕ) (kind : Kind) (reading : ℕ) (f : Fired) → IsBody narrow limit kind reading f → IsBody wide limit kind reading f
   body_wider limit (kinds.Raw context callback) reading f is = callback_wider limit callback reading f is

@@ -1,5 +1,5 @@
 -- What calls do: callbacks in an expiry run, timers moved off a base; and what a call did as one value (`Deed`), with what that means (`Did`).
-use Rattle.std.specs.Prelude.{ℕ, ◌≡◌, ◌+◌, ◌-◌, Bool, true, false, ◌⊎◌, Option, List, [], ◌∷◌, ◌++◌, length, map, flat_map}
+use Rattle.std.specs.Prelude.{ℕ, ◌≡◌, ◌≤◌, ◌+◌, ◌-◌, Bool, true, false, ◌⊎◌, Option, List, [], ◌∷◌, ◌++◌, length, map, flat_map}
 use Rattle.std.specs.List.{AllByRecursion}
 use Rattle.ktime.specs.declared.mode.Mode.TheVariants as modes
 use Rattle.script_text.specs.declared.script.Callback.{Callback}
@@ -26,7 +26,7 @@ use Rattle.seq_timer.specs.declared.standing.BaseEvent.{BaseEvent}
 use Rattle.record_text.specs.declared.record.ObjectEntry.TheVariants as object_entries
 use Rattle.script_text.specs.Declarations.{declared_of, without_slack, kind_of}
 use Rattle.run_history.specs.Histories.{timer_after}
-use Rattle.run_history.specs.Starts.{Arming, IsArming, Sight, arming_actions, was_armed_before}
+use Rattle.run_history.specs.Starts.{Arming, IsArming, Sight, arming_actions, from_moment, was_armed_before}
 use Rattle.run_history.specs.ObjectCalls.{MakesAnew, MakesRearming}
 use Rattle.run_history.specs.Actions.{Action, Began, Wrote, Entered, Looked, Made, Shifted, Skipped}
 use Rattle.run_history.specs.Witnesses.{Evacuation, Fired}
@@ -83,6 +83,13 @@ AllKeepExpiries s r call moved = AllMoved (λ base e. KeepsExpiries base (timer_
 
 -- by what the call saw
 module _ (sight : Sight) where
+  -- a function started its own timer: its bases were found on line from a moment on that stands behind the function's claim
+  pub record StartsItself (limit base : ℕ) (f : Fired) (a : Arming) : Type 0 where
+    pub begun : ℕ
+    pub from : sight.first ≤ begun
+    pub claimed : f.claim ≤ sight.stamp begun f.timer
+    pub arming : IsArming (from_moment sight begun) f.timer limit base a
+
   -- what a raw timer's callback may do, and whether it asks for a restart, by its declaration
   abbrev pub IsCallback : ℕ → Callback → ℕ → Fired → Type 0
   IsCallback limit callbacks.Once reading f = (f.body ≡ []) × (f.restart ≡ false)
@@ -94,7 +101,7 @@ module _ (sight : Sight) where
       × (f.restart ≡ true)
   IsCallback limit callbacks.Cancels reading f = ((number : ℕ) × (f.body ≡ Looked f.timer number (told.Running f.generation) ∷ [])) × (f.restart ≡ false)
   IsCallback limit (callbacks.Starts ns base) reading f =
-      (((a : Arming) × (f.body ≡ arming_actions f.timer (without_slack modes.Rel ns base) reading a) × IsArming sight f.timer limit base a)
+      (((a : Arming) × (f.body ≡ arming_actions f.timer (without_slack modes.Rel ns base) reading a) × StartsItself limit base f a)
       ⊎ ((number : ℕ) × (f.body ≡ Looked f.timer number told.Spent ∷ [])))
       × (f.restart ≡ true)
 

@@ -1,5 +1,5 @@
 -- What the calls on objects do that make an entry: which arguments they take, how they arm the object's timer, and the entry.
-use Rattle.std.specs.Prelude.{ℕ, ◌≡◌, ◌+◌, ◌≤◌, false, Option, Some, None, List, [], ◌∷◌, ◌++◌}
+use Rattle.std.specs.Prelude.{ℕ, ◌≡◌, ◌+◌, ◌<◌, ◌≤◌, false, Option, Some, None, List, [], ◌∷◌, ◌++◌}
 use Rattle.ktime.specs.declared.mode.Mode.{Mode}
 use Rattle.ktime.specs.declared.mode.Mode.TheVariants as modes
 use Rattle.ktime.specs.declared.timespec.TimeSpec.{TimeSpec}
@@ -15,7 +15,7 @@ use Rattle.timer_fd.specs.States.{fd_flags}
 use Rattle.script_text.specs.declared.script.Kind.{Kind}
 use Rattle.script_text.specs.declared.script.Kind.TheVariants as kinds
 use Rattle.run_history.specs.Actions.{Action, Began, Entered, Made}
-use Rattle.run_history.specs.Starts.{Arming, IsArming, Sight, arming_actions}
+use Rattle.run_history.specs.Starts.{Arming, IsArming, Sight, arming_actions, from_moment}
 use Rattle.script_text.specs.Declarations.{base_of, without_slack}
 
 -- the flags of a settime that an object of this kind has
@@ -54,13 +54,22 @@ module _ (sight : Sight) (limit : ℕ) where
   ArmsAs timer None reading base arm actions = (arm ≡ armings.None) × (actions ≡ [])
   ArmsAs timer (Some wanted) reading base arm actions = Arms timer wanted.mode wanted.ns reading base arm actions
 
+-- at this moment of a call the turn of an object had begun behind so many entries of it
+pub record HasBegun (sight : Sight) (timer stamp : ℕ) : Type 0 where
+  pub begun : ℕ
+  pub from : sight.first ≤ begun
+  pub turn : stamp + stamp < sight.turns begun timer
+
+-- The same of calls that make an entry of an object. Such a call finds its bases on line within its turn: from a moment on at which that had begun.
+module _ (sight : Sight) (limit : ℕ) where
   -- a call that arms its timer anew and made an entry: in its turn of the object a cancel and a start, where there are any, and the entry of the object
   pub record MakesAnew (kind : Kind) (timer : ℕ) (wanted : Option Wanted) (reading : ℕ) (entry : Armed → ObjectEntry) (actions : List Action) : Type 0 where
     pub cancel : Option (ℕ × ℕ)
     pub arm : Armed
     pub start : List Action
     pub stamp : ℕ
-    pub arms : ArmsAs timer wanted reading (base_of kind) arm start
+    pub turn : HasBegun sight timer stamp
+    pub arms : ArmsAs (from_moment sight turn.begun) limit timer wanted reading (base_of kind) arm start
     pub done : actions ≡ Began timer stamp ∷ cancels timer cancel ++ start ++ Made timer (stamp + 1) (entry arm) ∷ []
 
   -- a call that looks how a timer's periods have passed, and arms it for its next expiry where it has expired: in its turn of the object a start that keeps
@@ -72,5 +81,6 @@ module _ (sight : Sight) (limit : ℕ) where
     pub stamp : ℕ
     -- the start shows this very time as its expiry, since it isn't past the end of time
     pub timely : ns ≤ last_time
-    pub arms : Arms timer modes.Keep ns reading (base_of kind) arm start
+    pub turn : HasBegun sight timer stamp
+    pub arms : Arms (from_moment sight turn.begun) limit timer modes.Keep ns reading (base_of kind) arm start
     pub done : actions ≡ Began timer stamp ∷ start ++ Made timer (stamp + 1) (entry arm) ∷ []

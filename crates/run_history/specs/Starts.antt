@@ -59,13 +59,18 @@ abbrev pub BasesFall : ℕ → List SentTo → Type 0
 BasesFall base [] = Unit
 BasesFall base (out ∷ outs) = (out.base < base) × BasesFall out.base outs
 
--- what is seen of a run at each moment, between the first and the last of a call: of each base its heir, while it is off line, and of each timer how many
--- entries it has
+-- what is seen of a run at each moment, between the first and the last of a call: of each base its heir, while it is off line, of each timer how many entries
+-- it has, and of each object how often its counter rose
 pub record Sight : Type 0 where
   pub heir : (moment base : ℕ) → Option ℕ
   pub stamp : (moment timer : ℕ) → ℕ
+  pub turns : (moment object : ℕ) → ℕ
   pub first : ℕ
   pub last : ℕ
+
+-- the same from a later moment on
+abbrev pub from_moment : Sight → ℕ → Sight
+from_moment sight first = record sight { first = first }
 
 -- by what a call saw
 module _ (sight : Sight) where

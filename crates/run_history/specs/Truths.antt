@@ -45,6 +45,7 @@ abbrev pub sight_of : Witness → ℕ → ℕ → Sight
 sight_of w first last = record {
   heir = λ n base. (standing_along w n base).heir;
   stamp = λ n timer. (timer_along w n timer).stamp;
+  turns = λ n object. turns_along w n object;
   first = first;
   last = last;
 }

@@ -186,8 +186,8 @@ abbrev pub turns_along : Witness → ℕ → ℕ → ℕ
 turns_along w n i = rises_of (suc i) (take n (entries_in w))
 
 -- The order is one of all entries and writes, and those of timers and bases together are one history that a library on one thread gives: each is a step of
--- its timer and of the base that it is on, is sent only to a base that is there, and is started only on one that is on line; each claim takes the first
--- timer of its context in the base's queues; and a base is taken off line only while it has no timer.
+-- its timer and of the base that it is on, is sent only to a base that is there, on its way to the heir of the base that it was sent to, and is started only on
+-- one that is on line; each claim takes the first timer of its context in the base's queues; and a base is taken off line only while it has no timer.
 pub record IsOneHistory (w : Witness) : Type 0 where
   pub all : (o : Owner) → moves_on o w.moves ≡ moves_from 0 (lines_at w.run o)
   pub history : IsSystemHistory w.script.bases (declareds_of w.script) (terms_of w.script) (entries_in w)

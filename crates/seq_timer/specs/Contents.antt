@@ -1,13 +1,15 @@
 -- What a base has: for each context its queues and the timer whose function runs there. An event changes the half of its timer's context.
 use Rattle.std.specs.Prelude.{ℕ, Option}
 use Rattle.std.specs.Option.{option_or}
+use Rattle.ktime.specs.declared.clock_id.ClockId.{ClockId}
 use Rattle.ktime.specs.Readings.{ClockReading}
+use Rattle.timer_queue.specs.Pairs.{first_of}
 use Rattle.seq_timer.specs.declared.context.Context.{Context}
 use Rattle.seq_timer.specs.declared.context.Context.TheVariants as contexts
 use Rattle.seq_timer.specs.Events.{Event}
 use Rattle.seq_timer.specs.Steps.{Timer}
 use Rattle.seq_timer.specs.Tables.{in_context}
-use Rattle.seq_timer.specs.Halves.{Half, IsHalfOf, first_in, front_in, half_after, no_half}
+use Rattle.seq_timer.specs.Halves.{Half, IsHalfOf, first_in, front_in, half_after, no_half, queue_of}
 
 -- a base's queues, with what runs there, for each context
 pub record Content : Type 0 where
@@ -39,6 +41,10 @@ first_due x timers c reading = first_in timers (half_of x c) reading
 -- the first pair of the first queue that isn't empty: those of the hard context stand before those of the soft one
 abbrev pub front_of : Content → Option (ℕ × ℕ)
 front_of c = option_or (front_in c.hard) (front_in c.soft)
+
+-- the first pair of a context's queue for a clock, due or not
+abbrev pub front_on : Context → ClockId → Content → Option (ℕ × ℕ)
+front_on x clock c = first_of (queue_of (half_of x c) clock)
 
 -- ---- what an event makes of the base that its timer is on
 

@@ -1,7 +1,7 @@
 -- The history of all timers and bases: one list of entries. Each is a step of its timer, and of the base that the timer is on, or takes a base off line
 -- or on line; the list alone says what each timer is and what each base has after it. Among them stand the rises of counters, which change neither and
 -- give other things a place in the same order.
-use Rattle.std.specs.Prelude.{ℕ, ◌≡◌, ◌+◌, ◌<◌, Bool, true, false, ◌==◌, List, [], ◌∷◌, length, map, set, Option, Some, None, if◌then◌else◌}
+use Rattle.std.specs.Prelude.{ℕ, ◌≡◌, ◌+◌, ◌<◌, Bool, true, false, ◌==◌, List, [], ◌∷◌, length, map, set, Option, Some, None, MatchOption, if◌then◌else◌}
 use Rattle.ktime.specs.Readings.{ClockReading}
 use Rattle.seq_timer.specs.declared.context.Context.{Context}
 use Rattle.seq_timer.specs.declared.context.Declared.{Declared}
@@ -92,10 +92,12 @@ abbrev pub BeginsInTurn : BaseContent → ℕ → Timer → ClockReading → Typ
 BeginsInTurn b id t reading =
     (running_in t.declared.context b.content ≡ None) × (next_on t.declared.context b reading ≡ Some (t.expires, id))
 
--- what an event of a timer needs of the bases, of which there are so many, and of the one that it is on: a start finds that on line
+-- what an event of a timer needs of the bases, of which there are so many, and of the one that it is on: a start finds that on line, and a timer on the move
+-- is sent on to its heir
 pub record FitsBase (bases : ℕ) (b : BaseContent) (id : ℕ) (t : Timer) (e : Event) : Type 0 where
   pub needs : NeedsOfBases (BeginsInTurn b id t) bases (effect t e).function (effect t e).sent
   pub online : is_start (effect t e) ≡ true → b.standing.heir ≡ None
+  pub heir : t.moving ≡ true → MatchOption (effect t e).sent (Unit {0}) (λ base. b.standing.heir ≡ Some base)
 
 -- an entry of a timer may come next
 pub record IsSystemStep (bases count : ℕ) (w : System) (e : TimerEntry) : Type 0 where

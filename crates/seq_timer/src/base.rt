@@ -1,7 +1,7 @@
 //! A base: for each context the queues of the timers that are armed on it, and the timer whose function runs there.
 ghost use Rattle.std.specs.Prelude.{◌≡◌, ◌<◌, ◌≤◌, IfOk, length};
 ghost use Rattle.seq_timer.specs.Bases.{BaseState, IsQueuedAs, base_after, empty_base};
-ghost use Rattle.seq_timer.specs.Contents.{first_due, front_of, running_in};
+ghost use Rattle.seq_timer.specs.Contents.{first_due, front_of, front_on, running_in};
 ghost use Rattle.seq_timer.specs.Steps.{Needs, after, reply_to};
 ghost use Rattle.seq_timer.specs.Tables.{timer_at};
 
@@ -9,7 +9,7 @@ use crate::context::Context;
 use crate::event::{Event, Reply};
 use crate::half::Half;
 use crate::timer_state::TimerState;
-use ktime::Reading;
+use ktime::{ClockId, Reading};
 use std::alloc::{AllocError, Global};
 use std::marker::Model;
 use timer_queue::Queue;
@@ -74,6 +74,16 @@ impl<Q: Queue> Base<Q> {
     {
         let hard = self.hard.front();
         hard.or(self.soft.front())
+    }
+
+    /// The first timer of this context's queue for a clock, with its expiry, due or not.
+    pub fn front_on(&self, context: Context, clock: ClockId) -> Option<(u64, u32)>
+        ensures { result ≡ front_on context clock self.now.content }
+    {
+        match context {
+            Context::Hard => self.hard.front_on(clock),
+            Context::Soft => self.soft.front_on(clock),
+        }
     }
 
     /// Makes one entry of a timer that is on this base: steps the timer, and the base with it.

@@ -1,7 +1,8 @@
 //! What a base has for one context: the queues of the timers that are armed on it, and the timer whose function runs there.
 ghost use Rattle.std.specs.Prelude.{◌≡◌, ◌<◌, ◌≤◌, ℕ, IfOk, length};
+ghost use Rattle.timer_queue.specs.Pairs.{first_of};
 ghost use Rattle.seq_timer.specs.Bases.{HalfState, IsInNone, IsQueuedIn, half_state_after, empty_half};
-ghost use Rattle.seq_timer.specs.Halves.{dequeued, enqueued, first_in, front_in, queued_by, reached, requeued, run_by};
+ghost use Rattle.seq_timer.specs.Halves.{dequeued, enqueued, first_in, front_in, queue_of, queued_by, reached, requeued, run_by};
 ghost use Rattle.seq_timer.specs.Steps.{Needs, after, reply_to};
 ghost use Rattle.seq_timer.specs.Tables.{timer_at};
 
@@ -74,6 +75,17 @@ impl<Q: Queue> Half<Q> {
         let second = self.realtime.first();
         let third = self.boottime.first();
         first.or(second.or(third))
+    }
+
+    /// The first timer of a clock's queue, with its expiry.
+    pub fn front_on(&self, clock: ClockId) -> Option<(u64, u32)>
+        ensures { result ≡ first_of (queue_of self.now.half clock) }
+    {
+        match clock {
+            ClockId::Monotonic => self.monotonic.first(),
+            ClockId::Realtime => self.realtime.first(),
+            ClockId::Boottime => self.boottime.first(),
+        }
     }
 
     /// Makes one entry of a timer of this base: steps the timer, and its queue and what runs here with it.

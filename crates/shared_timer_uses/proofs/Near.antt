@@ -44,6 +44,7 @@ may_start_here o v h t asked online whole inside held on here room = record {
         needs = tt;
         online = λ is. subst (λ q. (base_seen o v q).standing.heir ≡ None) (sym on.at)
             (subst (λ (x : BaseContent). x.standing.heir ≡ None) whole online);
+        heir = λ moves. tt;
       };
     };
     base = on.at;
@@ -66,7 +67,7 @@ may_leave o v h t to near inside held free on idle other there room = record {
       within = inside;
       needs = (idle, other, may_go (timer_seen o v t) to (subst (λ (k : Terms). k.reach ≡ 0) (sym (terms_now o.timers v.seen t)) (near t inside)) on.still room);
       reply = refl;
-      base = record { needs = there; online = λ is. absurd (true≢false (sym is)) };
+      base = record { needs = there; online = λ is. absurd (true≢false (sym is)); heir = λ moves. absurd (true≢false (sym moves ∙ on.still)) };
     };
     base = on.at;
     carries = λ moves. absurd (true≢false (sym moves ∙ on.still));

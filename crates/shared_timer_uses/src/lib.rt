@@ -7,6 +7,7 @@ pub use ordered::start_after;
 pub use periodic::{Periodic, Tick, expire_periodic};
 pub use sink::Counted;
 pub use threads::{Counts, expire_and_stop, start_anew, start_by_two, start_counted, start_often};
+pub use told::look;
 
 mod cancelling;
 mod once;
@@ -16,3 +17,4 @@ mod sink;
 #[cfg(test)]
 mod tests;
 mod threads;
+mod told;

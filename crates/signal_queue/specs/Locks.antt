@@ -7,11 +7,21 @@ use Rattle.atomic_table.specs.Table.{Me, State, Step}
 use Rattle.atomic_table.specs.declared.shared.Seat.{Seat}
 use Rattle.signal_queue.specs.Ends.{SeatOfQueue}
 use Rattle.signal_queue.specs.declared.lock.LockView.{LockView}
+use Rattle.signal_queue.specs.declared.lock.Past.{Past}
+use Rattle.signal_queue.specs.declared.lock.Past.TheVariants.{New, Refused, GaveBack}
 
 -- a lock, and a seat of the queue that its end is of
 pub record LockOf : Type 0 where
   pub id : TableId
   pub of : SeatOfQueue
+
+-- a seat of a lock
+abbrev pub SeatOfLock : Type 0
+SeatOfLock = Seat (Option SeatOfQueue) LockView
+
+-- the view of a seat without an end
+abbrev pub idle_lock_view : Past → SeatOfQueue → LockView
+idle_lock_view past of = record { of = of; holds = false; past = past }
 
 -- what is asked of an end, and of which queue it is
 module _ (is_end : SeatOfQueue → SeatOfQueue → Type 0) where
@@ -34,17 +44,36 @@ module _ (is_end : SeatOfQueue → SeatOfQueue → Type 0) where
   abbrev pub IsLock : SeatOfQueue → State (Option SeatOfQueue) LockView → Type 0
   IsLock of s = IsFree of s ⊎ HasTaker of s
 
-  -- a try: where the word was 0, the end was taken out of its slot
+  -- a try: where the word was 0, the end was taken out of its slot; else the seat was refused
   abbrev pub TriesLock : Step (Option SeatOfQueue) → Me (Option SeatOfQueue) LockView → ℕ → Me (Option SeatOfQueue) LockView → Type 0
   TriesLock st me found after =
-      MatchBool (found == 0) ((end : SeatOfQueue) × (after ≡ (record { of = me.0.of; holds = true }, (0, Some end) ∷ [])) × is_end me.0.of end)
-      (after ≡ (me.0, []))
+      MatchBool (found == 0) ((end : SeatOfQueue) × (after ≡ (record { of = me.0.of; holds = true; past = New }, (0, Some end) ∷ [])) × is_end me.0.of end)
+      (after ≡ (idle_lock_view Refused me.0.of, []))
+
+-- a look: where the word was not 0, the seat was refused
+abbrev pub SeesLock : Step (Option SeatOfQueue) → Me (Option SeatOfQueue) LockView → ℕ → Me (Option SeatOfQueue) LockView → Type 0
+SeesLock st me found after = MatchBool (found == 0) (after ≡ (me.0, [])) (after ≡ (idle_lock_view Refused me.0.of, []))
+
+-- the end is put back
+abbrev pub FreesLock : Step (Option SeatOfQueue) → Me (Option SeatOfQueue) LockView → ℕ → Me (Option SeatOfQueue) LockView → Type 0
+FreesLock st me found after = after ≡ (idle_lock_view GaveBack me.0.of, [])
 
 -- a new seat of a lock
 abbrev pub first_lock_view : SeatOfQueue → LockView
-first_lock_view of = record { of = of; holds = false }
+first_lock_view = idle_lock_view New
 
 -- the seat has the lock, with this in its slot
-pub record HoldsLock (lock : LockOf) (slot : Option SeatOfQueue) (seat : Seat (Option SeatOfQueue) LockView) : Type 0 where
+pub record HoldsLock (lock : LockOf) (slot : Option SeatOfQueue) (seat : SeatOfLock) : Type 0 where
   pub same : seat.table_id ≡ lock.id
-  pub me : seat.me ≡ (record { of = lock.of; holds = true }, (0, slot) ∷ [])
+  pub me : seat.me ≡ (record { of = lock.of; holds = true; past = New }, (0, slot) ∷ [])
+
+-- the seat came when somebody else had the end
+pub record FoundLent (lock : LockOf) (seat : SeatOfLock) : Type 0 where
+  pub same : seat.table_id ≡ lock.id
+  pub me : seat.me ≡ (idle_lock_view Refused lock.of, [])
+
+-- the seat that had the lock has put the end back
+pub record HasGivenBack (lock : LockOf) (held seat : SeatOfLock) : Type 0 where
+  pub same : seat.table_id ≡ lock.id
+  pub id : seat.id ≡ held.id
+  pub me : seat.me ≡ (idle_lock_view GaveBack lock.of, [])

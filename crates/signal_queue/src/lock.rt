@@ -1,7 +1,7 @@
 //! The lock by which an end of a queue is lent: a word, 1 while the end is lent, and a slot in which the end lies while it isn't.
-ghost use Rattle.std.specs.Prelude.{◌≡◌, IfOk, IfSome, Option, Some, None};
+ghost use Rattle.std.specs.Prelude.{◌≡◌, IfErr, IfOk, Option, Some, None};
 ghost use Rattle.signal_queue.specs.Ends.{SeatOfQueue};
-ghost use Rattle.signal_queue.specs.Locks.{HoldsLock};
+ghost use Rattle.signal_queue.specs.Locks.{FoundLent, HasGivenBack, HoldsLock};
 
 use crate::ends::Side;
 use crate::pass::QueueSeat;
@@ -11,12 +11,23 @@ use std::alloc::{AllocError, Global};
 use std::marker::{Model, PhantomData};
 use std::sync::Wait;
 
+/// What a seat did with its lock before. No value of it is made.
+pub enum Past {
+    /// Nothing.
+    New,
+    /// It came when somebody else had the end.
+    Refused,
+    /// It had the end, and has put it back.
+    GaveBack,
+}
+
 /// What a seat of a lock knows. No value of it is made.
 pub struct LockView {
     /// A seat of the queue that the lock's end is of.
     pub of: QueueSeat,
     /// It has the end.
     pub holds: bool,
+    pub past: Past,
 }
 
 /// The rule of a lock.
@@ -30,6 +41,15 @@ impl<S: Side> TableRule<Option<QueueSeat>, LockView, QueueSeat> for LockRule<S> 
     ghost holds = { IsLock S.is_end };
 
     ghost first = { first_lock_view };
+}
+
+/// A look whether the end is lent.
+pub struct Sees;
+
+impl Play<Option<QueueSeat>, LockView> for Sees {
+    ghost use Rattle.signal_queue.specs.Locks.{SeesLock};
+
+    ghost then = { SeesLock };
 }
 
 /// A try.
@@ -47,13 +67,26 @@ impl<S: Side> Play<Option<QueueSeat>, LockView> for Tries<S> {
 pub struct Frees;
 
 impl Play<Option<QueueSeat>, LockView> for Frees {
-    ghost use Rattle.std.specs.Prelude.{⊤};
+    ghost use Rattle.signal_queue.specs.Locks.{FreesLock};
 
-    ghost then = { λ st me found after. ⊤ };
+    ghost then = { FreesLock };
 }
 
-/// Who has an end, until it is given back.
+/// A seat of a lock.
 pub type LockSeat = Seat<Option<QueueSeat>, LockView>;
+
+/// The hold of a lock, with an end or for one. It can't be dropped: only `give` takes it.
+pub struct Hold {
+    seat: LockSeat,
+}
+
+impl Model for Hold {
+    ghost use Rattle.signal_queue.specs.Locks.{SeatOfLock};
+
+    ghost Value = { SeatOfLock };
+
+    ghost view = { λ h. h.seat };
+}
 
 /// The lock of an end.
 #[derive(Drop)]
@@ -86,61 +119,75 @@ impl<S: Side> EndLock<S> {
     }
 
     /// Takes the end, once nobody else has it.
-    pub fn take<R: Wait>(&self, rt: &R) -> (QueueSeat, LockSeat)
+    pub fn take<R: Wait>(&self, rt: &R) -> (QueueSeat, Hold)
         ensures end { S.is_end self.now.of result.0 }
         ensures holds { HoldsLock self.now None result.1 }
     {
         for _ in Retries::new(rt) {
-            if let Some(taken) = self.try_take() {
+            if let Ok(taken) = self.try_take() {
                 return taken;
             }
         }
         unreachable!()
     }
 
-    /// One try to take the lock. Its seat then has the end in its slot.
-    fn try_lock(&self) -> Option<LockSeat>
-        ensures { IfSome result (λ seat. (end : SeatOfQueue) × (S.is_end self.now.of end × HoldsLock self.now (Some end) seat)) }
+    /// One try to take the end. Where there is none, the seat is one that came when somebody else had it.
+    fn try_take(&self) -> Result<(QueueSeat, Hold), LockSeat>
+        ensures taken { IfOk result (λ r. S.is_end self.now.of r.0 × HoldsLock self.now None r.1) }
+        ensures refused { IfErr result (λ seat. FoundLent self.now seat) }
     {
-        let shared = &self.table.shared;
-        if shared.peek(0) != 0 {
-            return None;
-        }
-        let (found, seat) = shared.swap_new_seat::<Tries<S>>(0, 1);
-        (found == 0).then_some(seat)
-    }
-
-    fn try_take(&self) -> Option<(QueueSeat, LockSeat)>
-        ensures { IfSome result (λ r. S.is_end self.now.of r.0 × HoldsLock self.now None r.1) }
-    {
-        let mut seat = self.try_lock()?;
+        let Hold { mut seat } = self.try_lock()?;
         match self.exchange(&mut seat, None) {
-            Some(end) => Some((end, seat)),
+            Some(end) => Ok((end, Hold { seat })),
             None => unreachable!(),
         }
     }
 
-    /// Gives the end back. It doesn't wait.
-    pub fn give(&self, mut seat: LockSeat, end: QueueSeat)
-        requires end { S.is_end self.now.of end }
-        requires holds { HoldsLock self.now None seat }
+    /// One try to take the lock, which then has the end in its slot.
+    fn try_lock(&self) -> Result<Hold, LockSeat>
+        ensures taken { IfOk result (λ hold. (end : SeatOfQueue) × (S.is_end self.now.of end × HoldsLock self.now (Some end) hold)) }
+        ensures refused { IfErr result (λ seat. FoundLent self.now seat) }
     {
-        self.exchange(&mut seat, Some(end));
-        self.free(seat);
+        let shared = &self.table.shared;
+        let (word, seat) = shared.load_new_seat::<Sees>(0);
+        if word != 0 {
+            return Err(seat);
+        }
+        let (found, seat) = shared.swap_new_seat::<Tries<S>>(0, 1);
+        if found == 0 {
+            Ok(Hold { seat })
+        } else {
+            Err(seat)
+        }
     }
+
+    /// Gives the end back. It doesn't wait. The seat is the hold's, behind that.
+    pub fn give(&self, hold: Hold, end: QueueSeat) -> LockSeat
+        requires end { S.is_end self.now.of end }
+        requires holds { HoldsLock self.now None hold }
+        ensures gave { HasGivenBack self.now hold result }
+    {
+        let Hold { mut seat } = hold;
+        self.exchange(&mut seat, Some(end));
+        self.free(seat)
+    }
+
     /// What lies in the slot of a lock that the seat has goes out, and another comes in.
     fn exchange(&self, seat: &mut LockSeat, new: Option<QueueSeat>) -> Option<QueueSeat>
         requires holds { (old : Option SeatOfQueue) × HoldsLock self.now old seat.old }
         ensures holds { HoldsLock self.now new seat.new }
+        ensures same { seat.new.id ≡ seat.old.id }
         ensures out { (old : Option SeatOfQueue) → HoldsLock self.now old seat.old → result ≡ old }
     {
         self.table.shared.exchange(seat, 0, new)
     }
 
     /// Ends a hold.
-    fn free(&self, mut seat: LockSeat)
+    fn free(&self, mut seat: LockSeat) -> LockSeat
         requires { (end : SeatOfQueue) × (S.is_end self.now.of end × HoldsLock self.now (Some end) seat) }
+        ensures { HasGivenBack self.now seat result }
     {
         self.table.shared.store::<Frees>(&mut seat, 0, 0);
+        seat
     }
 }

@@ -77,9 +77,9 @@ impl Signals {
         ensures id { pass.new.knows.pass.id ≡ pass.old.knows.pass.id }
         ensures known { KnowsQueue pass.new.knows }
     {
-        let (end, lock) = self.pushing.take(rt);
+        let (end, hold) = self.pushing.take(rt);
         let (answer, end) = push_by(rt, &self.ring, &mut pass.seat, end, signal);
-        self.pushing.give(lock, end);
+        self.pushing.give(hold, end);
         answer
     }
 
@@ -91,9 +91,9 @@ impl Signals {
         ensures id { pass.new.knows.pass.id ≡ pass.old.knows.pass.id }
         ensures known { KnowsQueue pass.new.knows }
     {
-        let (end, lock) = self.popping.take(rt);
+        let (end, hold) = self.popping.take(rt);
         let (answer, end) = pop_by(rt, &self.ring, &mut pass.seat, end);
-        self.popping.give(lock, end);
+        self.popping.give(hold, end);
         answer
     }
 

@@ -5,7 +5,7 @@ use counted_row::RowPass;
 use hr_timers::{Log, Pass, Timers};
 use ktime::{ClockId, Reading};
 use object_uses::{expire_objects, read_count, set_timer};
-use seq_timer::{Declared, Terms};
+use seq_timer::Declared;
 use std::alloc::{AllocError, Global};
 use std::marker::Model;
 use std::sync::Wait;
@@ -43,8 +43,7 @@ impl Ticker {
     /// A descriptor that isn't armed.
     pub fn make(alloc: Global) -> Result<Ticker, AllocError> {
         let timer = Declared::hard(ClockId::Monotonic);
-        // One counter more than objects: the first is the clock's.
-        let (timers, pass) = Timers::make_counting(alloc, 1, &[timer], Terms::limited(1000), 2)?;
+        let (timers, pass) = Timers::make_full(alloc, 1, &[timer], 1000)?;
         let decl = Decl {
             kind: Kind::Fd,
             clock: ClockId::Monotonic,

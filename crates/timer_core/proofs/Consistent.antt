@@ -88,8 +88,8 @@ agrees-after k id e all within needs permits =
           (subst (λ n. now.base < n) (sym sizes.bases) (placed_by (λ reading. IsBaseFree k id) (length k.bases) t e needs permits (all.placed id)))
           (λ other. subst (λ n. (timer_in k other).base < n) (sym sizes.bases) (all.placed other));
       apart = each_timer k id e (λ x. x.moving ≡ true → (x.armed ≡ None) × (x.running ≡ None)) within (apart-after t e needs (all.apart id)) all.apart;
-      few_bases = subst (λ n. n ≤ 8) (sym sizes.bases) all.few_bases;
-      few_timers = subst (λ n. n ≤ 256) (sym sizes.timers) all.few_timers;
+      few_bases = subst (λ n. n ≤ 64) (sym sizes.bases) all.few_bases;
+      few_timers = subst (λ n. n ≤ 4294967295) (sym sizes.timers) all.few_timers;
     }
 
 -- ---- a call of one event, and one of two

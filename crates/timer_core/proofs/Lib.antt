@@ -1,4 +1,5 @@
 pub mod Consistent
 pub mod Due
+pub mod LeastWait
 pub mod Opened
 pub mod Runs

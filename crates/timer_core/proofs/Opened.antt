@@ -76,7 +76,7 @@ empty-agrees list terms base = record { each = λ x. subst (IsHalfOf (in_context
           (each_opening (λ t. None ≡ running_on base t) (λ c l. no_running base (opening c l) refl) list terms id);
     }
 
-pub consistent-opened : (bases : ℕ) (list : List Declared) (terms : Terms) → 1 ≤ bases → bases ≤ 8 → length list ≤ 256 → IsConsistent (opened bases list terms)
+pub consistent-opened : (bases : ℕ) (list : List Declared) (terms : Terms) → 1 ≤ bases → bases ≤ 64 → length list ≤ 4294967295 → IsConsistent (opened bases list terms)
 consistent-opened bases list terms some few timers =
     let room = length list in
     let many = length-replicate bases (empty_base room) in
@@ -91,8 +91,8 @@ consistent-opened bases list terms some few timers =
             ∙ sym (length-map list (λ clock. opening clock terms));
         placed = λ id. each_opening (λ t. t.base < length (replicate bases (empty_base room))) (λ c l. subst (λ n. 0 < n) (sym many) some) list terms id;
         apart = λ id moves. absurd (true≢false (sym moves ∙ still id));
-        few_bases = subst (λ n. n ≤ 8) (sym many) few;
-        few_timers = subst (λ n. n ≤ 256) (sym (length-map list (λ clock. opening clock terms))) timers;
+        few_bases = subst (λ n. n ≤ 64) (sym many) few;
+        few_timers = subst (λ n. n ≤ 4294967295) (sym (length-map list (λ clock. opening clock terms))) timers;
       };
       still = still;
     }

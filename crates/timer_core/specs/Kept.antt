@@ -89,8 +89,8 @@ pub record Agrees (k : Kept) : Type 0 where
   pub rooms : (base : ℕ) → base < length k.bases → (base_at k base).room ≡ length k.timers
   pub placed : (id : ℕ) → (timer_in k id).base < length k.bases
   pub apart : (id : ℕ) → (timer_in k id).moving ≡ true → ((timer_in k id).armed ≡ None) × ((timer_in k id).running ≡ None)
-  pub few_bases : length k.bases ≤ 8
-  pub few_timers : length k.timers ≤ 256
+  pub few_bases : length k.bases ≤ 64
+  pub few_timers : length k.timers ≤ 4294967295
 
 -- the same, and no timer is on the move
 pub record IsConsistent (k : Kept) : Type 0 where

@@ -2,10 +2,11 @@
 #![tactic(auto)]
 
 pub use answer::{ClaimAnswer, StartAnswer};
-pub use laws::calls_keep_histories_legal;
+pub use laws::{calls_keep_histories_legal, the_wait_is_one};
 pub use timers::Core;
 
 mod answer;
 mod calls;
 mod laws;
 mod timers;
+mod waits;

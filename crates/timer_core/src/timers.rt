@@ -22,8 +22,8 @@ use timer_queue::Queue;
 /// All timers and bases. Contracts see them as two lists.
 #[derive(Drop)]
 pub struct Core<Q: Queue> {
-    timers: Vec<TimerState>,
-    bases: Vec<Base<Q>>,
+    pub(crate) timers: Vec<TimerState>,
+    pub(crate) bases: Vec<Base<Q>>,
 }
 
 impl<Q: Queue> Model for Core<Q> {
@@ -35,16 +35,16 @@ impl<Q: Queue> Model for Core<Q> {
 }
 
 impl<Q: Queue + Drop> Core<Q> {
-    /// So many bases, 1 to 8, and at most 256 timers of the hard context, each declared on its clock. At `max_events` entries a timer takes no
-    /// start, no forward and no restart any more.
+    /// So many bases, 1 to 64, and timers of the hard context, each declared on its clock, as many as a `u32` counts. At `max_events` entries a
+    /// timer takes no start, no forward and no restart any more.
     pub fn make(
         alloc: Global,
         bases: u32,
         clocks: &[ClockId],
         max_events: u64,
     ) -> Result<Core<Q>, AllocError>
-        requires bases { (1 ≤ bases) × (bases ≤ 8) }
-        requires timers { length clocks.now ≤ 256 }
+        requires bases { (1 ≤ bases) × (bases ≤ 64) }
+        requires timers { length clocks.now ≤ 4294967295 }
         requires limit { (0 < max_events) × (max_events ≤ greatest_limit) }
         ensures { IfOk result (λ c. c ≡ opened bases (map hard_on clocks.now) (limited max_events)) }
     {
@@ -59,8 +59,8 @@ impl<Q: Queue + Drop> Core<Q> {
         timers: &[Declared],
         max_events: u64,
     ) -> Result<Core<Q>, AllocError>
-        requires bases { (1 ≤ bases) × (bases ≤ 8) }
-        requires timers { length timers.now ≤ 256 }
+        requires bases { (1 ≤ bases) × (bases ≤ 64) }
+        requires timers { length timers.now ≤ 4294967295 }
         requires limit { (0 < max_events) × (max_events ≤ greatest_limit) }
         ensures { IfOk result (λ c. c ≡ opened bases timers.now (limited max_events)) }
     {
@@ -99,7 +99,7 @@ impl<Q: Queue> Core<Q> {
         ensures state { result ≡ timer_in self.now id }
         ensures still { result.moving ≡ false }
         ensures placed { result.base < length self.now.bases }
-        ensures few { length self.now.bases ≤ 8 }
+        ensures few { length self.now.bases ≤ 64 }
     {
         self.timers[id as usize]
     }

@@ -20,7 +20,7 @@ use Rattle.timer_setting.specs.declared.object_call.ObjectReply.{ObjectReply}
 use Rattle.timer_objects.specs.declared.wanting.Ended.{Ended}
 use Rattle.timer_objects.specs.declared.wanting.Ended.TheVariants as ends
 use Rattle.timer_objects.specs.declared.wanting.Rearming.TheVariants as rearmings
-use Rattle.timer_objects.specs.Calls.{Caller, FindsHistoryFull, RearmingMade}
+use Rattle.timer_objects.specs.Calls.{Caller, FindsHistoryFull, LooksAtObject, RearmingMade}
 use Rattle.timer_objects.specs.Known.{ObjectsOf, seen_of}
 use Rattle.timer_objects.specs.Rearming.{MakesEntry, RepliesTo}
 
@@ -67,6 +67,14 @@ ReadsBlocking x o old new id len reading blocking.Canceled =
 -- an object is a descriptor that has something to read
 abbrev pub HasSome : ClockReading → Object → Type 0
 HasSome reading object = (t : Descriptor) × (object ≡ objects.Fd t) × (is_readable t reading ≡ true)
+
+-- Why a read waits: the descriptor was looked at while no call had its turn, its history has room, and at this reading it has nothing to read.
+pub record FindsNothing (x : ObjectsOf) (old new : Caller) (id : ℕ) (reading : ClockReading) : Type 0 where
+  pub object : Object
+  pub stamp : ℕ
+  pub looks : LooksAtObject old new id object stamp
+  pub room : stamp < x.limit
+  pub none : HasSome reading object → ⊥
 
 -- a turn ended the read: its history was full, or an entry was made, of a descriptor that had something to read
 abbrev pub EndsRead : ObjectsOf → Opening → Caller → Caller → ℕ → ClockReading → Ended → Type 0

@@ -27,6 +27,17 @@ trigger_of kind c reading = Some (calls.Trigger c.generation reading)
 abbrev pub trigger_refused : ℕ → ObjectReply
 trigger_refused n = replies.Trigger (triggers.Spent n)
 
+-- the bell of this object was rung where its trigger counted, and no bell where it didn't
+abbrev pub IsRungFor : ℕ → ObjectReply → Option ℕ → Type 0
+IsRungFor id reply None = reply ≡ replies.Trigger triggers.Counted → ⊥
+IsRungFor id reply (Some rung) = (rung ≡ id) × (reply ≡ replies.Trigger triggers.Counted)
+
+-- the same by the receipt that the trigger noted
+pub record TellsReader (id : ℕ) (rung : Option ℕ) (log log' : List ObjectReceipt) : Type 0 where
+  pub receipt : ObjectReceipt
+  pub noted : log' ≡ log ++ receipt ∷ []
+  pub told : IsRungFor id receipt.reply rung
+
 module _ (x : ObjectsOf) (p q : ObjectsPass) (log log' : List ObjectReceipt) (v w : KnownOfTimers) where
   -- The trigger stands last in the object's history, which had room for it, and a receipt of it was noted. It had a turn of the object, in which it did
   -- nothing to the timer.

@@ -1,6 +1,6 @@
 -- Where calls' turns of objects stand among the entries of timers. Counter i + 1 of the timers rises where a call's turn of object i begins, and again where
 -- the call makes its entry. So it is twice the number of the object's entries, and one more while a call has its turn.
-use Rattle.std.specs.Prelude.{ℕ, ◌+◌}
+use Rattle.std.specs.Prelude.{ℕ, ◌+◌, ◌≤◌, ◌^◌, ◌≢◌, ◌⊎◌}
 use Rattle.pass_names.specs.SharedHistory.{LooksOn}
 use Rattle.seq_timer.specs.Systems.{rises_of}
 use Rattle.base_row.specs.Plays.{RisesFrom}
@@ -13,6 +13,11 @@ turns_counter i = i + 1
 -- how often it has risen, by what a pass has seen of the timers
 abbrev pub turns_told : ℕ → KnownOfTimers → ℕ
 turns_told i k = rises_of (turns_counter i) k.seen
+
+-- Why a try of a call to begin or to end a turn has to be made again: the counter doesn't stand at this number, by what the pass has then seen. An object
+-- of the greatest number that there is has no counter.
+abbrev pub StandsElsewhere : ℕ → ℕ → KnownOfTimers → Type 0
+StandsElsewhere i from k = (turns_told i k ≢ from) ⊎ (2 ^ 32 ≤ turns_counter i)
 
 -- a call's turn of an object with so many entries begins
 pub record BeginsTurn (i n : ℕ) (v w : KnownOfTimers) : Type 0 where

@@ -1,5 +1,5 @@
 //! What calls on objects do to the timers below.
-ghost use Rattle.std.specs.Prelude.{◌≡◌, ◌≢◌, ◌≤◌, ◌<◌, ◌+◌, ◌^◌, length, true, false, Some};
+ghost use Rattle.std.specs.Prelude.{◌≡◌, ◌≢◌, ◌≤◌, ◌<◌, ◌+◌, ◌^◌, length, true, false, None, Some};
 ghost use Rattle.pass_names.specs.SharedHistory.{LooksOn};
 ghost use Rattle.seq_timer.specs.Tables.{timer_at};
 ghost use Rattle.hr_timers.specs.Known.{IsPassOf};
@@ -7,7 +7,7 @@ ghost use Rattle.hr_timers.specs.Ways.{most_to_start};
 ghost use Rattle.timer_setting.specs.Phases.{IsOutcomeOf};
 ghost use Rattle.timer_objects.specs.Arming.{ArmsFor, DisarmsInTurn};
 ghost use Rattle.timer_objects.specs.Turns.{turns_counter};
-ghost use Rattle.timer_objects.specs.Waiting.{IsHindered};
+ghost use Rattle.timer_objects.specs.Waiting.{IsHindered, IsOutOfTurn};
 
 use crate::turns::counter_of;
 use hr_timers::{Log, Pass, StartAnswer, Timers};
@@ -63,6 +63,7 @@ fn try_to_disarm<R: Wait>(
     ensures disarms { result ≡ Some true → DisarmsInTurn timers.now.about pass.old.known pass.new.known timer stamp log.old.receipts log.new.receipts }
     ensures looks { result ≢ Some true → LooksOn pass.old.known pass.new.known × (log.new ≡ log.old) }
     ensures why { result ≡ Some false → IsHindered timers.now.about pass.new.known timer }
+    ensures again { result ≡ None → IsOutOfTurn timer (stamp + stamp) pass.old.known pass.new.known }
     ensures room { log.old.spare ≤ log.new.spare + 1 }
 {
     let counter = counter_of(timer)?;

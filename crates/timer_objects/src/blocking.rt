@@ -1,5 +1,5 @@
 //! A read of a descriptor that waits until there is something to read.
-ghost use Rattle.std.specs.Prelude.{◌≡◌, ◌≤◌, ◌<◌, ◌+◌, length, true, IfNone, MatchOption};
+ghost use Rattle.std.specs.Prelude.{◌≡◌, ◌≤◌, ◌<◌, ◌+◌, length, true, false, IfNone, MatchOption};
 ghost use Rattle.pass_names.specs.Passes.{Looks};
 ghost use Rattle.clock_cell.specs.Views.{IsPassOfClock, seen_reading};
 ghost use Rattle.hr_timers.specs.Known.{IsPassOf};
@@ -7,7 +7,7 @@ ghost use Rattle.timer_objects.specs.declared.object.Kind.TheVariants as kinds;
 ghost use Rattle.timer_objects.specs.Known.{IsObjectsPass, Suits, decl_at, most_noted};
 ghost use Rattle.timer_objects.specs.Calls.{HasWaited};
 ghost use Rattle.timer_objects.specs.Rearming.{KeepsNames, LeavesPasses, IsCallerOf, caller_of};
-ghost use Rattle.timer_objects.specs.BlockingReads.{AnswersBy, EndedByRead, EndsRead, HasSome, ReadsBlocking};
+ghost use Rattle.timer_objects.specs.BlockingReads.{AnswersBy, EndedByRead, EndsRead, FindsNothing, HasSome, ReadsBlocking};
 
 use crate::answers::BlockingRead;
 use crate::log::ObjectLog;
@@ -101,6 +101,7 @@ impl Objects {
         ensures looks { Looks clock_pass.old.knows.pass clock_pass.new.knows.pass }
         ensures reads { MatchOption result (HasWaited (caller_of pass.old objects_pass.old log.old object_log.old) (caller_of pass.new objects_pass.new log.new object_log.new)) (λ e. EndsRead self.now timers.now.about (caller_of pass.old objects_pass.old log.old object_log.old) (caller_of pass.new objects_pass.new log.new object_log.new) id (seen_reading clock_pass.new.knows) e) }
         ensures again { IfNone result ((log.new ≡ log.old) × (object_log.new ≡ object_log.old)) }
+        ensures why { IfNone result (FindsNothing self.now (caller_of pass.old objects_pass.old log.old object_log.old) (caller_of pass.new objects_pass.new log.new object_log.new) id (seen_reading clock_pass.new.knows)) }
         ensures room { (log.old.spare ≤ log.new.spare + most_noted self.now timers.now.about id) × (object_log.old.spare ≤ object_log.new.spare + 1) }
     {
         let held = self.lock_in_turn(rt, timers, pass, objects_pass, id);
@@ -131,7 +132,8 @@ impl Objects {
 
 /// Whether an object is a descriptor that has something to read.
 fn has_some(object: &Object, reading: Reading) -> bool
-    ensures { result ≡ true → HasSome reading object.now }
+    ensures some { result ≡ true → HasSome reading object.now }
+    ensures none { result ≡ false → HasSome reading object.now → ⊥ }
 {
     match object {
         Object::Fd(timer) => timer.readable(reading),

@@ -14,7 +14,7 @@ ghost use Rattle.timer_objects.specs.Known.{EntersObjectCall, HoldsObject, IsObj
 
 use crate::log::{ObjectLog, note};
 use crate::object::{Decl, Kind, Object};
-use crate::readers::{Bells, Reader};
+use crate::readers::{Bells, Reader, Rung};
 use counted_row::{Held, Row, RowPass};
 use signal_queue::{SignalPass, Signals};
 use std::alloc::{AllocError, Global};
@@ -143,8 +143,10 @@ impl Objects {
     }
 
     /// Wakes the reader of a descriptor, if it has one.
-    pub(crate) fn ring(&self, id: u32) {
-        self.bells.ring(id);
+    pub(crate) fn ring(&self, id: u32) -> Rung
+        ensures { result ≡ id }
+    {
+        self.bells.ring(id)
     }
 
     /// The queue of signals of objects that `make_queued` made: who splits its pass calls it. A signal that a caller puts there itself is taken for that of

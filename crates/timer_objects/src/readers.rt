@@ -39,6 +39,20 @@ impl Reader {
     }
 }
 
+/// That the bell of an object was rung, if it has one. `ring` alone makes it.
+#[derive(Drop)]
+pub(crate) struct Rung {
+    id: u32,
+}
+
+impl Model for Rung {
+    ghost use Rattle.std.specs.Prelude.{ℕ};
+
+    ghost Value = { ℕ };
+
+    ghost view = { λ r. r.id };
+}
+
 /// The bells of objects: one of each descriptor that has a reader.
 #[derive(Drop)]
 pub struct Bells {
@@ -82,10 +96,13 @@ impl Bells {
     }
 
     /// Wakes the reader of a descriptor, if it has one: now, or as soon as it waits.
-    pub(crate) fn ring(&self, id: u32) {
+    pub(crate) fn ring(&self, id: u32) -> Rung
+        ensures { result ≡ id }
+    {
         if let Some(Some(bell)) = self.bells.get(id as usize) {
             bell.unpark();
         }
+        Rung { id }
     }
 
     /// Wakes each reader.

@@ -4,11 +4,12 @@ ghost use Rattle.counted_row.specs.Views.{IsPassOfRow, released};
 ghost use Rattle.hr_timers.specs.Known.{IsPassOf};
 ghost use Rattle.pass_names.specs.SharedHistory.{LooksOn};
 ghost use Rattle.timer_objects.specs.Known.{IsObjectsPass, decl_at, row_of, seen_of};
-ghost use Rattle.timer_objects.specs.Triggers.{Triggers, trigger_of, trigger_refused};
+ghost use Rattle.timer_objects.specs.Triggers.{IsRungFor, TellsReader, Triggers, trigger_of, trigger_refused};
 
 use crate::log::{ObjectLog, note};
 use crate::object::{Kind, Object};
 use crate::objects::Objects;
+use crate::readers::Rung;
 use crate::turns::{begin, end};
 use counted_row::{Held, RowPass};
 use hr_timers::{Claim, Pass, Timers};
@@ -37,7 +38,7 @@ fn trigger_refused(stamp: u64) -> ObjectReply
     ObjectReply::Trigger(TriggerAnswer::Spent { stamp })
 }
 
-/// Triggers the object over a claim's timer, or notes that its history is full.
+/// Triggers the object over a claim's timer, or notes that its history is full. Exactly where the trigger counted it has told the object's reader.
 pub(crate) fn trigger<R: Wait>(
     rt: &R,
     timers: &Timers,
@@ -48,7 +49,7 @@ pub(crate) fn trigger<R: Wait>(
     call: ObjectCall,
     claim: &Claim,
     reading: Reading,
-)
+) -> Option<Rung>
     requires pass { IsPassOf timers.now pass.old }
     requires counters { length objects.now.decls < timers.now.about.counters }
     requires row { IsPassOfRow (row_of objects.now) objects_pass.old }
@@ -62,23 +63,28 @@ pub(crate) fn trigger<R: Wait>(
     ensures looks { LooksOn pass.old.known pass.new.known }
     ensures triggers { Triggers objects.now objects_pass.old objects_pass.new log.old.receipts log.new.receipts pass.old.known pass.new.known claim.now call }
     ensures spare { log.new.spare + 1 ≡ log.old.spare }
+    ensures tells { TellsReader claim.now.timer result log.old.receipts log.new.receipts }
 {
     let id = claim.timer();
     let held = objects.lock_in_turn(rt, timers, pass, objects_pass, id);
     if objects.is_full(&held) {
-        return skip(objects, objects_pass, held, log, id, &call);
+        skip(objects, objects_pass, held, log, id, &call);
+        return None;
     }
     let stamp = held.stamp();
     begin(rt, timers, pass, id, stamp);
     end(rt, timers, pass, id, stamp);
     let reply = objects.enter(objects_pass, held, log, id, &call);
-    tell_reader(objects, id, &reply);
+    tell_reader(objects, id, &reply)
 }
 
 /// Tells the object's reader, if it has one, where its trigger was counted: then there is something to read.
-fn tell_reader(objects: &Objects, id: u32, reply: &ObjectReply) {
-    if let ObjectReply::Trigger(TriggerAnswer::Counted) = reply {
-        objects.ring(id);
+fn tell_reader(objects: &Objects, id: u32, reply: &ObjectReply) -> Option<Rung>
+    ensures { IsRungFor id reply.now result }
+{
+    match reply {
+        ObjectReply::Trigger(TriggerAnswer::Counted) => Some(objects.ring(id)),
+        _ => None,
     }
 }
 

@@ -1,12 +1,12 @@
 //! Turns of objects: whether a call has its turn, and the rises that give a turn's beginning and its entry their places among the entries of timers.
-ghost use Rattle.std.specs.Prelude.{◌≡◌, ◌+◌, ◌<◌, ◌^◌, [], None, length, true, IfSome};
+ghost use Rattle.std.specs.Prelude.{◌≡◌, ◌+◌, ◌≤◌, ◌<◌, ◌^◌, [], None, length, true, false, MatchOption};
 ghost use Rattle.base_row.specs.Plays.{RisesFrom};
 ghost use Rattle.counted_row.specs.Views.{IsPassOfRow, Locks};
 ghost use Rattle.hr_timers.specs.Known.{IsPassOf};
 ghost use Rattle.pass_names.specs.SharedHistory.{LooksOn};
 ghost use Rattle.timer_objects.specs.Meaning.{object_meaning};
 ghost use Rattle.timer_objects.specs.Known.{HoldsObject, row_of};
-ghost use Rattle.timer_objects.specs.Turns.{BeginsTurn, EndsTurn, turns_counter, turns_told};
+ghost use Rattle.timer_objects.specs.Turns.{BeginsTurn, EndsTurn, StandsElsewhere, turns_counter, turns_told};
 
 use crate::object::Object;
 use crate::objects::Objects;
@@ -50,7 +50,7 @@ impl Objects {
 
 /// Which counter of the timers counts the turns of an object. There are never so many objects that one has none.
 pub(crate) fn counter_of(id: u32) -> Option<u32>
-    ensures { IfSome result (λ counter. counter ≡ turns_counter id) }
+    ensures { MatchOption result (2 ^ 32 ≤ turns_counter id) (λ counter. counter ≡ turns_counter id) }
 {
     id.checked_add(1)
 }
@@ -62,14 +62,16 @@ fn is_between_turns(timers: &Timers, pass: &mut Pass, id: u32, stamp: u64) -> bo
     ensures pass { IsPassOf timers.now pass.new }
     ensures looks { LooksOn pass.old.known pass.new.known }
     ensures told { result ≡ true → turns_told id pass.new.known ≡ stamp + stamp }
+    ensures why { result ≡ false → StandsElsewhere id (stamp + stamp) pass.new.known }
 {
     let Some(counter) = counter_of(id) else {
         return false;
     };
-    let Some(between) = stamp.checked_add(stamp) else {
-        return false;
-    };
-    timers.counter(pass, counter) == between
+    let risen = timers.counter(pass, counter);
+    match stamp.checked_add(stamp) {
+        Some(between) => risen == between,
+        None => false,
+    }
 }
 
 /// Begins a turn of an object with so many entries.
@@ -119,6 +121,7 @@ fn try_to_raise(timers: &Timers, pass: &mut Pass, id: u32, from: u64) -> bool
     ensures pass { IsPassOf timers.now pass.new }
     ensures looks { LooksOn pass.old.known pass.new.known }
     ensures rises { result ≡ true → RisesFrom (turns_counter id) from pass.old.known.seen pass.new.known.seen }
+    ensures why { result ≡ false → StandsElsewhere id from pass.new.known }
 {
     let Some(counter) = counter_of(id) else {
         return false;

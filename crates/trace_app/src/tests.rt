@@ -3,6 +3,7 @@ use std::alloc::{AllocError, Global};
 use trace_top::{Counted, Status, top};
 
 mod causes;
+mod contexts;
 mod lines;
 mod streams;
 

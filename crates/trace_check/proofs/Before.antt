@@ -1,5 +1,5 @@
 -- A timer as it rests, and one timer before an event, as what is known allows.
-use Rattle.std.proofs.Common.{◌≡◌, ◌≢◌, ◌≤◌, ℕ, ◌+◌, Bool, true, false, Option, Some, None, List, [], ◌∷◌, refl, sym, ap, subst, ◌∙◌, inl, inr, arith}
+use Rattle.std.proofs.Common.{◌≡◌, ◌≢◌, ℕ, Bool, true, false, Option, Some, None, List, refl, sym, ap, subst, ◌∙◌, inl, inr}
 use Rattle.std.specs.Prelude.{IfSome, is_some, unwrap_or}
 use Rattle.std.specs.List.{AllByRecursion}
 use Rattle.std.proofs.lemmas.Bool.{both_ways, cases_eq}
@@ -15,38 +15,27 @@ use Rattle.trace_check.specs.declared.known.ArmedKnown.TheVariants as arms
 use Rattle.trace_check.specs.declared.known.OrderedExpiry.{OrderedExpiry}
 use Rattle.trace_check.specs.declared.known.FunctionKnown.{FunctionKnown}
 use Rattle.trace_check.specs.declared.known.FunctionKnown.TheVariants as functions
-use Rattle.trace_check.specs.declared.known.HalfKnown.{HalfKnown}
+use Rattle.trace_check.specs.declared.known.KnownProcessor.{KnownProcessor}
 use Rattle.trace_check.specs.declared.known.KnownTimer.{KnownTimer}
-use Rattle.trace_check.specs.Knowledge.{Knowledge, is_unarmed, has_running, soft_of}
+use Rattle.trace_check.specs.Knowledge.{has_running, is_unarmed, Knowledge, soft_of}
 use Rattle.trace_check.proofs.Plain.{Plain, PlainTimers, ShowsEvent, Spared}
-use Rattle.trace_check.proofs.Agreement.{Agrees, AgreesAt, ArmedAs, HasTurnBefore, RunsAs, SoundAt}
-use Rattle.trace_check.proofs.Parts.{AreAlone, Moves, alone_still}
+use Rattle.trace_check.proofs.Agreement.{Agrees, AgreesAt, AreAlone, ArmedAs, HasTurnBefore, RunsAs}
+use Rattle.trace_check.proofs.Parts.{Moves, alone_still, same_some}
 
--- ---- a processor where nothing has expired
-
-abbrev above : List OrderedExpiry → ℕ
-above [] = 0
-above (q ∷ qs) = q.processor + 1 + above qs
-
-apart : (claims : List OrderedExpiry) (p : Plain) (m : ℕ) → above claims ≤ p.base → AllByRecursion (λ q. HasTurnBefore q p m) claims
-apart [] p m far = tt
-apart (q ∷ qs) p m far = (λ at context clock later. absurd (omega (arith, at, far)), apart qs p m (omega (arith, far)))
+-- ---- a timer that rests
 
 -- where a timer waits, as far as it is known
-abbrev pub place_of : Option ℕ → List OrderedExpiry → ℕ
-place_of None claims = above claims
-place_of (Some b) claims = b
+abbrev pub place_of : Option ℕ → ℕ
+place_of None = 0
+place_of (Some b) = b
 
-pub at_place : (home : Option ℕ) (claims : List OrderedExpiry) → IfSome home (λ b. place_of home claims ≡ b)
-at_place None claims = tt
-at_place (Some b) claims = refl
+pub at_place : (home : Option ℕ) → IfSome home (λ b. place_of home ≡ b)
+at_place None = tt
+at_place (Some b) = refl
 
 pub if_armed : (home : Option ℕ) (base : ℕ) (armed : Bool) → IfSome home (λ b. base ≡ b) → IfSome home (λ b. armed ≡ true → base ≡ b)
 if_armed None base armed h = tt
 if_armed (Some b) base armed h = λ is. h
-
-pub same_some : {n m : ℕ} → Some n ≡ Some m → n ≡ m
-same_some e = cc
 
 pub if_unarmed : (home : Option ℕ) (base : ℕ) (armed : Bool) → armed ≡ false → IfSome home (λ b. armed ≡ true → base ≡ b)
 if_unarmed None base armed not_armed = tt
@@ -66,9 +55,9 @@ hard_of arms.Untold = 0
 hard_of arms.No = 0
 hard_of (arms.Until soft expires) = expires
 
--- a timer that rests, as it is known
-abbrev pub at_rest : KnownTimer → Bool → ClockId → Context → ℕ → Plain
-at_rest known armed clock context base = record {
+-- a timer that rests, as it is known, and of which a line tells the context when it expires next or not
+abbrev pub at_rest : KnownTimer → Bool → ClockId → Context → ℕ → Bool → Plain
+at_rest known armed clock context base tells = record {
   armed = armed;
   soft = soft_of known.armed;
   expires = hard_of known.armed;
@@ -77,27 +66,34 @@ at_rest known armed clock context base = record {
   running = false;
   context = context;
   clocked = is_some known.clock;
-  told = known.context;
+  told = known.told;
   order = known.order;
+  tells = tells;
+  shown = false;
 }
 
-pub armed_before : (known : KnownTimer) (clock : ClockId) (context : Context) (base : ℕ) (a : ArmedKnown) → known.armed ≡ a → is_unarmed a ≡ false
-    → ArmedAs a (at_rest known true clock context base)
-armed_before known clock context base arms.Untold is fails = tt
-armed_before known clock context base arms.No is fails = absurd cc
-armed_before known clock context base (arms.Until soft expires) is fails = (refl, ap soft_of is, ap hard_of is)
+pub armed_before : (known : KnownTimer) (clock : ClockId) (context : Context) (base : ℕ) (tells : Bool) (a : ArmedKnown) → known.armed ≡ a
+    → is_unarmed a ≡ false
+    → ArmedAs a (at_rest known true clock context base tells)
+armed_before known clock context base tells arms.Untold is fails = tt
+armed_before known clock context base tells arms.No is fails = absurd cc
+armed_before known clock context base tells (arms.Until soft expires) is fails = (refl, ap soft_of is, ap hard_of is)
+
+pub not_running : false ≡ true → ⊥
+not_running e = absurd cc
 
 rests_as : (f : FunctionKnown) (p : Plain) → has_running f ≡ false → p.running ≡ false → RunsAs f p
-rests_as functions.Untold p still is = tt
+rests_as functions.Untold p still is = λ run. absurd (both_ways p.running is run)
 rests_as functions.Rests p still is = is
-rests_as (functions.Runs c x) p still is = absurd cc
+rests_as (functions.Runs c) p still is = absurd cc
 
-pub rest_agrees : (half : ℕ → HalfKnown) (claims : List OrderedExpiry) (t : ℕ) (known : KnownTimer) (armed : Bool) (clock : ClockId) (context : Context) (base : ℕ)
-    → ArmedAs known.armed (at_rest known armed clock context base) → has_running known.function ≡ false → IfSome known.home (λ b. base ≡ b)
+pub rest_agrees : (there : ℕ
+    → KnownProcessor) (claims : List OrderedExpiry) (known : KnownTimer) (armed : Bool) (clock : ClockId) (context : Context) (base : ℕ)
+    (tells : Bool) → ArmedAs known.armed (at_rest known armed clock context base tells) → has_running known.function ≡ false → IfSome known.home (λ b. base ≡ b)
     → IfSome known.clock (λ c. clock ≡ c) → IfSome known.context (λ x. context ≡ x)
-    → ((m : ℕ) → known.order ≡ Some m → AllByRecursion (λ q. HasTurnBefore q (at_rest known armed clock context base) m) claims)
-    → AgreesAt half claims t known (at_rest known armed clock context base)
-rest_agrees half claims t known armed clock context base is still at on within waits = record {
+    → ((m : ℕ) → known.order ≡ Some m → tells ≡ true → AllByRecursion (λ q. HasTurnBefore q (at_rest known armed clock context base tells) m) claims)
+    → AgreesAt there claims known (at_rest known armed clock context base tells)
+rest_agrees there claims known armed clock context base tells is still at on within waits = record {
   armed = is;
   function = rests_as known.function _ still refl;
   home = if_armed known.home base armed at;
@@ -106,17 +102,13 @@ rest_agrees half claims t known armed clock context base is still at on within w
   context = within;
   told = refl;
   order = refl;
-  allowed = λ run. absurd (not_true run);
+  hidden = λ run shown. absurd (not_running run);
   waits = waits;
 }
-  where
-    not_true : false ≡ true → ⊥
-    not_true e = absurd cc
 
-pub apart_in_order : (half : ℕ → HalfKnown) (n t : ℕ) (claims : List OrderedExpiry) (known : KnownTimer) (p : Plain) → SoundAt half n t known
-    → p.base ≡ place_of known.home claims → (m : ℕ) → known.order ≡ Some m → AllByRecursion (λ q. HasTurnBefore q p m) claims
-apart_in_order half n t claims known p s at m some =
-    apart claims p m (subst (λ b. above claims ≤ b) (sym (at ∙ ap (λ home. place_of home claims) (s.order m some).home)) (omega arith))
+-- of which no line tells the context, so that it takes part in no order
+pub no_part : (P : Type 0) → false ≡ true → P
+no_part P e = absurd (not_running e)
 
 pub clock_of : (c : Option ClockId) → IfSome c (λ x. unwrap_or c clocks.Monotonic ≡ x)
 clock_of None = tt
@@ -138,31 +130,29 @@ Led k e w' = (w : PlainTimers) × Agrees k w × ShowsEvent k.count e w w'
 pub spared_before : (w' : PlainTimers) (t : ℕ) (old : Plain) → Spared t (before w' t old) w'
 spared_before w' t old u other = sym (updated_else w' t u old other)
 
-pub here_known : (half : ℕ → HalfKnown) (claims : List OrderedExpiry) (f : ℕ → KnownTimer) (t : ℕ) (known : KnownTimer) (p : Plain)
-    → AgreesAt half claims t (updated f t known t) p → AgreesAt half claims t known p
-here_known half claims f t known p a = subst (λ k. AgreesAt half claims t k p) (updated_here f t known) a
+pub here_known : (there : ℕ → KnownProcessor) (claims : List OrderedExpiry) (f : ℕ → KnownTimer) (t : ℕ) (known : KnownTimer) (p : Plain)
+    → AgreesAt there claims (updated f t known t) p → AgreesAt there claims known p
+here_known there claims f t known p a = subst (λ k. AgreesAt there claims k p) (updated_here f t known) a
 
-pub else_known : (half : ℕ → HalfKnown) (claims : List OrderedExpiry) (f : ℕ → KnownTimer) (t u : ℕ) (known : KnownTimer) (p : Plain) → u ≢ t
-    → AgreesAt half claims u (updated f t known u) p → AgreesAt half claims u (f u) p
-else_known half claims f t u known p other a = subst (λ k. AgreesAt half claims u k p) (updated_else f t u known other) a
+pub else_known : (there : ℕ → KnownProcessor) (claims : List OrderedExpiry) (f : ℕ → KnownTimer) (t u : ℕ) (known : KnownTimer) (p : Plain) → u ≢ t
+    → AgreesAt there claims (updated f t known u) p → AgreesAt there claims (f u) p
+else_known there claims f t u known p other a = subst (λ k. AgreesAt there claims k p) (updated_else f t u known other) a
 
-pub agree_before : (k : Knowledge) (w' : PlainTimers) (t : ℕ) (old : Plain) → AgreesAt k.halves k.claims t (k.timers t) old
-    → ((u : ℕ) → u ≢ t → AgreesAt k.halves k.claims u (k.timers u) (w' u)) → AreAlone (before w' t old) → Agrees k (before w' t old)
+pub agree_before : (k : Knowledge) (w' : PlainTimers) (t : ℕ) (old : Plain) → AgreesAt k.processors k.claims (k.timers t) old
+    → ((u : ℕ) → u ≢ t → AgreesAt k.processors k.claims (k.timers u) (w' u)) → AreAlone k.processors (before w' t old) → Agrees k (before w' t old)
 agree_before k w' t old here others alone = record {
   each = λ u. elim (cases_eq u t) [
-    | inl same ↦ subst (λ v. AgreesAt k.halves k.claims v (k.timers v) (before w' t old v)) (sym same)
-        (subst (λ p. AgreesAt k.halves k.claims t (k.timers t) p) (sym (updated_here w' t old)) here)
-    | inr other ↦ subst (λ p. AgreesAt k.halves k.claims u (k.timers u) p) (sym (updated_else w' t u old other)) (others u other)
+    | inl same ↦ subst (λ v. AgreesAt k.processors k.claims (k.timers v) (before w' t old v)) (sym same)
+        (subst (λ p. AgreesAt k.processors k.claims (k.timers t) p) (sym (updated_here w' t old)) here)
+    | inr other ↦ subst (λ p. AgreesAt k.processors k.claims (k.timers u) p) (sym (updated_else w' t u old other)) (others u other)
   ];
   alone = alone;
 }
 
-pub alone_before : (w' : PlainTimers) (t : ℕ) (old : Plain) → Moves (w' t) old → AreAlone w' → AreAlone (before w' t old)
-alone_before w' t old moves alone =
-    alone_still t w' (before w' t old) (λ u other. updated_else w' t u old other) (subst (λ p. Moves (w' t) p) (sym (updated_here w' t old)) moves) alone
+pub alone_before : (there : ℕ → KnownProcessor) (w' : PlainTimers) (t : ℕ) (old : Plain) → Moves (w' t) old → AreAlone there w'
+    → AreAlone there (before w' t old)
+alone_before there w' t old moves alone =
+    alone_still there t w' (before w' t old) (λ u other. updated_else w' t u old other) (subst (λ p. Moves (w' t) p) (sym (updated_here w' t old)) moves) alone
 
 pub at_before : (P : Plain → Type 0) (w' : PlainTimers) (t : ℕ) (old : Plain) → P old → P (before w' t old t)
 at_before P w' t old h = subst P (sym (updated_here w' t old)) h
-
-pub still_moves : (old new : Plain) → old.running ≡ false → Moves new old
-still_moves old new still run = absurd (both_ways old.running still run)

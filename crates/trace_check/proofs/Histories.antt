@@ -4,7 +4,7 @@ use Rattle.trace_text.specs.declared.event.KernelEvent.{KernelEvent}
 use Rattle.trace_text.specs.declared.event.KernelEvent.TheVariants as kernel
 use Rattle.trace_check.specs.declared.misfit.Misfit.{Misfit}
 use Rattle.trace_check.specs.Fits.{FitsTrace}
-use Rattle.trace_check.specs.Knowledge.{Knowledge, misfit, misfit_or, first_misfit, learned, no_knowledge}
+use Rattle.trace_check.specs.Knowledge.{first_misfit, Knowledge, learned, misfit, misfit_or, no_knowledge}
 use Rattle.trace_check.proofs.Agreement.{Agrees, Sound}
 use Rattle.trace_check.proofs.Back.{back, first_of, some_timers}
 use Rattle.trace_check.proofs.Forth.{agrees_at_first, forth}

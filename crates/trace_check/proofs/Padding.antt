@@ -7,14 +7,20 @@ use Rattle.std.proofs.lemmas.Bool.{and_parts, cases_eq, eq-eqb, eqb-true, false_
 use Rattle.ktime.specs.declared.clock_id.ClockId.{ClockId}
 use Rattle.ktime.specs.declared.clock_id.ClockId.TheVariants as clocks
 use Rattle.seq_timer.specs.declared.context.Context.{Context}
+use Rattle.seq_timer.specs.declared.context.Context.TheVariants as contexts
 use Rattle.seq_timer.specs.Tables.{is_context, rank}
 use Rattle.seq_timer.proofs.Contents.{is_context-same, same_context}
 use Rattle.trace_check.specs.declared.known.OrderedExpiry.{OrderedExpiry}
 use Rattle.trace_check.specs.declared.mark.Mark.{Mark}
-use Rattle.trace_check.specs.Holding.{is_late, marks_in, queue_number, TellsPassed}
-use Rattle.trace_check.specs.Knowledge.{half_number, is_passed, passes}
+use Rattle.trace_check.specs.Holding.{half_number, is_late, marks_in, queue_number, TellsPassed}
+use Rattle.trace_check.specs.Knowledge.{is_passed, passes}
 use Rattle.trace_check.specs.Traced.{is_ahead}
-use Rattle.trace_check.proofs.Parts.{half_number-injective}
+
+half_number-injective : (c d : ℕ) (x y : Context) → half_number c x ≡ half_number d y → (c ≡ d) × (x ≡ y)
+half_number-injective c d contexts.Hard contexts.Hard e = (omega (arith, e), refl)
+half_number-injective c d contexts.Soft contexts.Soft e = (omega (arith, e), refl)
+half_number-injective c d contexts.Hard contexts.Soft e = absurd (omega (arith, e))
+half_number-injective c d contexts.Soft contexts.Hard e = absurd (omega (arith, e))
 
 small_rank : (c : ClockId) → rank c < 3
 small_rank clocks.Monotonic = omega arith

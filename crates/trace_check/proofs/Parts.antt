@@ -16,12 +16,13 @@ use Rattle.trace_check.specs.declared.known.ArmedKnown.TheVariants as arms
 use Rattle.trace_check.specs.declared.known.OrderedExpiry.{OrderedExpiry}
 use Rattle.trace_check.specs.declared.known.FunctionKnown.{FunctionKnown}
 use Rattle.trace_check.specs.declared.known.FunctionKnown.TheVariants as functions
-use Rattle.trace_check.specs.declared.known.HalfKnown.{HalfKnown}
+use Rattle.trace_check.specs.declared.known.HalfKnown.TheVariants as halves
+use Rattle.trace_check.specs.declared.known.KnownProcessor.{KnownProcessor}
 use Rattle.trace_check.specs.declared.known.KnownTimer.{KnownTimer}
-use Rattle.trace_check.specs.Knowledge.{claim_by, first_that_holds, half_number, is_armed, is_other_context, is_other_processor, is_unarmed, passes, has_running, soft_of, with_claim}
-use Rattle.trace_check.specs.Traced.{is_ahead}
-use Rattle.trace_check.proofs.Plain.{Plain, PlainTimers, Spared}
-use Rattle.trace_check.proofs.Agreement.{AgreesAt, ArmedAs, HasTurnBefore, RunsAs}
+use Rattle.trace_check.specs.Knowledge.{claim_by, first_that_holds, has_running, is_armed, is_other_context, is_other_processor, is_unarmed, passes, soft_of, with_claim}
+use Rattle.trace_check.specs.Traced.{context_at, is_ahead}
+use Rattle.trace_check.proofs.Plain.{IsHidden, Plain, PlainTimers, Spared}
+use Rattle.trace_check.proofs.Agreement.{AgreesAt, AreAlone, ArmedAs, HasTurnBefore, RunsAs, half_of}
 
 -- ---- tests
 
@@ -42,14 +43,6 @@ pub all_fail : (tests : List (Bool × Misfit)) → first_that_holds tests ≡ No
 all_fail [] none = tt
 all_fail (p ∷ ps) none = let parts = one_fails p.0 p.1 (first_that_holds ps) none in (parts.0, all_fail ps parts.1)
 
--- ---- halves
-
-pub half_number-injective : (c d : ℕ) (x y : Context) → half_number c x ≡ half_number d y → (c ≡ d) × (x ≡ y)
-half_number-injective c d contexts.Hard contexts.Hard e = (omega (arith, e), refl)
-half_number-injective c d contexts.Soft contexts.Soft e = (omega (arith, e), refl)
-half_number-injective c d contexts.Hard contexts.Soft e = absurd (omega (arith, e))
-half_number-injective c d contexts.Soft contexts.Hard e = absurd (omega (arith, e))
-
 -- ---- what a timer that is so is known to be
 
 pub not_unarmed : (a : ArmedKnown) (p : Plain) → ArmedAs a p → p.armed ≡ true → is_unarmed a ≡ false
@@ -65,7 +58,7 @@ not_armed (arms.Until soft expires) p h e = absurd (both_ways p.armed e h.0)
 pub not_runs : (f : FunctionKnown) (p : Plain) → RunsAs f p → p.running ≡ false → has_running f ≡ false
 not_runs functions.Untold p h e = refl
 not_runs functions.Rests p h e = refl
-not_runs (functions.Runs processor context) p h e = absurd (both_ways p.running e h.0)
+not_runs (functions.Runs processor) p h e = absurd (both_ways p.running e h.0)
 
 pub not_early : (a : ArmedKnown) (p : Plain) (now : ℕ) → ArmedAs a p → p.soft ≤ now → nat_lt now (soft_of a) ≡ false
 not_early arms.Untold p now h reached = le-ltb now 0 (omega arith)
@@ -77,9 +70,85 @@ pub not_elsewhere : (home : Option ℕ) (p : Plain) (processor : ℕ) → IfSome
 not_elsewhere None p processor h armed at = refl
 not_elsewhere (Some b) p processor h armed at = ap not (eq-eqb b processor (sym (h armed) ∙ at))
 
-pub not_other : (known : Option Context) (p : Plain) (x : Context) → IfSome known (λ y. p.context ≡ y) → p.context ≡ x → is_other_context x known ≡ false
-not_other None p x h at = refl
-not_other (Some y) p x h at = ap not (subst (λ z. is_context z x ≡ true) (sym at ∙ h) (is_context-same x))
+pub not_other : (flags known : Option Context) (y : Context) → IfSome flags (λ x. y ≡ x) → IfSome known (λ x. y ≡ x) → is_other_context flags known ≡ false
+not_other None known y told is = refl
+not_other (Some c) None y told is = refl
+not_other (Some c) (Some d) y told is = ap not (subst (λ z. is_context z c ≡ true) (sym told ∙ is) (is_context-same c))
+
+pub same_some : {A : Type 0} {x y : A} → Some x ≡ Some y → x ≡ y
+same_some e = cc
+
+-- ---- what is known of a context
+
+abbrev pub IsAs : Option Context → Context → Type 0
+IsAs known y = IfSome known (λ x. y ≡ x)
+
+pub flags_as : (flags told : Option Context) (y : Context) → IsAs (context_at flags told) y → IsAs flags y
+flags_as None told y is = tt
+flags_as (Some x) told y is = is
+
+pub line_as : (flags known : Option Context) (y : Context) → IsAs flags y → IsAs known y → IsAs (context_at flags known) y
+line_as None known y told is = is
+line_as (Some x) known y told is = told
+
+pub is_as : (known : Option Context) (x y : Context) → IsAs known y → known ≡ Some x → y ≡ x
+is_as None x y is same = absurd cc
+is_as (Some z) x y is same = is ∙ same_some same
+
+-- what lines have told of a timer is known of it
+abbrev pub IsKnown : Option Context → Option Context → Type 0
+IsKnown told known = IfSome told (λ x. known ≡ Some x)
+
+pub known_as : (told known : Option Context) (y : Context) → IsKnown told known → IsAs known y → IsAs told y
+known_as None known y sound is = tt
+known_as (Some x) known y sound is = is_as known x y is sound
+
+pub line_known : (flags told known : Option Context) → is_other_context flags known ≡ false → IsKnown told known
+    → IsKnown (context_at flags told) (context_at flags known)
+line_known None told known same sound = sound
+line_known (Some x) told known same sound = refl
+
+pub known_kept : (flags known : Option Context) → is_other_context flags known ≡ false → IsKnown known (context_at flags known)
+known_kept None None same = tt
+known_kept None (Some y) same = refl
+known_kept (Some x) None same = tt
+known_kept (Some x) (Some y) same = ap Some (sym (same_context y x (not-false (is_context y x) same)))
+
+-- what is known of a timer whose function begins, inside another one or not
+abbrev pub inside_or : Bool → Option Context → Option Context
+inside_or inside known = if inside then Some contexts.Hard else known
+
+pub entered_as : (inside : Bool) (known : Option Context) (y : Context) → (inside ≡ true → y ≡ contexts.Hard) → IsAs known y → IsAs (inside_or inside known) y
+entered_as true known y hard is = hard refl
+entered_as false known y hard is = is
+
+pub before_entered : (inside : Bool) (known : Option Context) (y : Context) → (inside ≡ true → known ≡ Some contexts.Soft → ⊥) → IsAs (inside_or inside known) y
+    → IsAs known y
+before_entered true None y hard is = tt
+before_entered true (Some contexts.Hard) y hard is = is
+before_entered true (Some contexts.Soft) y hard is = absurd (hard refl refl)
+before_entered false known y hard is = is
+
+pub told_entered : (inside : Bool) (told known : Option Context) → (inside ≡ true → known ≡ Some contexts.Soft → ⊥) → IsKnown told known
+    → IsKnown told (inside_or inside known)
+told_entered inside None known hard is = tt
+told_entered true (Some contexts.Hard) known hard is = refl
+told_entered true (Some contexts.Soft) known hard is = absurd (hard refl is)
+told_entered false (Some x) known hard is = is
+
+-- the context that is left for a function
+pub left_as : (known left : Option Context) (y : Context) → IsAs known y → IsAs left y → IsAs (context_at known left) y
+left_as None left y is rest = rest
+left_as (Some x) left y is rest = is
+
+pub before_left : (known left : Option Context) (y : Context) → IsAs (context_at known left) y → IsAs known y
+before_left None left y is = tt
+before_left (Some x) left y is = is
+
+pub told_left : (told known left : Option Context) → IsKnown told known → IsKnown told (context_at known left)
+told_left None known left is = tt
+told_left (Some x) None left is = absurd cc
+told_left (Some x) (Some y) left is = is
 
 -- ---- and the other way
 
@@ -87,10 +156,6 @@ pub home_same : (home : Option ℕ) (processor : ℕ) (base : ℕ) → is_other_
     → IfSome home (λ b. base ≡ b)
 home_same None processor base same at = tt
 home_same (Some b) processor base same at = at ∙ sym (eqb-true b processor (not-false (nat_eq b processor) same))
-
-pub context_same : (known : Option Context) (x y : Context) → is_other_context x known ≡ false → y ≡ x → IfSome known (λ z. y ≡ z)
-context_same None x y same at = tt
-context_same (Some z) x y same at = at ∙ sym (same_context z x (not-false (is_context z x) same))
 
 -- ---- the order of a queue
 
@@ -135,55 +200,88 @@ turns_from-none (q ∷ qs) claim p m at context clock expires order none =
     (turn_from-passes q claim p m at context clock expires order parts.0, turns_from-none qs claim p m at context clock expires order parts.1)
 
 -- what an expiry that takes part adds
-pub waits_with : (n processor : ℕ) (x : Context) (a : ArmedKnown) (c : Option ClockId) (o : Option ℕ) (claims : List OrderedExpiry) (P : OrderedExpiry → Type 0)
-    → AllByRecursion P claims
-    → ((soft expires j : ℕ) (clock : ClockId) → a ≡ arms.Until soft expires → c ≡ Some clock → o ≡ Some j
-    → P (record { processor = processor; context = x; clock = clock; expires = expires; order = j; at = n }))
+pub waits_with : (n processor : ℕ) (x : Option Context) (a : ArmedKnown) (c : Option ClockId) (o : Option ℕ) (claims : List OrderedExpiry)
+    (P : OrderedExpiry → Type 0) → AllByRecursion P claims
+    → ((y : Context) (soft expires j : ℕ) (clock : ClockId) → x ≡ Some y → a ≡ arms.Until soft expires → c ≡ Some clock → o ≡ Some j
+    → P (record { processor = processor; context = y; clock = clock; expires = expires; order = j; at = n }))
     → AllByRecursion P (with_claim (claim_by n processor x a c o) claims)
-waits_with n processor x (arms.Until soft expires) (Some clock) (Some j) claims P all one = (one soft expires j clock refl refl refl, all)
-waits_with n processor x (arms.Until soft expires) (Some clock) None claims P all one = all
-waits_with n processor x (arms.Until soft expires) None o claims P all one = all
-waits_with n processor x arms.Untold c o claims P all one = all
-waits_with n processor x arms.No c o claims P all one = all
+waits_with n processor (Some y) (arms.Until soft expires) (Some clock) (Some j) claims P all one = (one y soft expires j clock refl refl refl refl, all)
+waits_with n processor (Some y) (arms.Until soft expires) (Some clock) None claims P all one = all
+waits_with n processor (Some y) (arms.Until soft expires) None o claims P all one = all
+waits_with n processor (Some y) arms.Untold c o claims P all one = all
+waits_with n processor (Some y) arms.No c o claims P all one = all
+waits_with n processor None a c o claims P all one = all
 
 -- what it had before
-pub waits_without : (n processor : ℕ) (x : Context) (a : ArmedKnown) (c : Option ClockId) (o : Option ℕ) (claims : List OrderedExpiry) (P : OrderedExpiry → Type 0)
-    → AllByRecursion P (with_claim (claim_by n processor x a c o) claims) → AllByRecursion P claims
-waits_without n processor x (arms.Until soft expires) (Some clock) (Some j) claims P all = all.1
-waits_without n processor x (arms.Until soft expires) (Some clock) None claims P all = all
-waits_without n processor x (arms.Until soft expires) None o claims P all = all
-waits_without n processor x arms.Untold c o claims P all = all
-waits_without n processor x arms.No c o claims P all = all
+pub waits_without : (n processor : ℕ) (x : Option Context) (a : ArmedKnown) (c : Option ClockId) (o : Option ℕ) (claims : List OrderedExpiry)
+    (P : OrderedExpiry → Type 0) → AllByRecursion P (with_claim (claim_by n processor x a c o) claims) → AllByRecursion P claims
+waits_without n processor (Some y) (arms.Until soft expires) (Some clock) (Some j) claims P all = all.1
+waits_without n processor (Some y) (arms.Until soft expires) (Some clock) None claims P all = all
+waits_without n processor (Some y) (arms.Until soft expires) None o claims P all = all
+waits_without n processor (Some y) arms.Untold c o claims P all = all
+waits_without n processor (Some y) arms.No c o claims P all = all
+waits_without n processor None a c o claims P all = all
 
 -- ---- one timer changes
 
-pub each_but : (half : ℕ → HalfKnown) (claims : List OrderedExpiry) (f : ℕ → KnownTimer) (t : ℕ) (known : KnownTimer) (w w' : PlainTimers) → Spared t w w'
-    → AgreesAt half claims t known (w' t) → ((u : ℕ) → u ≢ t → AgreesAt half claims u (f u) (w u))
-    → (u : ℕ) → AgreesAt half claims u (updated f t known u) (w' u)
-each_but half claims f t known w w' spared here others u =
+pub each_but : (there : ℕ → KnownProcessor) (claims : List OrderedExpiry) (f : ℕ → KnownTimer) (t : ℕ) (known : KnownTimer) (w w' : PlainTimers) → Spared t w w'
+    → AgreesAt there claims known (w' t) → ((u : ℕ) → u ≢ t → AgreesAt there claims (f u) (w u))
+    → (u : ℕ) → AgreesAt there claims (updated f t known u) (w' u)
+each_but there claims f t known w w' spared here others u =
     elim (cases_eq u t) [
-      | inl same ↦ subst (λ v. AgreesAt half claims v (updated f t known v) (w' v)) (sym same)
-          (subst (λ k. AgreesAt half claims t k (w' t)) (sym (updated_here f t known)) here)
-      | inr other ↦ subst (λ k. AgreesAt half claims u k (w' u)) (sym (updated_else f t u known other))
-          (subst (λ p. AgreesAt half claims u (f u) p) (sym (spared u other)) (others u other))
+      | inl same ↦ subst (λ v. AgreesAt there claims (updated f t known v) (w' v)) (sym same)
+          (subst (λ k. AgreesAt there claims k (w' t)) (sym (updated_here f t known)) here)
+      | inr other ↦ subst (λ k. AgreesAt there claims k (w' u)) (sym (updated_else f t u known other))
+          (subst (λ p. AgreesAt there claims (f u) p) (sym (spared u other)) (others u other))
     ]
 
--- whose function runs, has run there before
+-- nothing else is said of a timer, but of its context, of the half where its function runs and of the expiries before it
+pub elsewhere : (there there' : ℕ → KnownProcessor) (claims claims' : List OrderedExpiry) (known : KnownTimer) (p : Plain) → AgreesAt there claims known p
+    → (p.running ≡ true → p.shown ≡ false → half_of (there' p.base) p.context ≡ halves.Untold)
+    → ((m : ℕ) → p.order ≡ Some m → p.tells ≡ true → AllByRecursion (λ q. HasTurnBefore q p m) claims') → AgreesAt there' claims' known p
+elsewhere there there' claims claims' known p a hidden waits = record {
+  armed = a.armed;
+  function = a.function;
+  home = a.home;
+  clock = a.clock;
+  clocked = a.clocked;
+  context = a.context;
+  told = a.told;
+  order = a.order;
+  hidden = hidden;
+  waits = waits;
+}
+
+pub with_context : (there : ℕ → KnownProcessor) (claims : List OrderedExpiry) (known : KnownTimer) (x : Option Context) (p : Plain)
+    → AgreesAt there claims known p
+    → IsAs x p.context → AgreesAt there claims (record known { context = x }) p
+with_context there claims known x p a is = record {
+  armed = a.armed;
+  function = a.function;
+  home = a.home;
+  clock = a.clock;
+  clocked = a.clocked;
+  context = is;
+  told = a.told;
+  order = a.order;
+  hidden = a.hidden;
+  waits = a.waits;
+}
+
+-- whose function runs since the recording began, has run there before
 abbrev pub Moves : Plain → Plain → Type 0
-Moves old new = new.running ≡ true → (old.running ≡ true) × (old.base ≡ new.base) × (old.context ≡ new.context)
+Moves old new = (c : ℕ) → IsHidden c new → IsHidden c old
 
 pub moves_all : (t : ℕ) (w w' : PlainTimers) → Spared t w w' → Moves (w t) (w' t) → (u : ℕ) → Moves (w u) (w' u)
 moves_all t w w' spared here u =
     elim (cases_eq u t) [
       | inl same ↦ subst (λ v. Moves (w v) (w' v)) (sym same) here
-      | inr other ↦ subst (λ p. Moves (w u) p) (sym (spared u other)) (λ has_running. (has_running, refl, refl))
+      | inr other ↦ subst (λ p. Moves (w u) p) (sym (spared u other)) (λ c hidden. hidden)
     ]
 
-abbrev pub AreAlone : PlainTimers → Type 0
-AreAlone w = (t u : ℕ) → (w t).running ≡ true → (w u).running ≡ true → (w t).base ≡ (w u).base → (w t).context ≡ (w u).context → t ≡ u
+pub alone_still : (there : ℕ → KnownProcessor) (t : ℕ) (w w' : PlainTimers) → Spared t w w' → Moves (w t) (w' t) → AreAlone there w → AreAlone there w'
+alone_still there t w w' spared here alone c u v told run_u run_v =
+    alone c u v told (moves_all t w w' spared here u c run_u) (moves_all t w w' spared here v c run_v)
 
-pub alone_still : (t : ℕ) (w w' : PlainTimers) → Spared t w w' → Moves (w t) (w' t) → AreAlone w → AreAlone w'
-alone_still t w w' spared here alone u v run_u run_v base context =
-    let a = moves_all t w w' spared here u run_u in
-    let b = moves_all t w w' spared here v run_v in
-    alone u v a.0 b.0 (a.1 ∙ base ∙ sym b.1) (a.2 ∙ context ∙ sym b.2)
+pub not_hidden : (old new : Plain) → new.running ≡ false → Moves old new
+not_hidden old new still c hidden = absurd (both_ways new.running still hidden.runs.running)

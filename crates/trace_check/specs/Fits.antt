@@ -1,5 +1,5 @@
 -- What it means that a kernel's trace fits: there is a history that the model gives, and it shows these lines.
-use Rattle.std.specs.Prelude.{ℕ, ◌≡◌, ◌+◌, ◌-◌, Bool, false, not, ◌&&◌, is_some, if◌then◌else◌, Option, Some, None, IfSome, IsSome, IsNone, List, [], ◌∷◌}
+use Rattle.std.specs.Prelude.{ℕ, ◌≡◌, ◌+◌, ◌-◌, Bool, true, false, not, ◌&&◌, is_some, if◌then◌else◌, Option, Some, None, IfSome, IsSome, IsNone, List, [], ◌∷◌}
 use Rattle.ktime.specs.declared.clock_id.ClockId.{ClockId}
 use Rattle.ktime.specs.declared.mode.Mode.TheVariants as modes
 use Rattle.ktime.specs.Readings.{ClockReading, value_of}
@@ -11,16 +11,15 @@ use Rattle.seq_timer.specs.Steps.{opening, limited}
 use Rattle.trace_text.specs.declared.event.KernelEvent.{KernelEvent}
 use Rattle.trace_text.specs.declared.event.KernelEvent.TheVariants as kernel
 use Rattle.trace_text.specs.declared.event.Site.{Site}
-use Rattle.trace_check.specs.Traced.{Traced, TracedTimers, Spares, Goes, IsNextThere, context_at}
+use Rattle.trace_check.specs.Traced.{Traced, TracedTimers, Spares, Goes, IsNextThere, LeavesOne, context_at}
 
--- where a recording begins, or goes on after a loss, nothing is told: a timer may be armed, and its function may run, one alone on a processor in a context
+-- where a recording begins, or goes on after a loss, nothing is told: a timer may be armed, and its function may run
 pub record IsBeginning (w : TracedTimers) : Type 0 where
   pub still : (t : ℕ) → (w t).timer.moving ≡ false
-  pub alone : (t u : ℕ) → IsSome (w t).timer.running → IsSome (w u).timer.running → (w t).timer.base ≡ (w u).timer.base
-      → (w t).timer.declared.context ≡ (w u).timer.declared.context → t ≡ u
   pub clocked : (t : ℕ) → (w t).clocked ≡ false
   pub told : (t : ℕ) → (w t).told ≡ None
   pub order : (t : ℕ) → (w t).order ≡ None
+  pub shown : (t : ℕ) → IsSome (w t).timer.running → (w t).shown ≡ false
 
 -- A set-up, of a timer that rests, begins another timer at its address: on the clock and in the context that are told, or in any.
 pub record IsSetUp (clock : Option ClockId) (context : Option Context) (old new : Traced) : Type 0 where
@@ -47,6 +46,7 @@ pub record IsStarted (n soft expires : ℕ) (was_armed : Option Bool) (old new :
   pub clocked : new.clocked ≡ old.clocked
   pub told : new.told ≡ old.told
   pub order : new.order ≡ order_of n old.clocked (is_some old.timer.running)
+  pub shown : new.shown ≡ old.shown
 
 -- a cancel
 pub record IsCancelled (old new : Traced) : Type 0 where
@@ -58,18 +58,20 @@ pub record IsCancelled (old new : Traced) : Type 0 where
 -- an expiry, as the model's claim by a reading in which the timer's clock shows this time
 pub record IsEntered (site : Site) (now : ℕ) (old new : Traced) : Type 0 where
   pub goes : (reading : ClockReading) × (value_of old.timer.clock reading ≡ now) × Goes old.timer (events.Claim site.processor reading ∷ []) new.timer
-  pub context : old.timer.declared.context ≡ context_at site.context old.told
+  pub context : IfSome (context_at site.context old.told) (λ x. old.timer.declared.context ≡ x)
   pub clocked : new.clocked ≡ old.clocked
-  pub told : new.told ≡ Some (context_at site.context old.told)
+  pub told : new.told ≡ context_at site.context old.told
   pub order : new.order ≡ None
+  pub tells : old.tells ≡ is_some (context_at site.context old.told)
+  pub shown : new.shown ≡ true
 
 -- the return of a function, as the model's finish; a restart is told by the start behind it
 pub record IsExited (site : Site) (old new : Traced) : Type 0 where
   pub goes : Goes old.timer (events.Finish false ∷ []) new.timer
   pub base : old.timer.base ≡ site.processor
-  pub context : old.timer.declared.context ≡ context_at site.context old.told
+  pub context : IfSome (context_at site.context old.told) (λ x. old.timer.declared.context ≡ x)
   pub clocked : new.clocked ≡ old.clocked
-  pub told : new.told ≡ Some (context_at site.context old.told)
+  pub told : new.told ≡ context_at site.context old.told
   pub order : new.order ≡ old.order
 
 -- an event of this number is what happened between two moments
@@ -77,8 +79,9 @@ abbrev pub ShowsEvent : ℕ → KernelEvent → TracedTimers → TracedTimers �
 ShowsEvent n (kernel.SetUp t clock context) w w' = IsSetUp clock context (w t) (w' t) × Spares t w w'
 ShowsEvent n (kernel.Start t soft expires was_armed) w w' = IsStarted n soft expires was_armed (w t) (w' t) × Spares t w w'
 ShowsEvent n (kernel.Cancel t) w w' = IsCancelled (w t) (w' t) × Spares t w w'
-ShowsEvent n (kernel.Entry t site now) w w' = IsEntered site now (w t) (w' t) × IsNextThere w site.processor t × Spares t w w'
-ShowsEvent n (kernel.Exit t site) w w' = IsExited site (w t) (w' t) × Spares t w w'
+ShowsEvent n (kernel.Entry t site now) w w' = IsEntered site now (w t) (w' t) × IsNextThere w (context_at site.context (w t).told) site.processor t
+    × Spares t w w'
+ShowsEvent n (kernel.Exit t site) w w' = IsExited site (w t) (w' t) × LeavesOne w (context_at site.context (w t).told) site.processor t × Spares t w w'
 ShowsEvent n kernel.Lost w w' = IsBeginning w'
 
 -- from here on these events are what happened, one after the other; they are numbered on from `n`

@@ -1,25 +1,24 @@
 //! A checker of a kernel's trace, event by event.
 ghost use Rattle.std.specs.Prelude.{◌≡◌, ◌+◌, ℕ, IfOk, OnOk, None};
 ghost use Rattle.trace_check.specs.Checkers.{HoldsKnowledge};
-ghost use Rattle.trace_check.specs.Holding.{half_in};
-ghost use Rattle.trace_check.specs.Knowledge.{Knowledge, misfit, half_number, learned, no_knowledge, with_claim, with_known};
+ghost use Rattle.trace_check.specs.Knowledge.{Knowledge, learned, misfit, no_knowledge, outer_by, with_claim, with_known, with_outer};
 ghost use Rattle.seq_timer.specs.Systems.{updated};
-ghost use Rattle.trace_check.specs.Traced.{context_at};
 
-use crate::known::{HalfKnown, KnownTimer, OrderedExpiry};
+use crate::known::{KnownProcessor, KnownTimer, OrderedExpiry};
 use crate::learning::context_at;
 use crate::misfit::Misfit;
-use crate::places::{HalfTable, QueueTable, half, half_number, is_passed, note_claim, note_half};
+use crate::places::{ProcessorTable, QueueTable, is_passed, known_on, note_claim, note_on};
 use crate::timers::{TimerTable, known, note};
+use seq_timer::Context;
 use std::alloc::{AllocError, Global};
 use std::collections::HashMap;
 use trace_text::{KernelEvent, Site};
 
-/// What the events so far tell: of each timer that they name, of each half of a processor, and the expiries that timers still wait behind.
+/// What the events so far tell: of each timer that they name, of each processor, and the expiries that timers still wait behind.
 #[derive(Drop)]
 pub struct Checker {
     timers: TimerTable,
-    halves: HalfTable,
+    processors: ProcessorTable,
     queues: QueueTable,
     count: u64,
     alloc: Global,
@@ -32,7 +31,7 @@ impl Checker {
     {
         Checker {
             timers: HashMap::new(alloc),
-            halves: HashMap::new(alloc),
+            processors: HashMap::new(alloc),
             queues: HashMap::new(alloc),
             count: 0,
             alloc,
@@ -54,19 +53,18 @@ impl Checker {
             KernelEvent::Cancel { timer } => known(&self.timers, timer).misfit_of_cancel(),
             KernelEvent::Entry { timer, site, now } => self.misfit_of_entry(timer, site, now),
             KernelEvent::Exit { timer, site } => {
-                let known = known(&self.timers, timer);
-                known.misfit_of_exit(site, self.half_at(site, known))
+                let there = known_on(&self.processors, site.processor);
+                known(&self.timers, timer).misfit_of_exit(site, there)
             }
             KernelEvent::Lost => None,
         }
     }
 
-    /// What is known of the half that a line was told in.
-    fn half_at(&self, site: Site, known: KnownTimer) -> HalfKnown
-        ensures { result ≡ half_in self.now.halves (half_number site.processor (context_at site.context known.context)) }
+    /// What is known of the context of the function that no line has told it of.
+    fn outer(&self, there: KnownProcessor) -> Option<Context>
+        ensures { (k : Knowledge) → HoldsKnowledge self.now k → result ≡ outer_by there.loose k.timers }
     {
-        let context = context_at(site.context, known.context);
-        half(&self.halves, half_number(site.processor, context))
+        known(&self.timers, there.loose?).context
     }
 
     /// What is wrong with an expiry.
@@ -78,7 +76,8 @@ impl Checker {
             Some(claim) => is_passed(&self.queues, &claim),
             None => false,
         };
-        known.misfit_of_entry(site, now, self.half_at(site, known), passed)
+        let there = known_on(&self.processors, site.processor);
+        known.misfit_of_entry(site, now, there, self.outer(there), passed)
     }
 
     /// Notes what is known of a timer after one more event.
@@ -89,17 +88,24 @@ impl Checker {
         note(&mut self.timers, timer, known)
     }
 
-    /// Notes what runs in a half.
-    fn note_half(
-        &mut self,
-        site: Site,
-        known: KnownTimer,
-        half: HalfKnown,
-    ) -> Result<(), AllocError>
-        ensures { (k : Knowledge) → HoldsKnowledge self.old k → OnOk result (HoldsKnowledge self.new (record k { halves = updated k.halves (half_number site.processor (context_at site.context known.context)) half })) }
+    /// Notes what runs on a processor.
+    fn note_on(&mut self, processor: u32, known: KnownProcessor) -> Result<(), AllocError>
+        ensures { (k : Knowledge) → HoldsKnowledge self.old k → OnOk result (HoldsKnowledge self.new (record k { processors = updated k.processors processor known })) }
     {
-        let context = context_at(site.context, known.context);
-        note_half(&mut self.halves, half_number(site.processor, context), half)
+        note_on(&mut self.processors, processor, known)
+    }
+
+    /// Notes that the function that no line has told the context of is soft, if there is one.
+    fn note_outer(&mut self, loose: Option<u64>) -> Result<(), AllocError>
+        ensures { (k : Knowledge) → HoldsKnowledge self.old k → OnOk result (HoldsKnowledge self.new (record k { timers = with_outer loose k.timers })) }
+    {
+        match loose {
+            Some(timer) => {
+                let known = known(&self.timers, timer).outer();
+                note(&mut self.timers, timer, known)
+            }
+            None => Ok(()),
+        }
     }
 
     /// Notes an expiry, where it takes part in the order of its queue.
@@ -118,7 +124,7 @@ impl Checker {
     {
         self.count = self.count.checked_add(1).ok_or(AllocError)?;
         self.timers = HashMap::new(self.alloc);
-        self.halves = HashMap::new(self.alloc);
+        self.processors = HashMap::new(self.alloc);
         self.queues = HashMap::new(self.alloc);
         Ok(())
     }
@@ -147,11 +153,7 @@ impl Checker {
                 self.note(timer, known.cancelled())
             }
             KernelEvent::Entry { timer, site, .. } => self.learn_entry(timer, site),
-            KernelEvent::Exit { timer, site } => {
-                let known = known(&self.timers, timer);
-                self.note_half(site, known, HalfKnown::Free)?;
-                self.note(timer, known.exited(site))
-            }
+            KernelEvent::Exit { timer, site } => self.learn_exit(timer, site),
             KernelEvent::Lost => self.begin_anew(),
         }
     }
@@ -161,9 +163,22 @@ impl Checker {
         ensures { (k : Knowledge) (now : ℕ) → HoldsKnowledge self.old k → OnOk result (HoldsKnowledge self.new (learned k (KernelEvent.Entry timer site now))) }
     {
         let known = known(&self.timers, timer);
+        let there = known_on(&self.processors, site.processor);
+        let line = context_at(site.context, known.told);
         self.note_claim(known.claim(self.count, site))?;
-        self.note_half(site, known, HalfKnown::Taken { timer })?;
-        self.note(timer, known.entered(site))
+        self.note_outer(there.loose)?;
+        self.note_on(site.processor, there.entered(timer, line))?;
+        self.note(timer, known.entered(site, there.is_inside()))
+    }
+
+    /// What is known after a return.
+    fn learn_exit(&mut self, timer: u64, site: Site) -> Result<(), AllocError>
+        ensures { (k : Knowledge) → HoldsKnowledge self.old k → OnOk result (HoldsKnowledge self.new (learned k (KernelEvent.Exit timer site))) }
+    {
+        let known = known(&self.timers, timer);
+        let there = known_on(&self.processors, site.processor);
+        self.note_on(site.processor, there.exited(timer, site, &known))?;
+        self.note(timer, known.exited(site, there))
     }
 
     /// Takes one more event: the cause why no history shows the events so far with this one behind them, if there is none. After a cause, and

@@ -17,7 +17,7 @@ pub enum FunctionKnown {
     /// No line has told it.
     Untold,
     Rests,
-    Runs { processor: u32, context: Context },
+    Runs { processor: u32 },
 }
 
 /// What is known of a timer.
@@ -27,6 +27,8 @@ pub struct KnownTimer {
     pub function: FunctionKnown,
     /// The clock and the context that it was set up with, where lines have told them.
     pub clock: Option<ClockId>,
+    pub told: Option<Context>,
+    /// Its context, where lines have told it or it can't be the other one: one function that begins inside another tells both.
     pub context: Option<Context>,
     /// The processor that it is queued on if it is armed, where it was armed while its function ran there.
     pub home: Option<u32>,
@@ -37,10 +39,19 @@ pub struct KnownTimer {
 /// What runs on a processor in one context.
 #[derive(Clone, Copy, Debug, PartialEq, Eq)]
 pub enum HalfKnown {
-    /// No line has told it.
+    /// No line has told it: a function may run there since before the recording.
     Untold,
     Free,
     Taken { timer: u64 },
+}
+
+/// What runs on a processor.
+#[derive(Clone, Copy, Debug, PartialEq, Eq)]
+pub struct KnownProcessor {
+    pub hard: HalfKnown,
+    pub soft: HalfKnown,
+    /// The timer whose function runs there, where its expiry's line told no context and it didn't begin inside another one.
+    pub loose: Option<u64>,
 }
 
 /// An expiry that took part in the order of its queue.

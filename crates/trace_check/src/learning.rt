@@ -1,18 +1,18 @@
 //! What a line tells of its timer.
 ghost use Rattle.std.specs.Prelude.{◌≡◌};
-ghost use Rattle.trace_check.specs.Knowledge.{known_cancelled, claim_of, known_entered, known_exited, known_set_up, known_started};
+ghost use Rattle.trace_check.specs.Knowledge.{claim_of, known_cancelled, known_entered, known_exited, known_outer, known_set_up, known_started};
 ghost use Rattle.trace_check.specs.Traced.{context_at};
 
-use crate::known::{ArmedKnown, FunctionKnown, KnownTimer, OrderedExpiry};
+use crate::known::{ArmedKnown, FunctionKnown, KnownProcessor, KnownTimer, OrderedExpiry};
 use ktime::ClockId;
 use seq_timer::Context;
 use trace_text::Site;
 
-/// The context that a line was told in: by its flags, or else by what is known of its timer, or else the hard one.
-pub fn context_at(flags: Option<Context>, known: Option<Context>) -> Context
-    ensures { result ≡ context_at flags known }
+/// The context that a line tells: by its flags, or else by what lines before it have told of its timer.
+pub fn context_at(flags: Option<Context>, told: Option<Context>) -> Option<Context>
+    ensures { result ≡ context_at flags told }
 {
-    flags.unwrap_or(known.unwrap_or(Context::Hard))
+    flags.or(told)
 }
 
 impl KnownTimer {
@@ -24,6 +24,7 @@ impl KnownTimer {
             armed: ArmedKnown::No,
             function: FunctionKnown::Rests,
             clock,
+            told: context,
             context,
             home: None,
             order: None,
@@ -36,7 +37,7 @@ impl KnownTimer {
     {
         let armed = ArmedKnown::Until { soft, expires };
         let home = match self.function {
-            FunctionKnown::Runs { processor, .. } => Some(processor),
+            FunctionKnown::Runs { processor } => Some(processor),
             _ => None,
         };
         let order = match self.function {
@@ -64,33 +65,51 @@ impl KnownTimer {
         }
     }
 
-    /// The timer, expired.
-    pub fn entered(self, site: Site) -> KnownTimer
-        ensures { result ≡ known_entered site self }
+    /// The timer, expired. `inside`: its function began inside another one.
+    pub fn entered(self, site: Site, inside: bool) -> KnownTimer
+        ensures { result ≡ known_entered site inside self }
     {
-        let context = context_at(site.context, self.context);
-        let processor = site.processor;
+        let context = if inside {
+            Some(Context::Hard)
+        } else {
+            context_at(site.context, self.context)
+        };
         KnownTimer {
             armed: ArmedKnown::No,
-            function: FunctionKnown::Runs { processor, context },
-            context: Some(context),
+            function: FunctionKnown::Runs {
+                processor: site.processor,
+            },
+            told: context_at(site.context, self.told),
+            context,
             home: None,
             order: None,
             ..self
         }
     }
 
-    /// The timer, its function returned.
-    pub fn exited(self, site: Site) -> KnownTimer
-        ensures { result ≡ known_exited site self }
+    /// The timer, inside whose function another one began.
+    pub fn outer(self) -> KnownTimer
+        ensures { result ≡ known_outer self }
+    {
+        KnownTimer {
+            context: Some(Context::Soft),
+            ..self
+        }
+    }
+
+    /// The timer, its function returned. `there`: what was known of its processor.
+    pub fn exited(self, site: Site, there: KnownProcessor) -> KnownTimer
+        ensures { result ≡ known_exited site there self }
     {
         let home = match self.function {
             FunctionKnown::Untold => Some(site.processor),
             _ => self.home,
         };
+        let left = there.left_for(self.function);
         KnownTimer {
             function: FunctionKnown::Rests,
-            context: Some(context_at(site.context, self.context)),
+            told: context_at(site.context, self.told),
+            context: context_at(context_at(site.context, self.context), left),
             home,
             ..self
         }
@@ -100,10 +119,11 @@ impl KnownTimer {
     pub fn claim(&self, n: u64, site: Site) -> Option<OrderedExpiry>
         ensures { result ≡ claim_of n site self.now }
     {
+        let context = context_at(site.context, self.told)?;
         match (self.armed, self.clock, self.order) {
             (ArmedKnown::Until { expires, .. }, Some(clock), Some(order)) => Some(OrderedExpiry {
                 processor: site.processor,
-                context: context_at(site.context, self.context),
+                context,
                 clock,
                 expires,
                 order,

@@ -2,7 +2,7 @@
 #![tactic(auto)]
 
 pub use checker::Checker;
-pub use known::{ArmedKnown, FunctionKnown, HalfKnown, KnownTimer, OrderedExpiry};
+pub use known::{ArmedKnown, FunctionKnown, HalfKnown, KnownProcessor, KnownTimer, OrderedExpiry};
 pub use laws::{
     a_trace_fits_exactly_where_no_event_is_a_misfit, the_first_misfit_ends_all_histories,
 };
@@ -16,5 +16,6 @@ mod mark;
 mod misfit;
 mod misfits;
 mod places;
+mod processors;
 mod queue;
 mod timers;

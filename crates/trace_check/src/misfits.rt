@@ -1,8 +1,8 @@
 //! What is wrong with an event, by what is known of its timer.
 ghost use Rattle.std.specs.Prelude.{◌≡◌};
-ghost use Rattle.trace_check.specs.Knowledge.{misfits_of_cancel, misfits_of_entry, misfits_of_exit, misfits_of_set_up, misfits_of_start, first_that_holds, is_armed, is_other_context, is_other_processor, is_unarmed, may_run, has_running, soft_of};
+ghost use Rattle.trace_check.specs.Knowledge.{first_that_holds, has_running, is_armed, is_other_context, is_other_processor, is_unarmed, may_run, misfits_of_cancel, misfits_of_entry, misfits_of_exit, misfits_of_set_up, misfits_of_start, soft_of};
 
-use crate::known::{ArmedKnown, FunctionKnown, HalfKnown, KnownTimer};
+use crate::known::{ArmedKnown, FunctionKnown, KnownProcessor, KnownTimer};
 use crate::learning::context_at;
 use crate::misfit::Misfit;
 use ktime::LAST_TIME;
@@ -46,26 +46,24 @@ impl KnownTimer {
         }
     }
 
-    fn is_in_other(&self, context: Context) -> bool
-        ensures { result ≡ is_other_context context self.now.context }
+    /// Whether a line's flags tell another context than the timer's.
+    fn is_in_other(&self, flags: Option<Context>) -> bool
+        ensures { result ≡ is_other_context flags self.now.context }
     {
-        match self.context {
-            Some(known) => known != context,
-            None => false,
+        match (flags, self.context) {
+            (Some(context), Some(known)) => known != context,
+            _ => false,
         }
     }
 
-    /// Whether the timer's function may run in a half of a processor.
-    fn may_run(&self, processor: u32, context: Context, half: HalfKnown) -> bool
-        ensures { result ≡ may_run processor context half self.now.function }
+    /// Whether the timer's function may run on a processor, where a line tells this context.
+    fn may_run(&self, processor: u32, line: Option<Context>, there: KnownProcessor) -> bool
+        ensures { result ≡ may_run processor line there self.now.function }
     {
         match self.function {
-            FunctionKnown::Untold => matches!(half, HalfKnown::Untold),
+            FunctionKnown::Untold => there.may_be_left(line),
             FunctionKnown::Rests => false,
-            FunctionKnown::Runs {
-                processor: at,
-                context: known,
-            } => at == processor && known == context,
+            FunctionKnown::Runs { processor: at } => at == processor,
         }
     }
 
@@ -117,15 +115,17 @@ impl KnownTimer {
         }
     }
 
-    /// What is wrong with an expiry. `passed`: an earlier one of its queue had to wait for it.
+    /// What is wrong with an expiry. `there`: what runs on its processor; `outer`: what is known of the context of the function that no line has told it
+    /// of. `passed`: an earlier expiry of its queue had to wait for it.
     pub fn misfit_of_entry(
         &self,
         site: Site,
         now: u64,
-        half: HalfKnown,
+        there: KnownProcessor,
+        outer: Option<Context>,
         passed: bool,
     ) -> Option<Misfit>
-        ensures { result ≡ first_that_holds (misfits_of_entry site now self.now half passed) }
+        ensures { result ≡ first_that_holds (misfits_of_entry site now self.now there outer passed) }
     {
         let soft = self.soft();
         if self.runs() {
@@ -137,13 +137,14 @@ impl KnownTimer {
         if self.is_elsewhere(site.processor) {
             return Some(Misfit::OtherProcessor);
         }
-        if self.is_in_other(context_at(site.context, self.context)) {
+        if self.is_in_other(site.context) {
             return Some(Misfit::OtherContext);
         }
         if now < soft {
             return Some(Misfit::TooEarly { soft, now });
         }
-        if let HalfKnown::Taken { timer } = half {
+        let context = context_at(site.context, self.context);
+        if let Some(timer) = there.blocker(context, outer) {
             return Some(Misfit::SecondFunction { timer });
         }
         if passed {
@@ -152,14 +153,14 @@ impl KnownTimer {
         None
     }
 
-    /// What is wrong with a return.
-    pub fn misfit_of_exit(&self, site: Site, half: HalfKnown) -> Option<Misfit>
-        ensures { result ≡ first_that_holds (misfits_of_exit site self.now half) }
+    /// What is wrong with a return. `there`: what runs on its processor.
+    pub fn misfit_of_exit(&self, site: Site, there: KnownProcessor) -> Option<Misfit>
+        ensures { result ≡ first_that_holds (misfits_of_exit site self.now there) }
     {
-        let context = context_at(site.context, self.context);
-        if self.is_in_other(context) {
+        let line = context_at(site.context, self.told);
+        if self.is_in_other(site.context) {
             Some(Misfit::OtherContext)
-        } else if !self.may_run(site.processor, context, half) {
+        } else if !self.may_run(site.processor, line, there) {
             Some(Misfit::NotRunning)
         } else {
             None

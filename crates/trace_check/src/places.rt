@@ -1,10 +1,10 @@
-//! What is known of the halves of processors, and the expiries of their queues.
+//! What is known of processors, and the expiries of their queues.
 ghost use Rattle.std.specs.Prelude.{◌≡◌, ◌≢◌, ℕ, OnOk, Some, List};
 ghost use Rattle.trace_check.specs.declared.known.OrderedExpiry.{OrderedExpiry};
-ghost use Rattle.trace_check.specs.Holding.{half_in, is_late_for, marks_in, queue_number, HasOnly, TellsPassed};
-ghost use Rattle.trace_check.specs.Knowledge.{half_number, is_passed, with_claim};
+ghost use Rattle.trace_check.specs.Holding.{half_number, is_late_for, known_on, marks_in, queue_number, HasOnly, TellsPassed};
+ghost use Rattle.trace_check.specs.Knowledge.{is_passed, with_claim};
 
-use crate::known::{HalfKnown, OrderedExpiry};
+use crate::known::{KnownProcessor, OrderedExpiry};
 use crate::mark::Mark;
 use crate::queue::MarkList;
 use ktime::ClockId;
@@ -13,7 +13,7 @@ use std::alloc::{AllocError, Global};
 use std::collections::HashMap;
 
 /// The number of a processor's half for a context.
-pub fn half_number(processor: u32, context: Context) -> u64
+fn half_number(processor: u32, context: Context) -> u64
     ensures { result ≡ half_number processor context }
 {
     match context {
@@ -23,7 +23,7 @@ pub fn half_number(processor: u32, context: Context) -> u64
 }
 
 /// The number of a processor's queue, for a context and a clock.
-pub fn queue_number(processor: u32, context: Context, clock: ClockId) -> u64
+fn queue_number(processor: u32, context: Context, clock: ClockId) -> u64
     ensures { result ≡ queue_number processor context clock }
 {
     let first = 3 * half_number(processor, context);
@@ -34,24 +34,32 @@ pub fn queue_number(processor: u32, context: Context, clock: ClockId) -> u64
     }
 }
 
-/// What is known of each half that a line has named.
-pub type HalfTable = HashMap<u64, HalfKnown>;
+/// What is known of each processor that a line has named.
+pub type ProcessorTable = HashMap<u64, KnownProcessor>;
 
 /// The expiries of each queue that has any.
 pub type QueueTable = HashMap<u64, MarkList>;
 
-/// What is known of a half.
-pub fn half(halves: &HalfTable, h: u64) -> HalfKnown
-    ensures { result ≡ half_in halves.now h }
+/// What is known of a processor.
+pub fn known_on(processors: &ProcessorTable, processor: u32) -> KnownProcessor
+    ensures { result ≡ known_on processors.now processor }
 {
-    halves.get(&h).copied().unwrap_or(HalfKnown::Untold)
+    let nothing = KnownProcessor::nothing();
+    processors
+        .get(&u64::from(processor))
+        .copied()
+        .unwrap_or(nothing)
 }
 
-/// Notes what is known of a half now.
-pub fn note_half(halves: &mut HalfTable, h: u64, half: HalfKnown) -> Result<(), AllocError>
-    ensures { OnOk result (HasOnly halves.old halves.new h half) }
+/// Notes what is known of a processor now.
+pub fn note_on(
+    processors: &mut ProcessorTable,
+    processor: u32,
+    known: KnownProcessor,
+) -> Result<(), AllocError>
+    ensures { OnOk result (HasOnly processors.old processors.new processor known) }
 {
-    halves.insert(h, half)?;
+    processors.insert(u64::from(processor), known)?;
     Ok(())
 }
 

@@ -19,6 +19,7 @@ impl KnownTimer {
             armed: ArmedKnown::Untold,
             function: FunctionKnown::Untold,
             clock: None,
+            told: None,
             context: None,
             home: None,
             order: None,

@@ -35,6 +35,7 @@ pub fn check<S: Source>(reader: &mut Reader, source: &mut S) -> Result<Verdict, 
     ensures read { IfOk result (λ verdict. HasChecked (S.left source.old) (S.left source.new) verdict reader.new.tally) }
     ensures ok { OnOk result (S.faults source.new ≡ S.faults source.old) }
     ensures failed { IsErrOf result CheckFault.Failed → Rose (S.faults source.old) (S.faults source.new) }
+    ensures given_up { IsErrOf result CheckFault.OutOfMemory → S.faults source.new ≡ S.faults source.old }
     ensures later { S.faults source.old ≤ S.faults source.new }
 {
     let mut buf = [0u8; CHUNK];

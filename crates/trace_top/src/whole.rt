@@ -1,5 +1,5 @@
 //! All that the program does, over the streams that it is handed.
-ghost use Rattle.std.specs.Prelude.{◌≡◌, ◌≤◌, ◌⊎◌, true, List, Some, None, IfOk, IfSome, string_bytes};
+ghost use Rattle.std.specs.Prelude.{◌≡◌, ◌<◌, ◌≤◌, ◌⊎◌, true, List, Some, None, IfOk, IfSome, string_bytes};
 ghost use Rattle.trace_top.specs.Checking.{HasToldInPart, HasTold, IsToldAs, MayEnd, MustEnd};
 ghost use Rattle.trace_top.specs.Command.{asked_of_words};
 ghost use Rattle.trace_top.specs.declared.command.Asked.{Asked};
@@ -31,7 +31,9 @@ pub fn top<S: Source, K: Sink>(
     ensures answered { (asked : Asked) → asked_of_words words.now ≡ Some asked → is_answer result ≡ true → HasTold asked (S.left source.old) (S.left source.new) (K.taken sink.old) (K.taken sink.new) result }
     ensures calm { is_answer result ≡ true → (S.faults source.new ≡ S.faults source.old) × (K.faults sink.new ≡ K.faults sink.old) }
     ensures read_fault { result ≡ Status.ReadFault → Rose (S.faults source.old) (S.faults source.new) }
+    ensures read_told { S.faults source.old < S.faults source.new → result ≡ Status.ReadFault }
     ensures write_fault { result ≡ Status.WriteFault → Rose (K.faults sink.old) (K.faults sink.new) }
+    ensures write_told { K.faults sink.old < K.faults sink.new → result ≡ Status.WriteFault }
     ensures prefix { (asked : Asked) → asked_of_words words.now ≡ Some asked → result ≡ Status.WriteFault → HasToldInPart asked (S.left source.old) (S.left source.new) (K.taken sink.old) (K.taken sink.new) }
     ensures unwritten { (result ≡ Status.ReadFault) ⊎ (result ≡ Status.OutOfMemory) → sink.new ≡ sink.old }
     ensures complete { (asked_of_words words.now ≡ None → ⊥) → (Rose (S.faults source.old) (S.faults source.new) → ⊥) → (Rose (K.faults sink.old) (K.faults sink.new) → ⊥) → IfSome (S.left source.old) (λ bytes. MustEnd bytes result) }
@@ -50,7 +52,9 @@ fn run<S: Source, K: Sink>(alloc: Global, asked: Asked, source: &mut S, sink: &m
     ensures answered { is_answer result ≡ true → HasTold asked (S.left source.old) (S.left source.new) (K.taken sink.old) (K.taken sink.new) result }
     ensures calm { is_answer result ≡ true → (S.faults source.new ≡ S.faults source.old) × (K.faults sink.new ≡ K.faults sink.old) }
     ensures read_fault { result ≡ Status.ReadFault → Rose (S.faults source.old) (S.faults source.new) }
+    ensures read_told { S.faults source.old < S.faults source.new → result ≡ Status.ReadFault }
     ensures write_fault { result ≡ Status.WriteFault → Rose (K.faults sink.old) (K.faults sink.new) }
+    ensures write_told { K.faults sink.old < K.faults sink.new → result ≡ Status.WriteFault }
     ensures prefix { result ≡ Status.WriteFault → HasToldInPart asked (S.left source.old) (S.left source.new) (K.taken sink.old) (K.taken sink.new) }
     ensures unwritten { (result ≡ Status.ReadFault) ⊎ (result ≡ Status.OutOfMemory) → sink.new ≡ sink.old }
     ensures complete { (Rose (S.faults source.old) (S.faults source.new) → ⊥) → (Rose (K.faults sink.old) (K.faults sink.new) → ⊥) → IfSome (S.left source.old) (λ bytes. MayEnd bytes result) }

@@ -67,6 +67,8 @@ fn first_reader(mut readers: Vec<Reader>) -> Option<Reader>
 pub(super) enum Write {
     /// Lets so much time pass, and runs the function that is due then.
     Advance(u64),
+    /// The same, but nobody tells the readers that the clock was set.
+    Untold(u64),
     /// Sets the time of day.
     Set(u64),
 }
@@ -232,6 +234,23 @@ fn run_one<R: Wait>(
                 clock,
                 clock_pass,
                 by,
+                1,
+                &mut log,
+            );
+        }
+        Some(Write::Untold(by)) => {
+            let _ = clock.advance(rt, clock_pass, by);
+            let reading = clock.read(rt, clock_pass);
+            let _ = expire_objects(
+                rt,
+                alloc,
+                timers,
+                pass,
+                objects,
+                objects_pass,
+                callbacks,
+                0,
+                reading,
                 1,
                 &mut log,
             );

@@ -75,6 +75,23 @@ fn no_wake_up_is_lost_beside_a_hundred_expiries(rt: HostRuntime) -> Result<(), F
     Ok(())
 }
 
+/// Nobody tells of the clock's writes: the bell of each expiry alone wakes the reader.
+#[test]
+fn an_expiry_alone_wakes_its_reader(rt: HostRuntime) -> Result<(), Fail> {
+    let (read, _) = read_in_all(
+        &rt,
+        rt.alloc(),
+        ClockId::Monotonic,
+        1,
+        10,
+        Write::Untold(10),
+        100,
+        100,
+    )?;
+    assert_equal(&rt, read, 100);
+    Ok(())
+}
+
 #[test]
 fn a_set_clock_wakes_a_reader(rt: HostRuntime) -> Result<(), Fail> {
     let told = read_in_all(

@@ -1,9 +1,9 @@
 //! Tests of `timer_core`: each call on its happy path.
 use super::{MONOTONIC, SOFT, assert_equal};
-use ktime::{Mode, Reading};
+use ktime::{ClockId, Mode, Reading};
 use seq_timer::{CancelAnswer, Context};
 use std::alloc::AllocError;
-use timer_core::{ClaimAnswer, Core, calls_keep_histories_legal};
+use timer_core::{ClaimAnswer, Core, calls_keep_histories_legal, the_wait_is_one};
 use timer_queue::ListQueue;
 
 /// What a claim answers, as the entry after the one that armed the timer.
@@ -21,6 +21,9 @@ fn each_call_is_answered(rt: HostRuntime) -> Result<(), AllocError> {
     let now = Reading::at(0);
     core.start_range(0, Mode::Rel, 0, 20, 0, now);
     assert_equal(&rt, core.state(0).armed(), Some(1));
+    let next = core.next(Context::Hard, 0, ClockId::Monotonic);
+    assert_equal(&rt, next, Some((20, 0)));
+    assert_equal(&rt, core.next_wait(0, Reading::at(5)), Some(15));
     let cancelled = CancelAnswer::Cancelled {
         generation: 1,
         number: 2,
@@ -36,5 +39,6 @@ fn each_call_is_answered(rt: HostRuntime) -> Result<(), AllocError> {
     assert!(rt; core.peek(1).running);
     core.agree();
     calls_keep_histories_legal();
+    the_wait_is_one();
     Ok(())
 }

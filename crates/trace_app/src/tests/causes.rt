@@ -134,7 +134,7 @@ const FIT: [Case; 8] = [
         "ok 6 events, 2 timers, 2 processors\n",
     ),
     (
-        "[0] d.h. 1: hrtimer_expire_entry: hrtimer=a now=9\n[0] ..s. 1: hrtimer_expire_entry: hrtimer=b now=9\n[0] d.h. 1: hrtimer_expire_exit: hrtimer=a\n[0] ..s. 1: hrtimer_expire_exit: hrtimer=b\n",
+        "[0] ..s. 1: hrtimer_expire_entry: hrtimer=a now=9\n[0] d.h. 1: hrtimer_expire_entry: hrtimer=b now=9\n[0] d.h. 1: hrtimer_expire_exit: hrtimer=b\n[0] ..s. 1: hrtimer_expire_exit: hrtimer=a\n",
         Status::Fits,
         "ok 4 events, 2 timers, 1 processors\n",
     ),

@@ -56,7 +56,7 @@ fn streams_that_fail_have_statuses_of_their_own(rt: HostRuntime) -> Result<(), F
 #[test]
 fn a_summary_has_a_line_for_each_kind_and_each_processor(rt: HostRuntime) -> Result<(), Fail> {
     let text =
-        "hrtimer_start: hrtimer=a expires=5 softexpires=5\nhrtimer_start: hrtimer=b expires=5 softexpires=5\n[1] d.h. 1: hrtimer_expire_entry: hrtimer=a now=9\n[1] ..s. 1: hrtimer_expire_entry: hrtimer=b now=7\n";
+        "hrtimer_start: hrtimer=a expires=5 softexpires=5\nhrtimer_start: hrtimer=b expires=5 softexpires=5\n[1] ..s. 1: hrtimer_expire_entry: hrtimer=b now=7\n[1] d.h. 1: hrtimer_expire_entry: hrtimer=a now=9\n";
     let told =
         "ok 4 events, 2 timers, 1 processors\nset-ups                 0\nstarts                  2\ncancels                 0\nexpiries                2\nreturns                 0\nlosses                  0\nmost queued at once     2\nlatest on 1 hard       4 ns\nlatest on 1 soft       2 ns\n";
     let answer = answered(rt.alloc(), &["hrt_check", "--summary"], text.as_bytes())?;

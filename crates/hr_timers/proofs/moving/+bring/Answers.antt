@@ -34,6 +34,9 @@ send_on-sent-requires-clause-down g t c = (
       c.in-Some.is c.standing-standing.ensures.reach c.requires.within.0,
 )
 
+pub send_on-sent-requires-clause-off : goal.send_on-sent-requires-clause-off
+send_on-sent-requires-clause-off g t c = ap (λ (s : Standing). s.heir) (sym c.standing-standing.ensures.seen) ∙ c.in-Some.is
+
 pub bring-arrival-requires : goal.bring-arrival-requires
 bring-arrival-requires g t c κs within =
     let heir = c.in-Some.heir in

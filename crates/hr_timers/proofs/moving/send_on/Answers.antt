@@ -15,7 +15,7 @@ out_again_logged-sent-requires-clause-may g c =
     may_send_on c.args.row.now.about c.args.pass.now.knows c.args.held c.args.timer c.args.to c.requires.within.0 c.requires.carries.0
     c.requires.carries.1 (ap (λ (t : Timer). t.moving) is ∙ c.requires.moving.0) (ap (λ (t : Timer). t.base) is ∙ c.requires.moving.1)
     (ap (λ (t : Timer). t.running) is ∙ c.requires.moving.2) c.requires.down.0 c.requires.within.1 c.requires.within.2
-    (subst (λ (t : Timer). 0 < t.terms.reach) c.requires.state c.requires.down.1)
+    (subst (λ (t : Timer). 0 < t.terms.reach) c.requires.state c.requires.down.1) c.requires.off
 
 pub returns-clause-state : goal.returns-clause-state
 returns-clause-state g c =

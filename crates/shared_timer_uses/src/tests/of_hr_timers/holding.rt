@@ -1,13 +1,13 @@
-//! A base that one thread holds, in the middle of a start, while the other one tries to cancel timers there and elsewhere.
-ghost use Rattle.std.specs.Prelude.{◌≡◌, length};
+//! A base that one thread holds, in the middle of a start, while the other one tries to cancel timers there and elsewhere; and one that a lent pass holds.
+ghost use Rattle.std.specs.Prelude.{◌≡◌, ◌<◌, length};
 ghost use Rattle.hr_timers.specs.Known.{IsPassOf};
 ghost use Rattle.hr_timers.specs.Handlers.{KeepsPass};
 
 use super::super::{TURNS, assert_equal, kept, retire, some_timers};
 use crate::{Stopped, stop_now};
-use hr_timers::{Pass, ReceiptSink, StartAnswer, Timers};
+use hr_timers::{NowAnswer, Pass, ReceiptSink, StartAnswer, Timers};
 use ktime::{Mode, Reading};
-use seq_timer::{Asked, Event, Reply};
+use seq_timer::{Asked, CancelAnswer, Event, Reply};
 use std::sync::Wait;
 use std::sync::atomic::{AtomicBool, Ordering};
 use std::test::Fail;
@@ -124,6 +124,61 @@ fn a_held_base_is_contended_and_no_other(rt: HostRuntime) -> Result<(), Fail> {
         placement: kept(0, 9000),
     };
     assert_equal(&rt, started, again);
+    timers.close(pass);
+    Ok(())
+}
+
+/// Tries once to cancel a timer, and answers whether that was told Contended.
+fn is_contended(timers: &Timers, pass: &mut Pass, timer: u32) -> bool
+    requires pass { IsPassOf timers.now pass.old }
+    requires timer { timer < length timers.now.about.timers }
+    ensures pass { IsPassOf timers.now pass.new }
+    ensures keeps { KeepsPass pass.old.known pass.new.known }
+{
+    match timers.cancel_now(pass, timer) {
+        NowAnswer::Contended { .. } => true,
+        NowAnswer::Tried(CancelAnswer::Cancelled { .. }) => false,
+        NowAnswer::Tried(CancelAnswer::Idle { .. }) => false,
+        NowAnswer::Tried(CancelAnswer::Running { .. }) => false,
+        NowAnswer::Moving { .. } | NowAnswer::Moved { .. } => false,
+    }
+}
+
+/// Holds base 0 by a lent pass while the other one tries to cancel timer 0, and lets it go. Nothing is answered where the base wasn't got.
+fn hold_and_try(timers: &Timers, holder: Pass, trier: &mut Pass) -> (Pass, Option<bool>)
+    requires pass { IsPassOf timers.now holder × IsPassOf timers.now trier.old }
+    requires size { (length timers.now.about.timers ≡ 2) × (timers.now.about.bases ≡ 2) }
+    ensures pass { IsPassOf timers.now result.0 × IsPassOf timers.now trier.new }
+    ensures same { (result.0.known.claims ≡ holder.known.claims) × (result.0.known.id ≡ holder.known.id) }
+    ensures keeps { KeepsPass trier.old.known trier.new.known }
+{
+    let row = timers.base_row();
+    let mut lent = timers.lend(holder);
+    let told = match row.try_lock_base(&mut lent, 0) {
+        Some(held) => {
+            let is_told = is_contended(timers, trier, 0);
+            row.unlock_base(&mut lent, held);
+            Some(is_told)
+        }
+        None => None,
+    };
+    (timers.take_back(lent), told)
+}
+
+#[test]
+fn a_base_that_a_lent_pass_holds_is_contended(rt: HostRuntime) -> Result<(), Fail> {
+    let (timers, mut pass, _log) = some_timers(rt.alloc(), 2, 2)?;
+    timers.start(&rt, &mut pass, 0, Mode::Rel, 7, 0, Reading::at(1000));
+    let mut other = timers.split(&mut pass);
+    let (mut pass, told) = hold_and_try(&timers, pass, &mut other);
+    let freed = is_contended(&timers, &mut other, 0);
+    let word = timers.peek(&mut other, 0);
+    retire(&timers, &mut pass, other);
+    assert_equal(
+        &rt,
+        (told, freed, word.enqueued),
+        (Some(true), false, false),
+    );
     timers.close(pass);
     Ok(())
 }

@@ -1,6 +1,9 @@
 use Rattle.std.proofs.Common.{◌<◌, subst, inl}
 use Rattle.counted_row.specs.Views.{Locks}
+use Rattle.timer_objects.specs.Known.{receipt_of}
 use Rattle.timer_objects.specs.Meaning.{object_meaning}
+use Rattle.timer_objects.specs.Steps.{object_answer}
+use Rattle.timer_objects.specs.Triggers.{IsRungFor}
 use Rattle.timer_objects.specs.Turns.{BeginsTurn, EndsTurn, HasTurn}
 use Rattle.timer_objects.proofs.Retrying.{begins_after}
 use Rattle.timer_objects.proofs.Triggering.{entered}
@@ -27,3 +30,14 @@ returns-clause-triggers g c =
     let room : h.stamp < x.limit = c.if-is_full.ensures in
     inl (entered x p mid c.enter-reply.new.pass t h c.args.call c.args.log.now.receipts c.enter-reply.new.log.receipts locks taken.row entry.pass
     c.enter-reply.result entry.enters room entry.receipt v begun w turn)
+
+pub returns-clause-tells : goal.returns-clause-tells
+returns-clause-tells g c =
+    let entry = c.enter-reply.ensures in
+    let h = c.lock_in_turn-held.result in
+    record {
+      receipt = receipt_of h c.args.call;
+      noted = entry.receipt;
+      told = subst (λ n. IsRungFor n (object_answer h.state c.args.call) c.tell_reader.result) c.timer-id.ensures
+          (subst (λ r. IsRungFor c.timer-id.result r c.tell_reader.result) entry.enters.reply c.tell_reader.ensures);
+    }

@@ -1,9 +1,6 @@
 use Rattle.std.proofs.Common.{arith}
-use Rattle.base_row.proofs.Rising.{count_raised, raised_already}
+use Rattle.base_row.proofs.Rising.{raised_already}
 use Rattle.base_row.proofs.row.BaseRow.raise_counter.Goals as goal
-
-pub returns-then-known-to-clause-count : goal.returns-then-known-to-clause-count
-returns-then-known-to-clause-count c = count_raised c.args.counter c.args.to c.args.pass.now.knows.seen _ c.raise_word.ensures.raised
 
 pub returns-else-known-to-clause-raised : goal.returns-else-known-to-clause-raised
 returns-else-known-to-clause-raised c =

@@ -73,7 +73,12 @@ module _ {o : Opening} {h g : HeldContent BaseContent} {id base : ℕ} {reading 
         record {
           may = record {
             held = held;
-            allowed = record { within = inside; needs = runs; reply = refl; base = record { needs = tt; online = λ is. absurd (true≢false (sym is)) } };
+            allowed = record {
+              within = inside;
+              needs = runs;
+              reply = refl;
+              base = record { needs = tt; online = λ is. absurd (true≢false (sym is)); heir = λ moves. tt };
+            };
             base = there.at;
             carries = λ moves. absurd (true≢false (sym moves ∙ there.still));
           };

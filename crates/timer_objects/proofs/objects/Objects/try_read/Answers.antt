@@ -1,7 +1,9 @@
-use Rattle.std.proofs.Common.{refl, subst}
+use Rattle.std.proofs.Common.{◌≡◌, ◌∙◌, refl, sym, subst, length}
+use Rattle.counted_row.proofs.Calls.{reads_of}
 use Rattle.ktime.specs.Readings.{ClockReading}
 use Rattle.timer_objects.specs.declared.object.Object.{Object}
-use Rattle.timer_objects.specs.BlockingReads.{EndsRead, HasSome}
+use Rattle.timer_objects.specs.BlockingReads.{EndsRead, FindsNothing, HasSome}
+use Rattle.timer_objects.specs.Known.{seen_of}
 use Rattle.timer_objects.specs.Rearming.{caller_of}
 use Rattle.timer_objects.proofs.Waited.{ends_read}
 use Rattle.timer_objects.proofs.objects.Objects.try_read.Goals as goal
@@ -17,6 +19,29 @@ returns-clause-reads g c =
     let ended = c.rearm_held-ended.result in
     subst (λ (r : ClockReading). EndsRead x o old new c.args.id r ended) c.read-reading.ensures.reading
     (ends_read x o old new c.args.id reading ended c.lock_in_turn-held.result.state
-    (subst (λ (s : Object). HasSome reading s) c.state.ensures (c.if-not-has_some.ensures refl))
+    (subst (λ (s : Object). HasSome reading s) c.state.ensures (c.if-not-has_some.ensures.some refl))
     (c.rearm_held-ended.ensures.ends c.args.pass.now c.args.objects_pass.now
     (record { looks = c.lock_in_turn-held.ensures.looks; is = c.requires.may.of_objects; locks = c.lock_in_turn-held.ensures.locks })))
+
+pub returns-then-not-has_some-clause-why : goal.returns-then-not-has_some-clause-why
+returns-then-not-has_some-clause-why g c =
+    let h = c.lock_in_turn-held.result in
+    let taken = c.lock_in_turn-held.ensures in
+    let freed = c.release.ensures in
+    let old = caller_of c.args.pass.now c.args.objects_pass.now c.args.log.now c.args.object_log.now in
+    let new = caller_of c.lock_in_turn-held.new.pass c.release.new.pass c.args.log.now c.args.object_log.now in
+    subst (λ (r : ClockReading). FindsNothing c.args.self.now old new c.args.id r) c.read-reading.ensures.reading (record {
+      object = h.state;
+      stamp = h.stamp;
+      looks = record {
+        reads = reads_of taken.locks taken.row freed.pass.row c.requires.may.of_objects.idle freed.knows freed.pass.knows;
+        state = refl;
+        stamp = subst (λ i. h.stamp ≡ length (seen_of c.release.new.pass i)) taken.locks.index (sym freed.stamp ∙ freed.count);
+        timers = taken.looks;
+        told = taken.told;
+        log = refl;
+        object_log = refl;
+      };
+      room = c.if-is_full.ensures;
+      none = λ some. c.if-not-has_some.ensures.none refl (subst (λ (s : Object). HasSome c.read-reading.result s) (sym c.state.ensures) some);
+    })

@@ -1,0 +1,2 @@
+-- Lemmas about the check of a trace.
+pub mod Checked
