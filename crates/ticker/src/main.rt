@@ -1,35 +1,59 @@
-//! Reads a timer descriptor that ticks at every 100 ns, at some times, each by its number of ticks.
+//! A timer descriptor that ticks at every 100 ns: one thread lets time pass and runs its function, another reads its ticks.
 #![tactic(auto)]
 
-mod ticker;
+ghost use Rattle.hulayban.specs.Places.{HasFd};
 
-use ktime::Reading;
-use std::alloc::{AllocError, Global};
+use hulayban::{
+    ClockId, Declaration, Done, Kind, Lane, NoFunctions, Place, ReadAnswer, Session, Settime,
+    System, Terms,
+};
 use std::io;
 use std::sync::Wait;
-use ticker::Ticker;
-use timer_fd::ReadAnswer;
 
-/// How many ticks were read at each of these times.
-fn ticks<R: Wait>(rt: &R, alloc: Global, ticker: &mut Ticker) -> Result<[u64; 3], AllocError> {
-    let mut told = [0; 3];
-    ticker.set(rt, 100, 100, Reading::at(0))?;
-    for turn in 0..3u32 {
-        let reading = Reading::at(u64::from(turn) * 175);
-        ticker.expire(rt, alloc, reading)?;
-        if let ReadAnswer::Count { total } = ticker.read(rt, reading)? {
-            told[turn as usize] = total;
+/// Arms the descriptor, and lets 2,000 ns pass in steps of 25.
+#[derive(Clone, Copy)]
+struct Passing;
+
+/// Reads the descriptor 50 times, and counts its ticks.
+#[derive(Clone, Copy)]
+struct Reading {
+    ticks: u64,
+}
+
+impl Lane for Passing {
+    ghost suits = { λ x. HasFd x 0 0 };
+
+    fn run<R: Wait, P: Place>(&mut self, rt: &R, me: &mut Session<'_, P>) -> Done {
+        me.settime(rt, 0, Settime::every(100))?;
+        for _ in 0..80 {
+            let _ = me.advance(rt, 25);
+            me.expire(rt, 0, 1, &mut NoFunctions)?;
         }
+        Ok(())
     }
-    Ok(told)
+}
+
+impl Lane for Reading {
+    ghost suits = { λ x. HasFd x 0 0 };
+
+    fn run<R: Wait, P: Place>(&mut self, rt: &R, me: &mut Session<'_, P>) -> Done {
+        for _ in 0..50 {
+            if let ReadAnswer::Count { total } = me.read(rt, 0)? {
+                self.ticks = self.ticks.saturating_add(total);
+            }
+        }
+        Ok(())
+    }
 }
 
 fn main(rt: HostRuntime) -> io::Result<()> {
-    let mut ticker = Ticker::make(rt.alloc())?;
-    let told = ticks(&rt, rt.alloc(), &mut ticker);
-    ticker.close();
-    for total in told? {
-        println!(rt; "{total}")?;
-    }
+    let fd = Declaration::over(Kind::Fd, ClockId::Monotonic, 0);
+    let (system, me) = System::make(rt.alloc(), 1, &[fd], Terms::limited(1000))?;
+    let mut reading = Reading { ticks: 0 };
+    let (me, done) = system.run_both(&rt, me, &mut Passing, &mut reading);
+    let (me, rest) = system.run(&rt, me, &mut reading);
+    system.close(me);
+    done.and(rest)?;
+    println!(rt; "{} ticks", reading.ticks)?;
     Ok(())
 }
