@@ -26,7 +26,10 @@ fn a_ring_counts_what_is_put_in_and_taken_off(rt: HostRuntime) -> Result<(), Fai
     let (timers, mut pass) = ringed_timers(rt.alloc())?;
     timers.raise_put(&mut pass, 0, 2);
     timers.raise_taken(&mut pass, 0, 1);
-    let counts = (timers.put_count(&mut pass, 0), timers.taken_count(&mut pass, 0));
+    let counts = (
+        timers.put_count(&mut pass, 0),
+        timers.taken_count(&mut pass, 0),
+    );
     timers.close(pass);
     assert_equal(&rt, counts, (2, 1));
     Ok(())
