@@ -5,18 +5,23 @@
     tools/explain.py script [PLACE]    what refuses the script on standard input, which begins at this place of it
     tools/explain.py trace STATUS [PLACE]      what a trace is, on standard input, that hrt_check answered with status 3 or 8; it begins at this place
     tools/explain.py input [FILE]      the system's reason why a file can't be read, or standard input, which is lent as handle 3
+    tools/explain.py output            the system's reason why standard output can't be written, where it still has one
 
 The script is read by the model of model/, whose refusals are compared with the program's (`.ci/compare`)."""
 import difflib
+import errno
 import os
 import re
+import resource
+import select
+import stat
 import sys
 
 sys.dont_write_bytecode = True
 TOP = os.path.dirname(os.path.dirname(os.path.abspath(__file__)))
 sys.path.insert(0, os.path.join(TOP, "model"))
 import script as scripts  # noqa: E402
-from command import GEN, OF_PROGRAM  # noqa: E402
+from command import COMMANDS, GEN  # noqa: E402
 from script import FORMS, HEADERS, KINDS_OF_CALL, Refused  # noqa: E402
 
 HELP = "bin/hrt --help says what there is"
@@ -39,9 +44,9 @@ def amount(number, name):
     return f"{number} {name}{'s' * (number != 1)}"
 
 
-def together(names):
+def together(names, last="and"):
     """All these names, as a sentence has them."""
-    return " and ".join(filter(None, (", ".join(names[:-1]), names[-1])))
+    return f" {last} ".join(filter(None, (", ".join(names[:-1]), names[-1])))
 
 
 # ---- words
@@ -89,12 +94,12 @@ def gen_faults(words):
 
 
 def word_faults(words):
-    names = [it.name for it in OF_PROGRAM]
+    names = [it.name for it in COMMANDS]
     strange = [word for word in words if any(0xDC80 <= ord(it) <= 0xDCFF for it in word)]
     if strange:
         yield f"{shown(strange[0])} isn't UTF-8"
     elif not words:
-        yield f"no command is given: {' or '.join(names)}; {HELP}"
+        yield f"no command is given: {together(names, 'or')}; {HELP}"
     elif words[0] == "gen":
         yield from gen_faults(words[1:])
     elif words[0] == "run":
@@ -300,6 +305,34 @@ def input_faults(path):
         yield f"{name}: {error.strerror}"
 
 
+# ---- output that can't be written
+
+
+def refusal_of_output():
+    """The number of the reason why a write to standard output is refused, or 0. Nothing is written."""
+    try:
+        os.write(1, b"")
+        what, room = os.fstat(1), os.fstatvfs(1)
+    except OSError as error:
+        return error.errno
+    if stat.S_ISFIFO(what.st_mode) or stat.S_ISSOCK(what.st_mode):
+        poll = select.poll()
+        poll.register(1, select.POLLOUT)
+        return errno.EPIPE if any(events & (select.POLLERR | select.POLLHUP) for _, events in poll.poll(0)) else 0
+    if not stat.S_ISREG(what.st_mode):
+        return 0
+    most = resource.getrlimit(resource.RLIMIT_FSIZE)[0]
+    if most != resource.RLIM_INFINITY and os.lseek(1, 0, os.SEEK_CUR) >= most:
+        return errno.EFBIG
+    return 0 if room.f_bavail else errno.ENOSPC
+
+
+def output_faults():
+    number = refusal_of_output()
+    if number:
+        yield f"standard output: {os.strerror(number)}"
+
+
 def main(words):
     kind, rest = words[0] if words else "", words[1:]
     if kind == "words":
@@ -314,6 +347,8 @@ def main(words):
         faults = list(trace_faults(rest[0], sys.stdin.buffer))
     elif kind == "input":
         faults = list(input_faults(rest[0] if rest else None))
+    elif kind == "output":
+        faults = list(output_faults())
     else:
         print(__doc__, file=sys.stderr)
         return 2

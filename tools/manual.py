@@ -42,7 +42,7 @@ def man_page():
         lines += [".PP", roff(text)]
     lines.append(".SH COMMANDS")
     for command in COMMANDS:
-        lines += item(command.synopsis(), command.says)
+        lines += item(command.synopsis(), f"{command.says}. {command.more.rstrip('.')}")
         for option in command.options:
             lines += [".RS", *item(option.whole(), option.says_all()), ".RE"]
     for title, entries in (("OPTIONS", [(it.name, it.says) for it in OPTIONS]), ("EXIT STATUS", STATUSES), ("ENVIRONMENT", ENVIRONMENT)):
