@@ -6,6 +6,7 @@
 
 The fields' names stand in tools/record_lines.py. Numbers are whole, and may be as large as 2^64."""
 import json
+import os
 import sys
 
 from record_lines import NoRecord, line_of, read_record, records_of
@@ -44,6 +45,8 @@ def read_text(words, usage):
         print(f"usage: {usage}", file=sys.stderr)
         sys.exit(2)
     name = words[0] if words and words != ["-"] else None
+    if name is None and os.isatty(0):
+        print(f"hrt: {'JSON' if '--to-text' in sys.argv else 'a record'} is read from the terminal; Ctrl-D ends it", file=sys.stderr)
     try:
         with open(0 if name is None else name, encoding="ascii", newline="\n", closefd=name is not None) as file:
             return file.read()
