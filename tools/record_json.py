@@ -46,7 +46,7 @@ def read_text(words, usage):
         sys.exit(2)
     name = words[0] if words and words != ["-"] else None
     if name is None and os.isatty(0):
-        print(f"hrt: {'JSON' if '--to-text' in sys.argv else 'a record'} is read from the terminal; Ctrl-D ends it", file=sys.stderr)
+        print("hrt: a record is read from the terminal; Ctrl-D ends it", file=sys.stderr)
     try:
         with open(0 if name is None else name, encoding="ascii", newline="\n", closefd=name is not None) as file:
             return file.read()
