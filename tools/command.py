@@ -106,10 +106,10 @@ LIB = Command(
 COMMANDS = (*OF_PROGRAM, CHECK, JSON, DRAW, LIB)
 
 OPTIONS = (
-    Option("--prove", "proves the program of run and gen, in about half an hour on four idle processors, and keeps it"),
+    Option("--prove", "proves the program of run and gen, in half an hour to an hour on four processors, and keeps it"),
     Option("--program", "prints where the program is that run and gen start; builds one where none is"),
     Option("--version", "prints which version, commit, program and kit these are"),
-    Option("--help", "prints this text; behind a command, what there is to say of that"),
+    Option("--help", "prints this text; beside a command, the help of that one"),
 )
 
 STATUSES = (

@@ -15,7 +15,7 @@ from itertools import accumulate
 sys.dont_write_bytecode = True
 sys.path.insert(1, os.path.join(os.path.dirname(os.path.dirname(os.path.abspath(__file__))), "model"))
 import script as scripts  # noqa: E402
-from record_json import read_text  # noqa: E402
+from record_json import hint, read_text  # noqa: E402
 from record_lines import NoRecord, line_of, read_record  # noqa: E402
 from record_order import Order, calls_of  # noqa: E402
 
@@ -338,7 +338,7 @@ def main(words):
     try:
         drawn = Picture(read_record(text), script).whole()
     except NoRecord as wrong:
-        print(f"hrt: {wrong}", file=sys.stderr)
+        print(f"hrt: {wrong}{hint(text)}", file=sys.stderr)
         return 1
     try:
         sys.stdout.write(drawn)

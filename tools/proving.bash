@@ -68,9 +68,10 @@ make_libraries() {
     echo "$libraries"
 }
 
-# Proves the crates, says how far that is, and sets proof_lasted. What rt says goes into the log.
+# Proves the crates, says how far that is, and sets proof_lasted. What rt says goes into the log. The time left is what is likely, by how long the crates
+# so far have lasted; two minutes as they are likely stand before them, so that one small crate doesn't decide.
 prove_crates() {
-    local crates crate number=0 begun taken likely_left=0 likely_done=0 done=0
+    local crates crate number=0 begun taken likely_left=0 lasted=120 likely_done=120
     mapfile -t crates < <(needed_crates)
     for crate in "${crates[@]}"; do
         likely_left=$((likely_left + $(likely "$crate")))
@@ -81,7 +82,7 @@ prove_crates() {
     begun=$SECONDS
     for crate in "${crates[@]}"; do
         number=$((number + 1))
-        say "$number of ${#crates[@]}: $crate; about $(minutes $((done > 0 ? likely_left * done / likely_done : likely_left))) left"
+        say "$number of ${#crates[@]}: $crate; about $(minutes $((likely_left * lasted / likely_done))) left"
         taken=$SECONDS
         if ! (prove_crate "$crate") >> "$log" 2>&1; then
             tail -n 20 "$log" >&2
@@ -92,7 +93,7 @@ prove_crates() {
         likely_left=$((likely_left - $(likely "$crate")))
         # What was kept takes a few seconds, and tells nothing of the rest.
         if [ "$taken" -gt 5 ]; then
-            done=$((done + taken)) likely_done=$((likely_done + $(likely "$crate")))
+            lasted=$((lasted + taken)) likely_done=$((likely_done + $(likely "$crate")))
         fi
     done
     proof_lasted=$(minutes $((SECONDS - begun)))

@@ -7,6 +7,7 @@
 The fields' names stand in tools/record_lines.py. Numbers are whole, and may be as large as 2^64."""
 import json
 import os
+import re
 import sys
 
 from record_lines import NoRecord, line_of, read_record, records_of
@@ -58,13 +59,18 @@ def read_text(words, usage):
         sys.exit(4)
 
 
+def hint(text):
+    """What else a text is that is no record."""
+    return "; this is a script: bin/hrt run prints its record" if re.search(r"^hrt \d$", text, re.M) else ""
+
+
 def main(words):
     back = words[:1] == ["--to-text"]
     text = read_text(words[back:], "bin/hrt json [--to-text] [FILE]")
     try:
         made = (to_text if back else to_json)(text)
     except NoRecord as wrong:
-        print(f"hrt: {wrong}", file=sys.stderr)
+        print(f"hrt: {wrong}{hint(text)}", file=sys.stderr)
         return 1
     try:
         sys.stdout.write(made)
