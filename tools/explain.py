@@ -12,7 +12,6 @@ import difflib
 import errno
 import os
 import re
-import resource
 import select
 import stat
 import sys
@@ -319,12 +318,7 @@ def refusal_of_output():
         poll = select.poll()
         poll.register(1, select.POLLOUT)
         return errno.EPIPE if any(events & (select.POLLERR | select.POLLHUP) for _, events in poll.poll(0)) else 0
-    if not stat.S_ISREG(what.st_mode):
-        return 0
-    most = resource.getrlimit(resource.RLIMIT_FSIZE)[0]
-    if most != resource.RLIM_INFINITY and os.lseek(1, 0, os.SEEK_CUR) >= most:
-        return errno.EFBIG
-    return 0 if room.f_bavail else errno.ENOSPC
+    return errno.ENOSPC if stat.S_ISREG(what.st_mode) and not room.f_bavail else 0
 
 
 def output_faults():
