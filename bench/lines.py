@@ -1,7 +1,7 @@
 #!/usr/bin/env python3
 """Counts each crate's lines without imports and blanks: code with tests, definitions, proofs; and its wrong bodies that the gate tries. Prints
-the table under "Costs" in CONTRIBUTING.md, a row for each crate of crates.txt that has over 1,000 lines, and the sum of all; with `--write` it puts it there,
-and with `--each` it prints a row for each crate. Outside the gate."""
+the table under "Costs" in CONTRIBUTING.md, a row for each crate of crates.txt that has over 1,000 lines, and the sum of all; with `--write` it puts it there.
+With `--each` it prints the rows of all crates. Outside the gate."""
 import os
 import re
 import sys
@@ -12,6 +12,7 @@ HEAD = "| Crate | code and tests | definitions | proofs | wrong bodies |\n|---|-
 # How many lines a crate has at most that the table leaves out.
 MANY = 1000
 USE = re.compile(r"(pub(\(\w+\))? )?(ghost )?use ")
+
 
 def lines_of(path):
     """How many lines of a file are neither blank nor part of an import."""
@@ -25,10 +26,12 @@ def lines_of(path):
                 importing = not line.endswith(";")
     return count
 
+
 def lines_in(folder, ending):
     return sum(
         lines_of(os.path.join(place, name)) for place, _, names in os.walk(folder) for name in names if name.endswith(ending)
     )
+
 
 def numbers_of(crate):
     folder = os.path.join(TOP, "crates", crate)
@@ -40,18 +43,18 @@ def numbers_of(crate):
         len(os.listdir(edits)) if os.path.isdir(edits) else 0,
     ]
 
+
 def row(name, numbers):
     return f"| {name} | " + " | ".join(map(str, numbers)) + " |"
+
 
 with open(os.path.join(TOP, "crates.txt"), encoding="utf-8") as file:
     crates = [line.split(":")[0].split()[0] for line in file if ":" in line]
 numbers = {crate: numbers_of(crate) for crate in crates}
-large = {crate: its for crate, its in numbers.items() if sum(its[:3]) > MANY}
-if "--each" in sys.argv[1:]:
-    large = numbers
-rows = [row(f"`{crate}`", its) for crate, its in large.items()]
-table = "\n".join([HEAD, *rows, row(f"all {len(numbers)}", map(sum, zip(*numbers.values())))]) + "\n"
-print(table, end="")
+rows = {crate: row(f"`{crate}`", its) for crate, its in numbers.items()}
+large = [rows[crate] for crate, its in numbers.items() if sum(its[:3]) > MANY]
+table = "\n".join([HEAD, *large, row(f"all {len(numbers)}", map(sum, zip(*numbers.values())))]) + "\n"
+print("\n".join(rows.values()) + "\n" if "--each" in sys.argv[1:] else table, end="")
 if "--write" in sys.argv[1:]:
     with open(PAGE, encoding="utf-8") as file:
         page = file.read()
