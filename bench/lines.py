@@ -1,6 +1,7 @@
 #!/usr/bin/env python3
 """Counts each crate's lines without imports and blanks: code with tests, definitions, proofs; and its wrong bodies that the gate tries. Prints
-the table under "Costs" in CONTRIBUTING.md, a row for each crate of crates.txt, and their sum; with `--write` it puts it there. Outside the gate."""
+the table under "Costs" in CONTRIBUTING.md, a row for each crate of crates.txt that has over 1,000 lines, and the sum of all; with `--write` it puts it there.
+With `--each` it prints the rows of all crates. Outside the gate."""
 import os
 import re
 import sys
@@ -8,6 +9,8 @@ import sys
 TOP = os.path.dirname(os.path.dirname(os.path.abspath(__file__)))
 PAGE = os.path.join(TOP, "CONTRIBUTING.md")
 HEAD = "| Crate | code and tests | definitions | proofs | wrong bodies |\n|---|---|---|---|---|"
+# How many lines a crate has at most that the table leaves out.
+MANY = 1000
 USE = re.compile(r"(pub(\(\w+\))? )?(ghost )?use ")
 
 
@@ -47,9 +50,11 @@ def row(name, numbers):
 
 with open(os.path.join(TOP, "crates.txt"), encoding="utf-8") as file:
     crates = [line.split(":")[0].split()[0] for line in file if ":" in line]
-numbers = [numbers_of(crate) for crate in crates]
-table = "\n".join([HEAD, *(row(f"`{crate}`", its) for crate, its in zip(crates, numbers)), row("all", map(sum, zip(*numbers)))]) + "\n"
-print(table, end="")
+numbers = {crate: numbers_of(crate) for crate in crates}
+rows = {crate: row(f"`{crate}`", its) for crate, its in numbers.items()}
+large = [rows[crate] for crate, its in numbers.items() if sum(its[:3]) > MANY]
+table = "\n".join([HEAD, *large, row(f"all {len(numbers)}", map(sum, zip(*numbers.values())))]) + "\n"
+print("\n".join(rows.values()) + "\n" if "--each" in sys.argv[1:] else table, end="")
 if "--write" in sys.argv[1:]:
     with open(PAGE, encoding="utf-8") as file:
         page = file.read()

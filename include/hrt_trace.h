@@ -60,7 +60,7 @@ typedef struct hrt_verdict {
 /* Checks a trace of a Linux kernel's own timers, as tracefs, trace-cmd and perf print it: whether it is a history that the model gives. text is
  * length bytes, and may be any; it may not be null even where length is 0. It needs no handle, and several threads may call at once.
  * HRT_FITS: events, timers that they name, and processors that expiries and returns name. HRT_MISFIT: line, from 1 on: the first with which no
-    HRT_CAUSE_SECOND_FUNCTION = 12,  /* a function begins where that of the timer at the address timer runs, which isn't soft, or it isn't hard */
+ * history shows the lines so far, and cause; with HRT_CAUSE_TOO_EARLY soft and now too, and with HRT_CAUSE_SECOND_FUNCTION timer. HRT_UNREADABLE:
  * line, the first that can't be read, all before it fit; and cause. HRT_NO_EVENTS: cause; all lines can be read and none tells an event of a timer,
  * so that nothing was checked: a text of another kind, or a trace of other events. HRT_NO_MEMORY, and *out is left as it was. Memory goes with the
  * bytes of the text, whatever numbers stand in it (docs/TRACES.md has the bound). */

@@ -14,7 +14,7 @@ no_table = record { words = 0; slots = 0; views_name = 0; atom = 0; block = 0; o
 -- a system that there isn't
 abbrev pub no_system : SystemOf
 no_system = record {
-  timers = record { id = no_table; about = record { bases = 0; timers = []; counters = 0 } };
+  timers = record { id = no_table; about = record { bases = 0; timers = []; counters = 0; rings = [] } };
   objects = record { id = no_table; decls = []; limit = 0; queue = None };
   clock = no_table;
 }

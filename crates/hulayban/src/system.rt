@@ -61,37 +61,31 @@ impl System {
         let counters = declared.len() as u32 + 1;
         let (clock, clock_pass) = SharedClock::make(alloc)?;
         let made = Objects::make_queued(alloc, &decls, terms.limit, SIGNALS);
-        let (objects, objects_pass, signal_pass) = match made {
-            Ok(made) => made,
-            Err(fault) => {
-                clock.close(clock_pass);
-                return Err(fault);
-            }
+        let Ok((objects, objects_pass, signals)) = made else {
+            clock.close(clock_pass);
+            return Err(AllocError);
         };
-        match Timers::make_counting(alloc, bases, &timers, terms, counters) {
-            Ok((timers, pass)) => {
-                let system = System {
-                    timers,
-                    objects,
-                    clock,
-                    unused,
-                    alloc,
-                };
-                let handle = Handle {
-                    timers: pass,
-                    objects: objects_pass,
-                    clock: clock_pass,
-                    signals: signal_pass,
-                    logs: no_logs(alloc),
-                };
-                Ok((system, handle))
-            }
-            Err(fault) => {
-                clock.close(clock_pass);
-                objects.close_queued(objects_pass, signal_pass);
-                Err(fault)
-            }
-        }
+        let made = Timers::make_counting(alloc, bases, &timers, terms, counters);
+        let Ok((timers, pass)) = made else {
+            clock.close(clock_pass);
+            objects.close_queued(objects_pass, signals);
+            return Err(AllocError);
+        };
+        let handle = Handle {
+            timers: pass,
+            objects: objects_pass,
+            clock: clock_pass,
+            signals,
+            logs: no_logs(alloc),
+        };
+        let system = System {
+            timers,
+            objects,
+            clock,
+            unused,
+            alloc,
+        };
+        Ok((system, handle))
     }
 
     /// One more handle, for another thread. It has seen as much.
