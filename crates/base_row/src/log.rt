@@ -139,7 +139,7 @@ pub trait ReceiptSink {
         ensures leaves { room self.old ≤ room self.new + 1 };
 }
 
-/// Keeps no receipts. It has always room for two, as many as a call on a timer makes.
+/// Keeps no receipts. It has always room for as many as a call on a timer makes.
 #[derive(Clone, Copy, Drop)]
 pub struct Unlogged;
 
