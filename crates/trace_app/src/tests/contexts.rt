@@ -14,7 +14,7 @@ const FIT: [Case; 6] = [
         "ok 4 events, 2 timers, 1 processors\n",
     ),
     (
-        // It ran already when the recording began.
+        // The soft one ran already when the recording began.
         "[0] 1: hrtimer_expire_entry: hrtimer=b now=9\n[0] 1: hrtimer_expire_exit: hrtimer=b\n[0] 1: hrtimer_expire_exit: hrtimer=a\n",
         Status::Fits,
         "ok 3 events, 2 timers, 1 processors\n",
