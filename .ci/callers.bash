@@ -1,6 +1,6 @@
 # shellcheck shell=bash disable=SC2154
 # What .ci/from_c and .ci/install share: building and running the callers of callers/, whose printed lines stand in callers/expected/. Who sources this has
-# set check (its own name) and folder (a folder for a while), and is at the top. What runs, runs by the words of run_by.
+# set check (its own name) and folder (a folder for a while), and is at the top. What runs, runs by the words of run_by, at a stack of 1 MiB.
 faults=0
 run_by=()
 
@@ -20,7 +20,7 @@ has() {
 same() {
     local name=$1 expected=callers/expected/$2
     shift 2
-    "${run_by[@]}" "$@" > "$folder/$name.printed" 2> "$folder/$name.said" || fault "$name: status $?"
+    (ulimit -S -s 1024 && "${run_by[@]}" "$@") > "$folder/$name.printed" 2> "$folder/$name.said" || fault "$name: status $?"
     diff "$folder/$name.printed" "$expected" >&2 || fault "$name prints other lines"
     cat "$folder/$name.said" >&2
 }

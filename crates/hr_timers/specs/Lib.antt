@@ -2,6 +2,7 @@ pub mod Known
 pub mod Ways
 pub mod Moves
 pub mod Calls
+pub mod Tries
 pub mod Logged
 pub mod Answered
 pub mod Handlers

@@ -1,5 +1,5 @@
 //! Cancelling a timer: by a wait for its base's lock, or by one try.
-ghost use Rattle.std.specs.Prelude.{◌≡◌, ◌≢◌, ◌<◌, ◌≤◌, ◌+◌, ◌^◌, length, is_some, IfNone, MatchBool, MatchOption};
+ghost use Rattle.std.specs.Prelude.{◌≡◌, ◌≢◌, ◌<◌, ◌≤◌, ◌+◌, ◌^◌, ◌⊎◌, None, length, is_some, IfNone, MatchBool, MatchOption};
 ghost use Rattle.seq_timer.specs.Histories.{IsIdle};
 ghost use Rattle.seq_timer.specs.Systems.{rises_of};
 ghost use Rattle.base_row.specs.Plays.{RisesFrom};
@@ -8,6 +8,7 @@ ghost use Rattle.hr_timers.specs.Known.{HoldsTimer, IsAtRest, LocksGoOnIn, OnlyS
 ghost use Rattle.seq_timer.specs.declared.answer.CancelAnswer.TheVariants as cancels;
 ghost use Rattle.hr_timers.specs.Calls.{Cancels, tells_running};
 ghost use Rattle.hr_timers.specs.Logged.{CancelsBehind, CancelsLogged, HadRisenOtherwise};
+ghost use Rattle.hr_timers.specs.Tries.{HadRisenWhileStill, WasBusy};
 
 use crate::under_lock::{enter_once, leave, lock_timer, state_of};
 use base_row::{BaseRow, HeldBase, Pass, ReceiptSink};
@@ -27,6 +28,7 @@ pub fn try_to_cancel<R: Wait, S: ReceiptSink>(
     requires room { 0 < S.room sink.old }
     ensures rest { IsAtRest row.now pass.new }
     ensures cancels { CancelsLogged S.pushed row.now.about (known_of pass.old.knows) (known_of pass.new.knows) timer result sink.old sink.new }
+    ensures idle { (pass.new.knows.takes ≡ pass.old.knows.takes) ⊎ WasBusy row.now.about (known_of pass.old.knows) (known_of pass.new.knows) timer }
     ensures locks { LocksGoOnIn pass.old.knows pass.new.knows }
     ensures room { S.room sink.old ≤ S.room sink.new + 1 }
 {
@@ -44,6 +46,7 @@ fn look_idle(row: &BaseRow, pass: &mut Pass, timer: u32) -> Option<u64>
     ensures rest { IsAtRest row.now pass.new }
     ensures cancels { MatchOption result (OnlySeesMore pass.old.knows pass.new.knows) (λ n. Cancels row.now.about (known_of pass.old.knows) (known_of pass.new.knows) timer (cancels.Idle n)) }
     ensures busy { IfNone result (IsIdle (timer_seen row.now.about pass.new.knows timer) → ⊥) }
+    ensures takes { pass.new.knows.takes ≡ pass.old.knows.takes }
     ensures locks { LocksGoOnIn pass.old.knows pass.new.knows }
 {
     let word = row.load_word(pass, timer);
@@ -89,7 +92,7 @@ pub fn cancel_held<S: ReceiptSink>(
 }
 
 /// As `try_to_cancel`, under the lock of the timer's base in any case. Unless the timer's function is running, a counter rises first, from so many. It
-/// answers `None`, and has done nothing, where the counter isn't so far.
+/// answers `None`, and has done nothing, where the counter isn't so far and the function isn't running.
 pub fn try_to_cancel_behind<R: Wait, S: ReceiptSink>(
     rt: &R,
     row: &BaseRow,
@@ -108,6 +111,7 @@ pub fn try_to_cancel_behind<R: Wait, S: ReceiptSink>(
     ensures cancels { MatchOption result
         (OnlySeesMore pass.old.knows pass.new.knows × HadRisenOtherwise counter from (known_of pass.old.knows) (known_of pass.new.knows) × (sink.new ≡ sink.old))
         (λ a. CancelsBehind S.pushed row.now.about counter from (known_of pass.old.knows) (known_of pass.new.knows) timer a sink.old sink.new) }
+    ensures why { IfNone result (HadRisenWhileStill row.now.about counter from (known_of pass.old.knows) (known_of pass.new.knows) timer) }
     ensures locks { LocksGoOnIn pass.old.knows pass.new.knows }
     ensures room { S.room sink.old ≤ S.room sink.new + 1 }
 {

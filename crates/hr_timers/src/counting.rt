@@ -1,11 +1,12 @@
 //! Counters beside the timers, whose rises stand in the one history of all timers. What a counter counts is for its callers to say: one that is raised before
 //! and behind what it counts gives that a place among the timers' entries.
-ghost use Rattle.std.specs.Prelude.{◌≡◌, ◌≢◌, ◌+◌, ◌^◌, ◌<◌, ◌≤◌, length, replicate, [], IfOk, MatchBool, MatchOption};
+ghost use Rattle.std.specs.Prelude.{◌≡◌, ◌≢◌, ◌+◌, ◌^◌, ◌<◌, ◌≤◌, length, replicate, [], IfNone, IfOk, MatchBool, MatchOption};
 ghost use Rattle.base_row.specs.Calls.{opening_with};
 ghost use Rattle.base_row.specs.Places.{most_counters};
 ghost use Rattle.base_row.specs.Plays.{RaisesTo, RisesFrom};
 ghost use Rattle.hr_timers.specs.Known.{IsPassOf, KeepsLocks, LocksGoOn};
 ghost use Rattle.hr_timers.specs.Logged.{CancelsBehind, HadRisenOtherwise};
+ghost use Rattle.hr_timers.specs.Tries.{HadRisenWhileStill};
 ghost use Rattle.pass_names.specs.SharedHistory.{LooksOn, first_known};
 ghost use Rattle.seq_timer.specs.Steps.{HasRoom};
 ghost use Rattle.seq_timer.specs.Systems.{rises_of};
@@ -88,7 +89,7 @@ impl Timers {
     }
 
     /// As `try_to_cancel_logged`, with a step of a counter before it: unless the timer's function is running, the counter rises by one, under the lock of the
-    /// timer's base. It answers `None`, and has done nothing, where the counter hasn't risen `from` times.
+    /// timer's base. It answers `None`, and has done nothing, where the counter hasn't risen `from` times and the function isn't running.
     pub fn try_to_cancel_behind<R: Wait, S: ReceiptSink>(
         &self,
         rt: &R,
@@ -107,6 +108,7 @@ impl Timers {
         ensures cancels { MatchOption result
             (LooksOn pass.old.known pass.new.known × HadRisenOtherwise counter from pass.old.known pass.new.known × (sink.new ≡ sink.old))
             (λ a. CancelsBehind S.pushed self.now.about counter from pass.old.known pass.new.known timer a sink.old sink.new) }
+        ensures why { IfNone result (HadRisenWhileStill self.now.about counter from pass.old.known pass.new.known timer) }
         ensures locks { LocksGoOn pass.old pass.new }
         ensures room { S.room sink.old ≤ S.room sink.new + 1 }
     {

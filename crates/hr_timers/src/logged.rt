@@ -1,9 +1,10 @@
 //! The same calls with a sink for the receipts of the entries that they make.
-ghost use Rattle.std.specs.Prelude.{◌≤◌, ◌<◌, ◌+◌, length};
+ghost use Rattle.std.specs.Prelude.{◌≡◌, ◌≤◌, ◌<◌, ◌+◌, ◌⊎◌, length};
 ghost use Rattle.seq_timer.specs.Tables.{timer_at};
 ghost use Rattle.hr_timers.specs.Known.{IsPassOf, LocksGoOn, OwnsClaim};
 ghost use Rattle.hr_timers.specs.Ways.{most_to_start};
 ghost use Rattle.hr_timers.specs.Logged.{CancelsLogged, ClaimsLogged, FinishesLogged, ForwardsLogged, HasRoomToStart, StartsLogged};
+ghost use Rattle.hr_timers.specs.Tries.{WasBusy};
 
 use crate::answer::{ClaimAnswer, StartAnswer};
 use crate::timers::Timers;
@@ -53,6 +54,7 @@ impl Timers {
         requires room { 0 < S.room sink.old }
         ensures pass { IsPassOf self.now pass.new }
         ensures cancels { CancelsLogged S.pushed self.now.about pass.old.known pass.new.known timer result sink.old sink.new }
+        ensures idle { (pass.new.takes ≡ pass.old.takes) ⊎ WasBusy self.now.about pass.old.known pass.new.known timer }
         ensures locks { LocksGoOn pass.old pass.new }
         ensures room { S.room sink.old ≤ S.room sink.new + 1 }
     {

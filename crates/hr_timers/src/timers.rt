@@ -1,5 +1,5 @@
 //! The calls on timers.
-ghost use Rattle.std.specs.Prelude.{◌≡◌, ◌≤◌, ◌<◌, ◌^◌, ◌-◌, ◌++◌, ℕ, length, map, replicate, slice_index, [], IfOk};
+ghost use Rattle.std.specs.Prelude.{◌≡◌, ◌≤◌, ◌<◌, ◌^◌, ◌-◌, ◌++◌, ◌⊎◌, ℕ, length, map, replicate, slice_index, [], IfOk};
 ghost use Rattle.pass_names.specs.Names.{AnswersFor, IsLast};
 ghost use Rattle.seq_timer.specs.declared.context.Context.TheVariants as contexts;
 ghost use Rattle.seq_timer.specs.Steps.{greatest_limit, limited};
@@ -10,6 +10,7 @@ ghost use Rattle.base_row.specs.Plays.{greater};
 ghost use Rattle.pass_names.specs.SharedHistory.{MeetWith, TakesIn, child_known, first_known, splitter_known};
 ghost use Rattle.hr_timers.specs.Known.{HasEachPlace, HasEachShift, IsPassOf, KeepsLocks, LocksGoOn, OwnsClaim};
 ghost use Rattle.hr_timers.specs.Calls.{Cancels, ClaimFits, Finishes, Forwards, NowFits, Peeks, StartsTimer};
+ghost use Rattle.hr_timers.specs.Tries.{WasBusy};
 ghost use Rattle.hr_timers.specs.declared.answer.NowAnswer.TheVariants as nows;
 
 use crate::answer::{ClaimAnswer, NowAnswer, StartAnswer};
@@ -137,6 +138,8 @@ impl Timers {
         requires timer { timer < length self.now.about.timers }
         ensures pass { IsPassOf self.now pass.new }
         ensures cancels { Cancels self.now.about pass.old.known pass.new.known timer result }
+        // A timer that was idle all along: no lock was taken.
+        ensures idle { (pass.new.takes ≡ pass.old.takes) ⊎ WasBusy self.now.about pass.old.known pass.new.known timer }
         ensures locks { LocksGoOn pass.old pass.new }
     {
         self.try_to_cancel_logged(rt, pass, &mut Unlogged, timer)
@@ -149,6 +152,8 @@ impl Timers {
         requires timer { timer < length self.now.about.timers }
         ensures pass { IsPassOf self.now pass.new }
         ensures cancels { NowFits self.now.about pass.old pass.new timer result }
+        // The same, and it isn't told Contended.
+        ensures idle { ((pass.new.takes ≡ pass.old.takes) × ((b : ℕ) → result ≡ nows.Contended b → ⊥)) ⊎ WasBusy self.now.about pass.old.known pass.new.known timer }
         ensures locks { LocksGoOn pass.old pass.new }
         ensures alone { IsLast pass.old.known.id → (b : ℕ) → result ≡ nows.Contended b → 2 ^ 64 - 2 ≤ slice_index pass.new.met b }
         ensures moving { IsLast pass.old.known.id → (b : ℕ) → result ≡ nows.Moving b → ⊥ }

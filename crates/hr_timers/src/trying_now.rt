@@ -1,8 +1,10 @@
 //! Cancelling a timer at one try that waits for nobody.
-ghost use Rattle.std.specs.Prelude.{◌≡◌, ◌≤◌, ◌<◌, ◌^◌, ◌-◌, ℕ, length, slice_index};
+ghost use Rattle.std.specs.Prelude.{◌≡◌, ◌≤◌, ◌<◌, ◌^◌, ◌-◌, ◌⊎◌, ℕ, length, slice_index};
 ghost use Rattle.pass_names.specs.Names.{IsLast};
 ghost use Rattle.hr_timers.specs.Known.{HoldsBase, IsAtRest, LocksGoOnIn, pass_of};
+ghost use Rattle.base_row.specs.Calls.{known_of};
 ghost use Rattle.hr_timers.specs.Calls.{NowFits, HeldFits};
+ghost use Rattle.hr_timers.specs.Tries.{WasBusy};
 ghost use Rattle.hr_timers.specs.declared.answer.NowAnswer.TheVariants as nows;
 
 use crate::answer::NowAnswer;
@@ -17,6 +19,7 @@ pub fn cancel_now(row: &BaseRow, pass: &mut Pass, timer: u32) -> NowAnswer
     requires timer { timer < length row.now.about.timers }
     ensures rest { IsAtRest row.now pass.new }
     ensures cancels { NowFits row.now.about (pass_of pass.old) (pass_of pass.new) timer result }
+    ensures idle { ((pass.new.knows.takes ≡ pass.old.knows.takes) × ((b : ℕ) → result ≡ nows.Contended b → ⊥)) ⊎ WasBusy row.now.about (known_of pass.old.knows) (known_of pass.new.knows) timer }
     ensures alone { IsLast pass.old.knows.id → (b : ℕ) → result ≡ nows.Contended b → 2 ^ 64 - 2 ≤ slice_index pass.new.knows.met b }
     ensures locks { LocksGoOnIn pass.old.knows pass.new.knows }
 {

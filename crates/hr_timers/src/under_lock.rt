@@ -9,10 +9,11 @@ ghost use Rattle.seq_timer.specs.Contents.{running_in};
 ghost use Rattle.seq_timer.specs.Steps.{after, reply_to};
 ghost use Rattle.seq_timer.specs.Systems.{IsOn, entries_of, next_on};
 ghost use Rattle.base_row.specs.Plays.{Steady, claims_with_event};
-ghost use Rattle.base_row.specs.Calls.{base_seen, IsBasePassOf, LetsGo, MayAppend, known_of, timer_seen};
-ghost use Rattle.hr_timers.specs.Known.{AddsBehind, HoldsBase, HoldsTimer, IsAtRest, LocksGoOnIn, OnlySeesMore};
+ghost use Rattle.base_row.specs.Calls.{base_seen, IsBasePassOf, LetsGo, MayAppend, MissesBase, known_of, timer_seen};
+ghost use Rattle.hr_timers.specs.Known.{AddsBehind, HoldsBase, HoldsTimer, IsAtRest, LocksGoOnIn, OnlySeesMore, pass_of};
 ghost use Rattle.hr_timers.specs.Calls.{SawMove, entry_by};
 ghost use Rattle.hr_timers.specs.Logged.{IsLogged};
+ghost use Rattle.hr_timers.specs.Tries.{HasMissedIts};
 ghost use Rattle.hr_timers.specs.Moves.{KeepsBases};
 
 use base_row::{BaseRow, HeldBase, Pass, ReceiptSink};
@@ -44,6 +45,7 @@ fn try_lock(row: &BaseRow, pass: &mut Pass, base: u32) -> Option<HeldBase>
     ensures at { IfSome result (λ h. h.base ≡ base) }
     ensures held { pass.new.knows.held ≡ result }
     ensures looks { OnlySeesMore pass.old.knows pass.new.knows }
+    ensures why { IfNone result (MissesBase base pass.old.knows pass.new.knows) }
 {
     row.try_lock_base(pass, base)
 }
@@ -70,13 +72,15 @@ pub fn lock_timer<R: Wait>(rt: &R, row: &BaseRow, pass: &mut Pass, timer: u32) -
     wait_for_timer(rt, row, pass, timer)
 }
 
-/// One try at the lock of the base that the timer's word names. It waits for nobody.
+/// One try at the lock of the base that the timer's word names. It waits for nobody. It answers `None` only where the timer was seen on the move, or on one
+/// base and then on another, or where another pass took the base in between.
 #[inline(always)]
 fn try_lock_timer(row: &BaseRow, pass: &mut Pass, timer: u32) -> Option<HeldBase>
     requires rest { IsAtRest row.now pass.old }
     requires timer { timer < length row.now.about.timers }
     ensures holds { MatchOption result (IsAtRest row.now pass.new) (λ h. HoldsTimer row.now pass.new h timer) }
     ensures looks { OnlySeesMore pass.old.knows pass.new.knows }
+    ensures why { IfNone result (HasMissedIts row.now.about (pass_of pass.old) (pass_of pass.new) timer) }
 {
     let word = row.load_word(pass, timer);
     if word.moving {

@@ -1,10 +1,12 @@
 -- Where the clock's readings and writes stand among the entries of timers. Counter 0 of the timers repeats the number of the clock's writes, so the k-th of
 -- its rises is the place of the k-th write.
 use Rattle.std.specs.Prelude.{ℕ, ◌≡◌, ◌+◌, ◌≤◌, List, [], ◌∷◌, ◌++◌, length, Result, IfOk, OnErr}
-use Rattle.clock_cell.specs.Views.{writes}
+use Rattle.clock_cell.specs.Views.{reading_after, seen_reading, writes}
 use Rattle.clock_cell.specs.declared.view.ClockView.{ClockView}
 use Rattle.ktime.specs.declared.write.ClockFault.{ClockFault}
+use Rattle.ktime.specs.Clocks.{IsAccepted}
 use Rattle.ktime.specs.Readings.{ClockReading}
+use Rattle.ktime.specs.declared.write.Write.{Write}
 use Rattle.pass_names.specs.Passes.{Begins}
 use Rattle.seq_timer.specs.Systems.{rises_of}
 use Rattle.seq_timer.specs.declared.system.SystemEntry.{SystemEntry}
@@ -39,6 +41,14 @@ pub record HasPlace (v w : KnownOfTimers) (new : ClockView) (result : Result Clo
   pub place : IfOk result (λ r. WritesAt v.seen w.seen r.stamp)
   pub refused : OnErr result (ReadsAt v.seen w.seen (length (writes new)))
   pub told : length (writes new) ≤ told w
+
+-- Why a turn of a write came to nothing: after some of the writes the clock took this one, and it doesn't any more as it was seen last: others came between.
+pub record CameBetween (w : Write) (old new : ClockView) : Type 0 where
+  pub at : List Write
+  pub from : Begins (writes old) at
+  pub seen : Begins at (writes new)
+  pub accepted : IsAccepted (reading_after at) w
+  pub refused : IsAccepted (seen_reading new) w → ⊥
 
 -- A record that is wrong: a call read the clock after so many writes, and then made an entry; another call had seen that entry, and then made one of these
 -- writes.

@@ -4,7 +4,7 @@ ghost use Rattle.pass_names.specs.Passes.{Looks};
 ghost use Rattle.pass_names.specs.SharedHistory.{LooksOn};
 ghost use Rattle.clock_cell.specs.Views.{AnswersWrite, Hears, IsPassOfClock, KnowsClock, seen_reading, writes};
 ghost use Rattle.hr_timers.specs.Known.{IsPassOf, KeepsLocks};
-ghost use Rattle.ordered_clock.specs.Moments.{HasPlace, ReadsAt, clock_counter, told};
+ghost use Rattle.ordered_clock.specs.Moments.{CameBetween, HasPlace, ReadsAt, clock_counter, told};
 
 use clock_cell::{ClockPass, SharedClock, WriteAnswer};
 use hr_timers::{Pass, Timers};
@@ -88,6 +88,7 @@ fn turn<R: Wait>(
     ensures locks { KeepsLocks pass.old pass.new }
     ensures clock { IsPassOfClock clock.now clock_pass.new }
     ensures again { IfNone result (Looks clock_pass.old.knows.pass clock_pass.new.knows.pass) }
+    ensures why { IfNone result (CameBetween write clock_pass.old.knows clock_pass.new.knows) }
     ensures heard { Hears clock_pass.old.knows clock_pass.new.knows }
     ensures answers { IfSome result (λ a. AnswersWrite write clock_pass.old.knows clock_pass.new.knows a) }
     ensures places { IfSome result (λ a. HasPlace pass.old.known pass.new.known clock_pass.new.knows a) }

@@ -1,4 +1,5 @@
 -- A trigger, from the clauses of the lock of its object and of its end.
+use Rattle.std.specs.Prelude.{Option}
 use Rattle.std.proofs.Common.{◌≡◌, ℕ, ◌+◌, ◌<◌, List, [], ◌∷◌, ◌++◌, length, ap, sym, ◌∙◌, subst, refl}
 use Rattle.pass_names.specs.Passes.{Adds}
 use Rattle.hr_timers.specs.Known.{KnownOfTimers}
@@ -13,7 +14,7 @@ use Rattle.timer_setting.specs.declared.object_call.ObjectReply.{ObjectReply}
 use Rattle.timer_objects.specs.Steps.{object_answer}
 use Rattle.timer_objects.specs.Meaning.{object_meaning}
 use Rattle.timer_objects.specs.Known.{EntersObjectCall, IsObjectsPass, ObjectsOf, ObjectsPass, receipt_of, row_of, seen_of}
-use Rattle.timer_objects.specs.Triggers.{EntersTrigger}
+use Rattle.timer_objects.specs.Triggers.{EntersTrigger, IsRungFor, TellsReader}
 use Rattle.timer_objects.specs.Turns.{HasTurn}
 use Rattle.timer_objects.proofs.Counting.{state_is}
 
@@ -57,3 +58,12 @@ module _ (x : ObjectsOf) (p m q : ObjectsPass) (id : ℕ) (h : Locked Object) (c
   pub entered : (answer : ObjectReply) → EntersObjectCall m q h call answer → h.stamp < x.limit → log' ≡ log ++ receipt_of h call ∷ []
       → (v begun w : KnownOfTimers) → HasTurn id h.stamp v begun begun w → EntersTrigger x p q log log' v w id call
   entered answer enters room noted v begun w turn = (entered_held answer enters room noted v begun w turn).made
+
+-- who is told by a trigger's reply is told by the receipt that has it
+pub tells_of : {id n : ℕ} {reply : ObjectReply} {rung : Option ℕ} {log log' : List ObjectReceipt} (receipt : ObjectReceipt) → n ≡ id → reply ≡ receipt.reply
+    → log' ≡ log ++ receipt ∷ [] → IsRungFor n reply rung → TellsReader id rung log log'
+tells_of {id} {n} {reply} {rung} receipt here same noted told = record {
+  receipt = receipt;
+  noted = noted;
+  told = subst (λ i. IsRungFor i receipt.reply rung) here (subst (λ r. IsRungFor n r rung) same told);
+}

@@ -18,7 +18,7 @@ use crate::arming::{arm, disarm};
 use crate::log::ObjectLog;
 use crate::object::{Decl, Object};
 use crate::objects::Objects;
-use crate::turns::end;
+use crate::turns::{Turn, end};
 use counted_row::{Held, RowPass};
 use hr_timers::{Log, Pass, Timers};
 use ktime::{ClockId, Mode, Reading};
@@ -225,20 +225,20 @@ impl Objects {
         let stamp = held.stamp();
         let reading = call.reading();
         let base = decl.base;
-        let Some(outcome) = disarm_and_arm(rt, timers, pass, log, id, stamp, wants, base, reading)
-        else {
+        let begun = disarm_and_arm(rt, timers, pass, log, id, stamp, wants, base, reading);
+        let Some((turn, outcome)) = begun else {
             self.release(objects_pass, held);
             return None;
         };
-        end(rt, timers, pass, id, stamp);
+        end(rt, timers, pass, turn);
         let entered = call.with(outcome);
         let reply = self.enter(objects_pass, held, object_log, id, &entered);
         Some(EndedAnew::Made { reply })
     }
 }
 
-/// Begins a turn of an object with so many entries, disarms the object's timer, and starts it where that is wanted. It answers the outcome of the start, or
-/// nothing where the timer's function is running.
+/// Begins a turn of an object with so many entries, disarms the object's timer, and starts it where that is wanted. It answers the turn
+/// and the outcome of the start, or nothing where the timer's function is running.
 fn disarm_and_arm<R: Wait>(
     rt: &R,
     timers: &Timers,
@@ -249,7 +249,7 @@ fn disarm_and_arm<R: Wait>(
     wants: Option<Wanted>,
     base: u32,
     reading: Reading,
-) -> Option<Arm>
+) -> Option<(Turn, Arm)>
     requires pass { IsPassOf timers.now pass.old }
     requires timer { timer < length timers.now.about.timers }
     requires base { base < timers.now.about.bases }
@@ -257,15 +257,15 @@ fn disarm_and_arm<R: Wait>(
     requires small { stamp + stamp + 2 < 2 ^ 64 }
     requires room { 1 + most_to_start (timer_at timers.now.about.timers timer).terms base ≤ log.old.spare }
     ensures pass { IsPassOf timers.now pass.new }
-    ensures sets { MatchOption result (LooksOn pass.old.known pass.new.known × (log.new ≡ log.old)) (λ arm. DisarmsAndArms timers.now.about pass.old.known pass.new.known timer stamp wants base reading arm log.old.receipts log.new.receipts) }
-    ensures outcome { IfSome result (λ arm. IsOutcomeOf arm wants) }
+    ensures sets { MatchOption result (LooksOn pass.old.known pass.new.known × (log.new ≡ log.old)) (λ r. DisarmsAndArms timers.now.about pass.old.known pass.new.known timer stamp wants base reading r.1 log.old.receipts log.new.receipts) }
+    ensures turn { IfSome result (λ r. r.0 ≡ (timer, stamp)) }
+    ensures outcome { IfSome result (λ r. IsOutcomeOf r.1 wants) }
     ensures why { IfNone result (IsHindered timers.now.about pass.new.known timer) }
     ensures room { log.old.spare ≤ log.new.spare + (1 + most_to_start (timer_at timers.now.about.timers timer).terms base) }
 {
-    if !disarm(rt, timers, pass, log, timer, stamp) {
-        return None;
-    }
-    Some(arm(rt, timers, pass, log, timer, wants, base, reading))
+    let turn = disarm(rt, timers, pass, log, timer, stamp)?;
+    let outcome = arm(rt, timers, pass, log, timer, wants, base, reading);
+    Some((turn, outcome))
 }
 
 /// The start that a settime with valid arguments wants: none where its value is zero.

@@ -1,5 +1,5 @@
 //! What calls on objects do to the timers below.
-ghost use Rattle.std.specs.Prelude.{◌≡◌, ◌≢◌, ◌≤◌, ◌<◌, ◌+◌, ◌^◌, length, true, false, None, Some};
+ghost use Rattle.std.specs.Prelude.{◌≡◌, ◌≢◌, ◌≤◌, ◌<◌, ◌+◌, ◌^◌, length, true, false, None, Some, IfNone, IfSome, MatchOption};
 ghost use Rattle.pass_names.specs.SharedHistory.{LooksOn};
 ghost use Rattle.seq_timer.specs.Tables.{timer_at};
 ghost use Rattle.hr_timers.specs.Known.{IsPassOf};
@@ -9,15 +9,15 @@ ghost use Rattle.timer_objects.specs.Arming.{ArmsFor, DisarmsInTurn};
 ghost use Rattle.timer_objects.specs.Turns.{turns_counter};
 ghost use Rattle.timer_objects.specs.Waiting.{IsHindered, IsOutOfTurn};
 
-use crate::turns::counter_of;
+use crate::turns::{Turn, counter_of};
 use hr_timers::{Log, Pass, StartAnswer, Timers};
 use ktime::Reading;
 use seq_timer::{Asked, CancelAnswer};
 use std::sync::Wait;
 use timer_setting::{Arm, Wanted};
 
-/// Tries to begin a turn of an object with so many entries, and to disarm the object's timer. It answers whether it did: not where the timer's function is
-/// running.
+/// Tries to begin a turn of an object with so many entries, and to disarm the object's timer. It answers the turn, or nothing, with none begun, where the
+/// timer's function is running.
 pub(crate) fn disarm<R: Wait>(
     rt: &R,
     timers: &Timers,
@@ -25,21 +25,23 @@ pub(crate) fn disarm<R: Wait>(
     log: &mut Log,
     timer: u32,
     stamp: u64,
-) -> bool
+) -> Option<Turn>
     requires pass { IsPassOf timers.now pass.old }
     requires timer { timer < length timers.now.about.timers }
     requires counter { turns_counter timer < timers.now.about.counters }
     requires small { stamp + stamp + 2 < 2 ^ 64 }
     requires room { 0 < log.old.spare }
     ensures pass { IsPassOf timers.now pass.new }
-    ensures disarms { result ≡ true → DisarmsInTurn timers.now.about pass.old.known pass.new.known timer stamp log.old.receipts log.new.receipts }
-    ensures waits { result ≡ false → LooksOn pass.old.known pass.new.known × (log.new ≡ log.old) }
-    ensures why { result ≡ false → IsHindered timers.now.about pass.new.known timer }
+    ensures turn { IfSome result (λ turn. turn ≡ (timer, stamp)) }
+    ensures sets { MatchOption result (LooksOn pass.old.known pass.new.known × (log.new ≡ log.old)) (λ _. DisarmsInTurn timers.now.about pass.old.known pass.new.known timer stamp log.old.receipts log.new.receipts) }
+    ensures why { IfNone result (IsHindered timers.now.about pass.new.known timer) }
     ensures room { log.old.spare ≤ log.new.spare + 1 }
 {
     for _ in rt.forever() {
-        if let Some(disarmed) = try_to_disarm(rt, timers, pass, log, timer, stamp) {
-            return disarmed;
+        match try_to_disarm(rt, timers, pass, log, timer, stamp) {
+            Some(true) => return Some(Turn::begun(timer, stamp)),
+            Some(false) => return None,
+            None => {}
         }
     }
     unreachable!()

@@ -176,11 +176,11 @@ impl Objects {
     {
         let stamp = held.stamp();
         let number = stamp + 1;
-        begin(rt, timers, pass, id, stamp);
+        let turn = begin(rt, timers, pass, id, stamp);
         let wants = wanted(call, held.state(), reading);
         let base = self.decl(id).base;
         let outcome = arm(rt, timers, pass, log, id, wants, base, reading);
-        end(rt, timers, pass, id, stamp);
+        end(rt, timers, pass, turn);
         let made = call_of(call, reading, outcome);
         let reply = self.enter(objects_pass, held, object_log, id, &made);
         Ended::Made {

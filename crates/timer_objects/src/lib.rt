@@ -9,7 +9,7 @@ pub use log::{ObjectLog, ObjectReceipt};
 pub use object::{Decl, Kind, Object};
 pub use objects::Objects;
 pub use queued_firing::{QueuedFiring, QueuedFiringWith};
-pub use readers::Reader;
+pub use readers::{Reader, RungBelow};
 pub use signals::NextSignal;
 pub use timer_setting::{ObjectCall, ObjectReply};
 

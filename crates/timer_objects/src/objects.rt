@@ -1,5 +1,5 @@
 //! Objects that many threads share, and what each call does at their row.
-ghost use Rattle.std.specs.Prelude.{◌≡◌, ◌≤◌, ◌<◌, ◌+◌, ◌^◌, [], ◌∷◌, ◌++◌, Some, None, IsSome, length, IfOk, MatchBool};
+ghost use Rattle.std.specs.Prelude.{◌≡◌, ◌≤◌, ◌<◌, ◌+◌, ◌-◌, ◌^◌, [], ◌∷◌, ◌++◌, Some, None, IsSome, length, min, IfOk, MatchBool};
 ghost use Rattle.pass_names.specs.Names.{AnswersFor, IsLast};
 ghost use Rattle.pass_names.specs.Passes.{Begins, HasEach, Meets, Retires};
 ghost use Rattle.signal_queue.specs.Rules.{turns};
@@ -14,7 +14,7 @@ ghost use Rattle.timer_objects.specs.Known.{EntersObjectCall, HoldsObject, IsObj
 
 use crate::log::{ObjectLog, note};
 use crate::object::{Decl, Kind, Object};
-use crate::readers::{Bells, Reader, Rung};
+use crate::readers::{Bells, Reader, Rung, RungBelow};
 use counted_row::{Held, Row, RowPass};
 use signal_queue::{SignalPass, Signals};
 use std::alloc::{AllocError, Global};
@@ -137,9 +137,17 @@ impl Objects {
         Ok((objects, pass))
     }
 
-    /// Tells every reader that the clock was set: who makes a write of it calls this afterwards. It wakes each, and waits for nobody.
-    pub fn clock_was_set<R: Wait>(&self, _rt: &R) {
-        self.bells.ring_all();
+    /// Tells every reader that the clock was set: who makes a write of it calls this afterwards. It wakes each, of every descriptor that a call can be made
+    /// of, and waits for nobody.
+    pub fn clock_was_set<R: Wait>(&self, _rt: &R) -> RungBelow
+        ensures all { result ≡ min (length self.now.decls) (2 ^ 32 - 1) }
+    {
+        let objects = u32::try_from(self.len()).unwrap_or(u32::MAX);
+        let mut rung = RungBelow::none();
+        for id in 0..objects {
+            rung = rung.and(self.ring(id));
+        }
+        rung
     }
 
     /// Wakes the reader of a descriptor, if it has one.

@@ -1,5 +1,5 @@
 //! Readers of descriptors that wait, and the bells that wake them.
-ghost use Rattle.std.specs.Prelude.{◌≡◌, ◌≤◌, ◌^◌, length, IfOk};
+ghost use Rattle.std.specs.Prelude.{◌≡◌, ◌+◌, ◌<◌, ◌≤◌, ◌^◌, length, IfOk};
 ghost use Rattle.timer_objects.specs.BlockingReads.{descriptors_below};
 
 use crate::object::{Decl, Kind};
@@ -53,6 +53,40 @@ impl Model for Rung {
     ghost view = { λ r. r.id };
 }
 
+/// That the bell of each object of a smaller number was rung, if it has one. `and` alone makes the number greater.
+#[derive(Drop)]
+pub struct RungBelow {
+    next: u64,
+}
+
+impl Model for RungBelow {
+    ghost use Rattle.std.specs.Prelude.{ℕ};
+
+    ghost Value = { ℕ };
+
+    ghost view = { λ r. r.next };
+}
+
+impl RungBelow {
+    /// None was.
+    pub(crate) fn none() -> RungBelow
+        ensures { result ≡ 0 }
+    {
+        RungBelow { next: 0 }
+    }
+
+    /// That of the next object was too.
+    pub(crate) fn and(self, rung: Rung) -> RungBelow
+        requires next { rung ≡ self }
+        requires few { self < 2 ^ 32 }
+        ensures { result ≡ self + 1 }
+    {
+        let Rung { id: _ } = rung;
+        let RungBelow { next } = self;
+        RungBelow { next: next + 1 }
+    }
+}
+
 /// The bells of objects: one of each descriptor that has a reader.
 #[derive(Drop)]
 pub struct Bells {
@@ -103,14 +137,5 @@ impl Bells {
             bell.unpark();
         }
         Rung { id }
-    }
-
-    /// Wakes each reader.
-    pub(crate) fn ring_all(&self) {
-        for bell in &self.bells {
-            if let Some(bell) = bell {
-                bell.unpark();
-            }
-        }
     }
 }

@@ -68,8 +68,8 @@ pub(crate) fn send<R: Wait>(
         generation,
         reading,
     );
-    begin(rt, timers, pass, id, stamp);
-    end(rt, timers, pass, id, stamp);
+    let turn = begin(rt, timers, pass, id, stamp);
+    end(rt, timers, pass, turn);
     objects.enter(objects_pass, held, log, id, &call);
 }
 

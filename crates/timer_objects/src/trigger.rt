@@ -72,8 +72,8 @@ pub(crate) fn trigger<R: Wait>(
         return None;
     }
     let stamp = held.stamp();
-    begin(rt, timers, pass, id, stamp);
-    end(rt, timers, pass, id, stamp);
+    let turn = begin(rt, timers, pass, id, stamp);
+    end(rt, timers, pass, turn);
     let reply = objects.enter(objects_pass, held, log, id, &call);
     tell_reader(objects, id, &reply)
 }

@@ -12,7 +12,31 @@ use crate::object::Object;
 use crate::objects::Objects;
 use counted_row::{Held, RowPass};
 use hr_timers::{Pass, Timers};
+use std::marker::Model;
 use std::sync::Wait;
+
+/// A turn of an object that a call has begun. It can't be dropped: only `end` takes it, so no call leaves its object in a turn.
+pub(crate) struct Turn {
+    id: u32,
+    stamp: u64,
+}
+
+impl Model for Turn {
+    ghost use Rattle.std.specs.Prelude.{ℕ};
+
+    ghost Value = { ℕ × ℕ };
+
+    ghost view = { λ t. (t.id, t.stamp) };
+}
+
+impl Turn {
+    /// The turn of an object with so many entries that a rise of its counter has begun.
+    pub(crate) fn begun(id: u32, stamp: u64) -> Turn
+        ensures { result ≡ (id, stamp) }
+    {
+        Turn { id, stamp }
+    }
+}
 
 impl Objects {
     /// Waits until the lock of an object is free, and takes it when no call has its turn. In fact none has as soon as it has the lock.
@@ -75,24 +99,27 @@ fn is_between_turns(timers: &Timers, pass: &mut Pass, id: u32, stamp: u64) -> bo
 }
 
 /// Begins a turn of an object with so many entries.
-pub(crate) fn begin<R: Wait>(rt: &R, timers: &Timers, pass: &mut Pass, id: u32, stamp: u64)
+pub(crate) fn begin<R: Wait>(rt: &R, timers: &Timers, pass: &mut Pass, id: u32, stamp: u64) -> Turn
     requires pass { IsPassOf timers.now pass.old }
     requires counter { turns_counter id < timers.now.about.counters }
     requires small { stamp + stamp + 2 < 2 ^ 64 }
     ensures pass { IsPassOf timers.now pass.new }
+    ensures turn { result ≡ (id, stamp) }
     ensures begins { BeginsTurn id stamp pass.old.known pass.new.known }
 {
     raise(rt, timers, pass, id, stamp + stamp);
+    Turn::begun(id, stamp)
 }
 
 /// Ends it, where the entry has its place.
-pub(crate) fn end<R: Wait>(rt: &R, timers: &Timers, pass: &mut Pass, id: u32, stamp: u64)
+pub(crate) fn end<R: Wait>(rt: &R, timers: &Timers, pass: &mut Pass, turn: Turn)
     requires pass { IsPassOf timers.now pass.old }
-    requires counter { turns_counter id < timers.now.about.counters }
-    requires small { stamp + stamp + 2 < 2 ^ 64 }
+    requires counter { turns_counter turn.0 < timers.now.about.counters }
+    requires small { turn.1 + turn.1 + 2 < 2 ^ 64 }
     ensures pass { IsPassOf timers.now pass.new }
-    ensures ends { EndsTurn id stamp pass.old.known pass.new.known }
+    ensures ends { EndsTurn turn.0 turn.1 pass.old.known pass.new.known }
 {
+    let Turn { id, stamp } = turn;
     raise(rt, timers, pass, id, stamp + stamp + 1);
 }
 

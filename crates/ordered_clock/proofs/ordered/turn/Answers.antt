@@ -1,7 +1,10 @@
-use Rattle.std.proofs.Common.{ap, arith, inr, subst}
+use Rattle.std.proofs.Common.{◌≡◌, ap, arith, inr, refl, subst}
 use Rattle.clock_cell.proofs.Taking.{hears_again, takes_again}
+use Rattle.clock_cell.specs.Views.{seen_reading, writes}
+use Rattle.ktime.specs.Clocks.{IsAccepted}
 use Rattle.ktime.proofs.Writes.{shown_by}
 use Rattle.ordered_clock.proofs.Moments.{grown, read_at, written_at}
+use Rattle.ordered_clock.proofs.Refusing.{accepts, refuses}
 use Rattle.ordered_clock.specs.Moments.{ReadsAt}
 use Rattle.ordered_clock.proofs.ordered.turn.Goals as goal
 
@@ -45,4 +48,16 @@ returns-in-Ok-clause-places g c =
           (omega (arith, c.raise_counter-in-Ok.ensures.count, ap (λ r. r.stamp) c.after.view_is));
       refused = tt;
       told = omega (arith, c.raise_counter-in-Ok.ensures.count, ap (λ r. r.stamp) c.after.view_is, a.ok.count);
+    }
+
+pub returns-clause-why : goal.returns-clause-why
+returns-clause-why g c =
+    let now = c.read_from-reading.new.pass.knows in
+    let refused = c.in_default-write.ensures.answers.err in
+    let is : c.at.result ≡ seen_reading now = cc in record {
+      at = writes now;
+      from = c.read_from-reading.ensures.looks.seen.each 0;
+      seen = refused.looks.seen.each 0;
+      accepted = subst (λ r. IsAccepted r c.args.write) is (accepts _ _ c.args.write c.in_default.ensures.refused);
+      refused = refuses _ c.args.write _ refl refused.cause;
     }

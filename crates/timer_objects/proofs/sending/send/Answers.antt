@@ -1,4 +1,4 @@
-use Rattle.std.proofs.Common.{◌<◌, ◌+◌, subst}
+use Rattle.std.proofs.Common.{◌<◌, ◌+◌, ℕ, subst}
 use Rattle.counted_row.specs.Views.{Locks}
 use Rattle.timer_objects.specs.Meaning.{object_meaning}
 use Rattle.timer_objects.specs.Signals.{PushesFor}
@@ -16,15 +16,16 @@ returns-clause-fires g c =
     let h = c.lock_in_turn-held.result in
     let taken = c.lock_in_turn-held.ensures in
     let v = c.args.pass.now.known in
-    let begun = c.begin.new.pass.known in
+    let begun = c.begin-turn.new.pass.known in
     let w = c.end.new.pass.known in
     let mid = c.lock_in_turn-held.new.objects_pass in
     let entry = c.enter.ensures in
     let call = c.push-call.result in
     let turn : HasTurn t h.stamp v begun begun w = subst (λ i. HasTurn i h.stamp v begun begun w) c.timer-id.ensures (record {
       begins = begins_after taken.looks
-          (subst (λ n. BeginsTurn c.timer-id.result n c.lock_in_turn-held.new.pass.known begun) c.stamp-stamp.ensures c.begin.ensures.begins);
-      ends = subst (λ n. EndsTurn c.timer-id.result n begun w) c.stamp-stamp.ensures c.end.ensures.ends;
+          (subst (λ n. BeginsTurn c.timer-id.result n c.lock_in_turn-held.new.pass.known begun) c.stamp-stamp.ensures c.begin-turn.ensures.begins);
+      ends = subst (λ n. EndsTurn c.timer-id.result n begun w) c.stamp-stamp.ensures
+          (subst (λ (u : ℕ × ℕ). EndsTurn u.0 u.1 begun w) c.begin-turn.ensures.turn c.end.ensures.ends);
     }) in
     let locks = subst (λ id. Locks object_meaning p mid id h) c.timer-id.ensures taken.locks in
     let room : h.stamp < x.limit = c.if-is_full.ensures in

@@ -1,4 +1,4 @@
-use Rattle.std.proofs.Common.{ap, refl, sym, subst, ◌∙◌, [], ◌∷◌, ◌++◌}
+use Rattle.std.proofs.Common.{ℕ, ap, refl, sym, subst, ◌∙◌, [], ◌∷◌, ◌++◌}
 use Rattle.pass_names.proofs.SharedHistory.{looks_trans}
 use Rattle.base_row.specs.Logs.{LogOf}
 use Rattle.base_row.specs.declared.log.Receipt.{Receipt}
@@ -40,9 +40,9 @@ returns-clause-ends g c = λ first begun took.
     let holding = c.requires.holding in
     let log = c.args.object_log.now.receipts in
     let v = c.args.pass.now.known in
-    let w = c.disarm_and_arm.new.pass.known in
+    let w = c.disarm_and_arm-begun.new.pass.known in
     let now = c.args.log.now.receipts in
-    let then = c.disarm_and_arm.new.log.receipts in
+    let then = c.disarm_and_arm-begun.new.log.receipts in
     let named = c.with-entered.ensures in
     let wants = c.wants-wants.ensures ∙ ap (λ (d : Decl). anew_wanted d.clock call) c.decl-decl.ensures in
     let sets = subst (λ (d : Decl). DisarmsAndArms o v w c.args.id h.stamp (anew_wanted c.decl-decl.result.clock call) d.base c.reading-reading.result arm now then)
@@ -53,7 +53,8 @@ returns-clause-ends g c = λ first begun took.
     c.wants-wants.ensures c.in-Some.ensures.sets)) in
     let turn : HasTurn c.args.id h.stamp first.known sets.begun w c.end.new.pass.known = record {
       begins = begins_after took.looks sets.begins;
-      ends = subst (λ n. EndsTurn c.args.id n w c.end.new.pass.known) c.stamp-stamp.ensures c.end.ensures.ends;
+      ends = subst (λ n. EndsTurn c.args.id n w c.end.new.pass.known) c.stamp-stamp.ensures
+          (subst (λ (u : ℕ × ℕ). EndsTurn u.0 u.1 w c.end.new.pass.known) c.in-Some.ensures.turn c.end.ensures.ends);
     } in
     anews_made x c.args.id h holding.index holding.holds o first.known sets.begun w c.end.new.pass.known begun c.args.objects_pass.now q arm _ _ log _ _
     holding.room holding.row took.locks entry.pass turn call holding.suits holding.within c.requires.valid c.requires.taken sets.disarmed
@@ -70,7 +71,7 @@ returns-in_default-clause-ends g c = λ first begun took.
     let freed = c.release.ensures in
     let told = c.in_default.ensures in
     waits_held c.args.self.now begun c.args.objects_pass.now c.release.new.pass c.args.id c.args.held took.locks c.requires.holding.row freed.pass
-    took.is.idle freed.knows (looks_trans first.known c.args.pass.now.known c.disarm_and_arm.new.pass.known took.looks told.sets.0)
+    took.is.idle freed.knows (looks_trans first.known c.args.pass.now.known c.disarm_and_arm-begun.new.pass.known took.looks told.sets.0)
     (ap (λ (l : LogOf Receipt). l.receipts) told.sets.1) refl
 
 pub returns-in_default-clause-why : goal.returns-in_default-clause-why
@@ -78,4 +79,4 @@ returns-in_default-clause-why g c = λ first begun took.
     let freed = c.release.ensures in
     let holding = c.requires.holding in
     held_up c.args.self.now c.args.timers.now.about begun c.args.objects_pass.now c.release.new.pass c.args.id c.args.held took.locks holding.row freed.pass
-    took.is.idle freed.knows (sym freed.stamp ∙ freed.count) holding.room c.disarm_and_arm.new.pass.known c.in_default.ensures.why
+    took.is.idle freed.knows (sym freed.stamp ∙ freed.count) holding.room c.disarm_and_arm-begun.new.pass.known c.in_default.ensures.why

@@ -1,4 +1,4 @@
-use Rattle.std.proofs.Common.{ap, sym, subst, length, ◌∙◌, ◌+◌, [], ◌∷◌, ◌++◌}
+use Rattle.std.proofs.Common.{ℕ, ap, sym, subst, length, ◌∙◌, ◌+◌, [], ◌∷◌, ◌++◌}
 use Rattle.timer_setting.specs.Phases.{IsOutcomeOf}
 use Rattle.timer_objects.specs.declared.object.Decl.{Decl}
 use Rattle.timer_objects.specs.Arming.{ArmsFor}
@@ -34,12 +34,13 @@ returns-clause-ends g c = λ first begun took.
     let entry = c.enter-reply.ensures in
     let holding = c.requires.holding in
     let log = c.args.object_log.now.receipts in
-    let v = c.begin.new.pass.known in
+    let v = c.begin-turn.new.pass.known in
     let w = c.arm-outcome.new.pass.known in
     let turn : HasTurn c.args.id h.stamp first.known v w c.end.new.pass.known = record {
       begins = begins_after took.looks
-          (subst (λ n. BeginsTurn c.args.id n c.args.pass.now.known v) c.stamp-stamp.ensures c.begin.ensures.begins);
-      ends = subst (λ n. EndsTurn c.args.id n w c.end.new.pass.known) c.stamp-stamp.ensures c.end.ensures.ends;
+          (subst (λ n. BeginsTurn c.args.id n c.args.pass.now.known v) c.stamp-stamp.ensures c.begin-turn.ensures.begins);
+      ends = subst (λ n. EndsTurn c.args.id n w c.end.new.pass.known) c.stamp-stamp.ensures
+          (subst (λ (u : ℕ × ℕ). EndsTurn u.0 u.1 w c.end.new.pass.known) c.begin-turn.ensures.turn c.end.ensures.ends);
     } in
     let armed = subst (λ (d : Decl). ArmsFor c.args.timers.now.about v w c.args.id (wanted_by c.args.call h.state c.args.reading) d.base c.args.reading arm
     c.args.log.now.receipts c.arm-outcome.new.log.receipts) c.decl-base.ensures (subst (λ wanted. ArmsFor c.args.timers.now.about v w c.args.id wanted
