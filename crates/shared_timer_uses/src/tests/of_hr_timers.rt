@@ -28,7 +28,7 @@ fn started(was_armed: bool, generation: u64, base: u32, outs: u64, expires: u64)
 }
 
 /// Claims the next timer of a base.
-fn claim<R: Wait>(
+pub(super) fn claim<R: Wait>(
     rt: &R,
     timers: &Timers,
     pass: &mut Pass,
@@ -54,7 +54,7 @@ fn claim<R: Wait>(
 }
 
 /// Ends the run of the only claim's function.
-fn finish<R: Wait>(
+pub(super) fn finish<R: Wait>(
     rt: &R,
     timers: &Timers,
     pass: &mut Pass,

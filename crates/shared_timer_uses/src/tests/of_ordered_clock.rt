@@ -5,6 +5,7 @@ ghost use Rattle.hr_timers.specs.Known.{IsPassOf};
 ghost use Rattle.ordered_clock.specs.Moments.{clock_counter};
 ghost use Rattle.pass_names.specs.Names.{IsLast, first_pass_id};
 
+use super::of_hr_timers::{claim, finish};
 use super::{HARD, assert_equal};
 use crate::start_after;
 use base_row::Unlogged;
@@ -19,7 +20,7 @@ use std::test::Fail;
 use std::thread::{Threads, join_mut};
 
 /// How often each thread writes.
-const TIMES: u32 = 200;
+const TIMES: u32 = 10_000;
 
 /// One timer on one base, with two counters.
 fn counting_timers(alloc: Global) -> Result<(Timers, Pass), AllocError>
@@ -56,10 +57,9 @@ fn cancel_behind<R: Wait>(
     requires pass { IsPassOf timers.now pass.old }
     requires size { (length timers.now.about.timers ≡ 1) × (timers.now.about.counters ≡ 2) }
     requires small { from + 1 < 2 ^ 64 }
-    requires unclaimed { pass.old.known.claims ≡ [] }
     ensures pass { IsPassOf timers.now pass.new }
     ensures id { pass.new.known.id ≡ pass.old.known.id }
-    ensures unclaimed { pass.new.known.claims ≡ [] }
+    ensures claims { pass.new.known.claims ≡ pass.old.known.claims }
 {
     let answer = timers.try_to_cancel_behind(rt, pass, &mut Unlogged, 0, 1, from)?;
     match answer {
@@ -157,7 +157,7 @@ fn two_threads_write_and_read_the_clock_in_one_order(rt: HostRuntime) -> Result<
     timers.close(pass);
     clock.close(clock_pass);
     assert_equal(&rt, older, (0, 0));
-    assert_equal(&rt, (end.stamp, end.mono, told), (400, 400, 400));
+    assert_equal(&rt, (end.stamp, end.mono, told), (20_000, 20_000, 20_000));
     Ok(())
 }
 
@@ -194,5 +194,28 @@ fn a_counter_rises_before_a_cancel(rt: HostRuntime) -> Result<(), Fail> {
     assert_equal(&rt, hit, true);
     assert_equal(&rt, cancelled, Some(entry));
     assert_equal(&rt, counts, (5, 2));
+    Ok(())
+}
+
+/// A cancel that finds the timer's function running raises no counter: one by which turns are told would say for ever that a turn goes on.
+#[test]
+fn a_cancel_of_a_running_timer_raises_no_counter(rt: HostRuntime) -> Result<(), Fail> {
+    let (timers, mut pass) = counting_timers(rt.alloc())?;
+    timers.start(&rt, &mut pass, 0, Mode::Rel, 7, 0, Reading::at(0));
+    let Some(claim) = claim(&rt, &timers, &mut pass, 0, Reading::at(7)) else {
+        assert!(rt; false);
+        timers.close(pass);
+        return Ok(());
+    };
+    let told = cancel_behind(&rt, &timers, &mut pass, 0);
+    let count = timers.counter(&mut pass, 1);
+    finish(&rt, &timers, &mut pass, claim, false);
+    timers.close(pass);
+    let running = CancelAnswer::Running {
+        generation: 1,
+        stamp: 2,
+    };
+    assert_equal(&rt, told, Some(running));
+    assert_equal(&rt, count, 0);
     Ok(())
 }
