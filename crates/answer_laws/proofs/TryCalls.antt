@@ -14,8 +14,6 @@ use Rattle.seq_timer.specs.declared.event.EventBy.TheVariants.{Out}
 use Rattle.seq_timer.specs.declared.system.SystemEntry.{SystemEntry}
 use Rattle.base_row.specs.Calls.{AreFresh}
 use Rattle.base_row.specs.declared.view.Opening.{Opening}
-use Rattle.hr_timers.specs.declared.answer.NowAnswer.{NowAnswer}
-use Rattle.hr_timers.specs.declared.answer.NowAnswer.TheVariants as nows
 use Rattle.hr_timers.specs.declared.answer.StartAnswer.{StartAnswer}
 use Rattle.hr_timers.specs.declared.answer.StartAnswer.TheVariants as starts
 use Rattle.hr_timers.specs.declared.once_answer.HereAnswer.TheVariants as heres
@@ -27,7 +25,7 @@ use Rattle.hr_timers.specs.declared.once_answer.NextAnswer.TheVariants as nexts
 use Rattle.hr_timers.specs.Calls.{NowFits, entry_by}
 use Rattle.hr_timers.specs.Carrying.{AddsCarried, Lands, NeedsNoMove, SendsOff, SendsOn, StillCarries, WasSpent}
 use Rattle.hr_timers.specs.Known.{KnownOfTimers, KnowsTimers, PassOf, timer_then}
-use Rattle.hr_timers.specs.Once.{FirstFits, HereFits, IsFirst, MissFits, NeedsMove, NextFits, SaysFirst}
+use Rattle.hr_timers.specs.Once.{FirstFits, HereFits, LeadsQueue, MissFits, NeedsMove, NextFits, SaysFirst}
 use Rattle.hr_timers.specs.Ways.{standing_then}
 use Rattle.answer_laws.specs.Outcomes.{SameOutcome, SameOwn, is_contended, now_moment, start_moment}
 use Rattle.answer_laws.specs.Tries.{as_now, is_missed, miss_moment}
@@ -75,7 +73,7 @@ says_once P false true a b = absurd (a b)
 says_once P false false a b = refl
 
 first_once : (o : Opening) (x : List SystemEntry) (t : ℕ) (a : StartAnswer) (f g : Bool) → FirstFits o x t a f → FirstFits o x t a g → f ≡ g
-first_once o x t (starts.Started was_armed generation asked outs placement) f g c d = says_once (IsFirst o x t) f g c d
+first_once o x t (starts.Started was_armed generation asked outs placement) f g c d = says_once (LeadsQueue o x t) f g c d
 first_once o x t (starts.Spent n) f g c d = c ∙ sym d
 
 -- ---- starts
@@ -153,7 +151,7 @@ land_once o v w w' t s asked l l' c d seen =
     let base = c.base ∙ sym d.base in
     let generation = c.generation ∙ sym d.generation in
     let placement = c.placement ∙ sym d.placement in
-    let first = says_once (IsFirst o w'.seen t) l.first l'.first (subst (λ x. SaysFirst o x t l.first) seen c.first) d.first in (
+    let first = says_once (LeadsQueue o w'.seen t) l.first l'.first (subst (λ x. SaysFirst o x t l.first) seen c.first) d.first in (
       (λ i. record { base = base i; generation = generation i; placement = placement i; first = first i }),
       added_once v w w' t _ c.adds d.adds (c.claims ∙ sym d.claims),
     )

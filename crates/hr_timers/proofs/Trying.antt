@@ -32,7 +32,7 @@ use Rattle.hr_timers.specs.Carriers.{IsCarrying}
 use Rattle.hr_timers.specs.Carrying.{HeldUnsentFits, SendsOff, UnsentFits}
 use Rattle.hr_timers.specs.Known.{AddsBehind, HoldsTimer, IsAtRest, KnowsTimers, OnlySeesMore, PassOf, pass_of, timer_then}
 use Rattle.hr_timers.specs.Moves.{known_from}
-use Rattle.hr_timers.specs.Once.{HeldHereFits, HeldMissFits, HereFits, IsContended, IsFirstIn, IsLastMiss, MissFits, NeedsMove, SaysFirst}
+use Rattle.hr_timers.specs.Once.{HeldHereFits, HeldMissFits, HereFits, IsContended, LeadsQueueIn, IsLastMiss, MissFits, NeedsMove, SaysFirst}
 use Rattle.hr_timers.specs.Ways.{Finds, IsWay, asking}
 use Rattle.hr_timers.proofs.Last.{not_moved, not_moving}
 use Rattle.hr_timers.proofs.Logging.{starts_before}
@@ -104,11 +104,11 @@ last_miss o p q t (misses.Moved a b) before after last inside fits full = not_mo
 -- ---- the first of a queue
 
 pub says_first : (o : Opening) (x : List SystemEntry) (t : ℕ) (s : Timer) (c : BaseContent) (first : Bool) → timer_then o x t ≡ s
-    → (system_after o.timers x).bases s.base ≡ c → MatchBool first (IsFirstIn c.content s t) (IsFirstIn c.content s t → ⊥) → SaysFirst o x t first
+    → (system_after o.timers x).bases s.base ≡ c → MatchBool first (LeadsQueueIn c.content s t) (LeadsQueueIn c.content s t → ⊥) → SaysFirst o x t first
 says_first o x t s c first is has said =
-    subst (λ (y : Timer). MatchBool first (IsFirstIn ((system_after o.timers x).bases y.base).content y t)
-    (IsFirstIn ((system_after o.timers x).bases y.base).content y t → ⊥)) (sym is)
-    (subst (λ (d : BaseContent). MatchBool first (IsFirstIn d.content s t) (IsFirstIn d.content s t → ⊥)) (sym has) said)
+    subst (λ (y : Timer). MatchBool first (LeadsQueueIn ((system_after o.timers x).bases y.base).content y t)
+    (LeadsQueueIn ((system_after o.timers x).bases y.base).content y t → ⊥)) (sym is)
+    (subst (λ (d : BaseContent). MatchBool first (LeadsQueueIn d.content s t) (LeadsQueueIn d.content s t → ⊥)) (sym has) said)
 
 -- ---- an entry on a held base, which is then let go
 

@@ -52,16 +52,16 @@ IsLastMiss met (misses.Moved a b) = ⊥
 -- ---- the first timer of a queue
 
 -- the first pair of the timer's queue in a base's content is the timer's
-abbrev pub IsFirstIn : Content → Timer → ℕ → Type 0
-IsFirstIn c s t = (expires : ℕ) × (front_on s.declared.context s.clock c ≡ Some (expires, t))
+abbrev pub LeadsQueueIn : Content → Timer → ℕ → Type 0
+LeadsQueueIn c s t = (expires : ℕ) × (front_on s.declared.context s.clock c ≡ Some (expires, t))
 
 -- the timer is the first of its queue on its base after these entries, due or not
-abbrev pub IsFirst : Opening → List SystemEntry → ℕ → Type 0
-IsFirst o x t = IsFirstIn ((system_after o.timers x).bases (timer_then o x t).base).content (timer_then o x t) t
+abbrev pub LeadsQueue : Opening → List SystemEntry → ℕ → Type 0
+LeadsQueue o x t = LeadsQueueIn ((system_after o.timers x).bases (timer_then o x t).base).content (timer_then o x t) t
 
 -- whether it is
 abbrev pub SaysFirst : Opening → List SystemEntry → ℕ → Bool → Type 0
-SaysFirst o x t first = MatchBool first (IsFirst o x t) (IsFirst o x t → ⊥)
+SaysFirst o x t first = MatchBool first (LeadsQueue o x t) (LeadsQueue o x t → ⊥)
 
 -- a start says so of its timer, by all that its pass has then seen; a refused one says no
 abbrev pub FirstFits : Opening → List SystemEntry → ℕ → StartAnswer → Bool → Type 0

@@ -5,7 +5,7 @@ ghost use Rattle.seq_timer.specs.Systems.{entries_of};
 ghost use Rattle.base_row.specs.Calls.{IsBasePassOf, timer_seen};
 ghost use Rattle.base_row.specs.Plays.{Steady};
 ghost use Rattle.hr_timers.specs.Known.{HoldsBase, HoldsTimer, IsAtRest, OnlySeesMore, pass_of};
-ghost use Rattle.hr_timers.specs.Once.{HeldMissFits, IsContended, IsFirstIn, MissFits, SaysFirst};
+ghost use Rattle.hr_timers.specs.Once.{HeldMissFits, IsContended, LeadsQueueIn, MissFits, SaysFirst};
 ghost use Rattle.hr_timers.specs.declared.once_answer.Miss.TheVariants as misses;
 
 use crate::once_answer::Miss;
@@ -80,7 +80,7 @@ fn hold_named(
 
 /// Whether a timer that is in this state is the first of its queue on a held base.
 fn is_first(held: &HeldBase, state: &TimerState, timer: u32) -> bool
-    ensures { MatchBool result (IsFirstIn held.now.content.content state.now timer) (IsFirstIn held.now.content.content state.now timer → ⊥) }
+    ensures { MatchBool result (LeadsQueueIn held.now.content.content state.now timer) (LeadsQueueIn held.now.content.content state.now timer → ⊥) }
 {
     match held.front_on(state.declared().context, state.clock()) {
         Some((_, first)) => first == timer,

@@ -3,7 +3,7 @@ use Rattle.std.specs.Prelude.{MatchBool}
 use Rattle.seq_timer.specs.Steps.{Timer}
 use Rattle.base_row.specs.Calls.{base_seen, timer_seen}
 use Rattle.base_row.proofs.Calling.{seen_same}
-use Rattle.hr_timers.specs.Once.{IsFirstIn}
+use Rattle.hr_timers.specs.Once.{LeadsQueueIn}
 use Rattle.hr_timers.proofs.Trying.{says_first}
 use Rattle.hr_timers.proofs.once_lock.leave_first.Goals as goal
 
@@ -18,4 +18,4 @@ returns-clause-first c =
     let on = c.requires.holds.on in
     says_first o w.seen t (timer_seen o v t) c.args.held.content c.is_first-first.result
     (seen_same o v w t (free.own t c.requires.holds.within on)) (ap (λ b. base_seen o w b) on.at ∙ free.content)
-    (subst (λ (y : Timer). MatchBool c.is_first-first.result (IsFirstIn here y t) (IsFirstIn here y t → ⊥)) c.state_of.ensures c.is_first-first.ensures)
+    (subst (λ (y : Timer). MatchBool c.is_first-first.result (LeadsQueueIn here y t) (LeadsQueueIn here y t → ⊥)) c.state_of.ensures c.is_first-first.ensures)
