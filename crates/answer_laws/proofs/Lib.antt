@@ -16,3 +16,4 @@ pub mod RearmCalls
 pub mod RowCalls
 pub mod SignalCalls
 pub mod TimerCalls
+pub mod TryCalls

@@ -7,3 +7,4 @@ pub mod Offline
 pub mod Outcomes
 pub mod Rows
 pub mod Signals
+pub mod Tries

@@ -10,6 +10,7 @@ mod objects;
 mod rows;
 mod signals;
 mod timers;
+mod tries;
 
 pub use bases::{
     a_front_is_fixed, a_locked_base_is_fixed, a_look_at_bases_is_fixed,
@@ -34,4 +35,8 @@ pub use timers::{
     a_start_of_a_running_timer_is_fixed, a_start_while_bases_stay_is_fixed,
     taking_a_base_off_line_is_fixed, taking_a_base_on_line_is_fixed,
     what_passes_of_timers_tell_is_fixed,
+};
+pub use tries::{
+    a_look_at_a_queue_is_fixed, a_miss_is_fixed, a_send_is_fixed, a_start_here_is_fixed,
+    an_arrival_is_fixed,
 };

@@ -1,7 +1,7 @@
 //! What a caller holds: a pass, and a base whose lock it has.
-ghost use Rattle.std.specs.Prelude.{◌≡◌, ◌<◌, length, []};
+ghost use Rattle.std.specs.Prelude.{◌≡◌, ◌<◌, length, [], None};
 ghost use Rattle.seq_timer.specs.Bases.{IsQueuedAs};
-ghost use Rattle.seq_timer.specs.Contents.{front_of, running_in};
+ghost use Rattle.seq_timer.specs.Contents.{front_of, front_on, running_in};
 ghost use Rattle.seq_timer.specs.Standings.{standing_after};
 ghost use Rattle.seq_timer.specs.Steps.{Needs, reply_to};
 ghost use Rattle.seq_timer.specs.Systems.{changed, next_on, shifted};
@@ -10,7 +10,7 @@ ghost use Rattle.base_row.specs.Plays.{IsResting, KnowsOwn, carried_slots};
 
 use crate::slot::BaseSlot;
 use crate::steps::BaseSeat;
-use ktime::Reading;
+use ktime::{ClockId, Reading};
 use seq_timer::{BaseEvent, Context, Event, Reply, Standing, TimerState};
 use std::marker::Model;
 
@@ -52,6 +52,17 @@ impl Pass {
         ensures { KnowsOwn self.now.knows }
     {
         let _seat = &self.seat;
+    }
+
+    /// Lets a pass go that holds no base, carries no timer and has no claim, with the places of its entries: no pass answers for it then. What it
+    /// knew is true, so where it is the last pass it has made all entries.
+    pub fn abandon(self)
+        requires idle { (self.knows.held ≡ None) × (self.knows.carry ≡ None) }
+        requires unclaimed { self.knows.claims ≡ [] }
+        ensures known { KnowsOwn self.knows }
+    {
+        let seat = self.into_seat();
+        drop(seat);
     }
 }
 
@@ -101,6 +112,13 @@ impl HeldBase {
         ensures { result ≡ front_of self.now.content.content }
     {
         self.slot.front()
+    }
+
+    /// The first timer of this context's queue for a clock, with its expiry, due or not.
+    pub fn front_on(&self, context: Context, clock: ClockId) -> Option<(u64, u32)>
+        ensures { result ≡ front_on context clock self.now.content.content }
+    {
+        self.slot.front_on(context, clock)
     }
 
     /// Whether the base is on line.

@@ -3,11 +3,11 @@ ghost use Rattle.std.specs.Prelude.{◌≡◌, ◌<◌, ◌^◌, length, IfOk};
 ghost use Rattle.seq_timer.specs.Steps.{Needs, reply_to};
 ghost use Rattle.seq_timer.specs.Standings.{standing_after};
 ghost use Rattle.seq_timer.specs.Tables.{timer_at};
-ghost use Rattle.seq_timer.specs.Contents.{front_of, running_in};
+ghost use Rattle.seq_timer.specs.Contents.{front_of, front_on, running_in};
 ghost use Rattle.seq_timer.specs.Bases.{IsQueuedAs};
 ghost use Rattle.seq_timer.specs.Systems.{changed, next_on, no_base, shifted};
 
-use ktime::Reading;
+use ktime::{ClockId, Reading};
 use seq_timer::{Base, BaseEvent, Context, Event, Reply, Standing, TimerState};
 use std::alloc::{AllocError, Global};
 use std::marker::Model;
@@ -89,6 +89,13 @@ impl BaseSlot {
         ensures { result ≡ front_of self.now.content }
     {
         self.parts.base.front()
+    }
+
+    /// The first timer of this context's queue for a clock, due or not.
+    pub fn front_on(&self, context: Context, clock: ClockId) -> Option<(u64, u32)>
+        ensures { result ≡ front_on context clock self.now.content }
+    {
+        self.parts.base.front_on(context, clock)
     }
 
     /// Whether the base is on line.

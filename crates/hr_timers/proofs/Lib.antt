@@ -21,3 +21,6 @@ pub mod Claims
 pub mod Hindered
 pub mod ExpiryTurns
 pub mod ExpiryEnds
+pub mod Trying
+pub mod Leading
+pub mod SentThere

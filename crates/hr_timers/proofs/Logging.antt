@@ -1,7 +1,8 @@
 -- Calls whose receipts went to a sink.
 use Rattle.std.proofs.Common.{◌≡◌, ℕ, ◌+◌, ◌<◌, ◌≤◌, List, [], ◌∷◌, ◌++◌, length, refl, ap, sym, ◌∙◌, subst, true, false, inl, inr, arith}
 use Rattle.std.specs.Prelude.{Bool, Option, Some, None, unwrap_or, is_some, if◌then◌else◌}
-use Rattle.pass_names.specs.Counts.{count}
+use Rattle.pass_names.specs.Counts.{count, without_first}
+use Rattle.pass_names.proofs.SharedHistory as shared
 use Rattle.seq_timer.specs.Events.{Asked}
 use Rattle.seq_timer.specs.Histories as seq
 use Rattle.seq_timer.specs.Steps.{Timer}
@@ -9,6 +10,7 @@ use Rattle.seq_timer.specs.Tables.{timer_at}
 use Rattle.ktime.specs.Readings.{ClockReading}
 use Rattle.seq_timer.specs.declared.context.Context.{Context}
 use Rattle.seq_timer.specs.declared.answer.ForwardAnswer.{ForwardAnswer}
+use Rattle.seq_timer.specs.declared.answer.Finished.{Finished}
 use Rattle.seq_timer.specs.declared.answer.CancelAnswer.{CancelAnswer}
 use Rattle.seq_timer.specs.declared.answer.CancelAnswer.TheVariants as cancels
 use Rattle.seq_timer.specs.declared.event.EventBy.TheVariants as events
@@ -23,6 +25,7 @@ use Rattle.base_row.specs.Plays as plays
 use Rattle.base_row.specs.Rules.{is_base_claim}
 use Rattle.hr_timers.specs.declared.answer.StartAnswer.{StartAnswer}
 use Rattle.hr_timers.specs.declared.answer.StartAnswer.TheVariants as starts
+use Rattle.hr_timers.specs.declared.answer.ClaimAnswer.{ClaimAnswer}
 use Rattle.hr_timers.specs.declared.answer.ClaimAnswer.TheVariants as claimings
 use Rattle.hr_timers.specs.declared.numbers.ClaimNumbers.{ClaimNumbers}
 use Rattle.hr_timers.specs.Known.{AddsBehind, KnownOfTimers, OnlySeesMore, claimed_as, count_of, timer_then}
@@ -36,8 +39,8 @@ use Rattle.hr_timers.proofs.Ways.{sent_from, way_rises}
 use Rattle.pass_names.proofs.Passes.{begins_trans}
 use Rattle.pass_names.specs.Passes.{Begins, places}
 use Rattle.seq_timer.specs.declared.system.SystemEntry.{SystemEntry}
-use Rattle.hr_timers.specs.Logged.{CancelsLogged, ClaimsLogged, ForwardsLogged, HasRoomToStart, IsLogged, StartsLogged}
-use Rattle.hr_timers.proofs.Making.{looks_refl, made_before, made_then}
+use Rattle.hr_timers.specs.Logged.{CancelsLogged, ClaimsLogged, FinishesLogged, ForwardsLogged, HasRoomToStart, IsLogged, StartsLogged}
+use Rattle.hr_timers.proofs.Making.{looks_on, looks_refl, made_before, made_then}
 use Rattle.hr_timers.proofs.Standing.{claim_runs}
 
 -- ---- the room for a start
@@ -111,10 +114,17 @@ module _ {A : Type 0} (put : A → Receipt → A) (o : Opening) where
         logged = c.logged;
       }
 
-  pub claims_before : (u v : BaseView BaseContent) (w : KnownOfTimers) (x : Context) (base : ℕ) (reading : ClockReading) (n : ClaimNumbers) (s s' : A)
-      → OnlySeesMore u v → ClaimsLogged put o (rows.known_of v) w x base reading (claimings.Claimed n) s s'
-      → ClaimsLogged put o (rows.known_of u) w x base reading (claimings.Claimed n) s s'
-  claims_before u v w x base reading n s s' looks c =
+  pub claims_before : (u v : BaseView BaseContent) (w : KnownOfTimers) (x : Context) (base : ℕ) (reading : ClockReading) (a : ClaimAnswer) (s s' : A)
+      → OnlySeesMore u v → ClaimsLogged put o (rows.known_of v) w x base reading a s s' → ClaimsLogged put o (rows.known_of u) w x base reading a s s'
+  claims_before u v w x base reading claimings.NoneDue s s' looks c = record {
+    claims = (shared.looks_trans (rows.known_of u) (rows.known_of v) w (looks_on u v looks) c.claims.0, c.claims.1);
+    logged = c.logged;
+  }
+  claims_before u v w x base reading (claimings.BaseBusy t g) s s' looks c = record {
+    claims = (shared.looks_trans (rows.known_of u) (rows.known_of v) w (looks_on u v looks) c.claims.0, c.claims.1);
+    logged = c.logged;
+  }
+  claims_before u v w x base reading (claimings.Claimed n) s s' looks c =
       let r = c.claims in record {
         claims = record {
           at = r.at;
@@ -145,6 +155,23 @@ module _ {A : Type 0} (put : A → Receipt → A) (o : Opening) where
           base = r.base;
           fits = r.fits;
           claims = r.claims ∙ looks.claims;
+        };
+        logged = c.logged;
+      }
+
+  pub finishes_before : (u v : BaseView BaseContent) (w : KnownOfTimers) (n : ClaimNumbers) (restart : Bool) (a : Finished) (s s' : A)
+      → OnlySeesMore u v → FinishesLogged put o (rows.known_of v) w n restart a s s'
+      → FinishesLogged put o (rows.known_of u) w n restart a s s'
+  finishes_before u v w n restart a s s' looks c =
+      let r = c.finishes in record {
+        finishes = record {
+          at = r.at;
+          made = made_before u v w n.timer r.at _ looks r.made;
+          runs = r.runs;
+          base = r.base;
+          number = r.number;
+          rearmed = r.rearmed;
+          claims = r.claims ∙ ap (without_first (is_base_claim n.timer n.generation n.base)) looks.claims;
         };
         logged = c.logged;
       }

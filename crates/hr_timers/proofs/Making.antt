@@ -123,7 +123,7 @@ carry_stays id b t event carry on none = by_sent (effect t event).sent (by_effec
     by_sent None is = either_way t.moving (after t event).moving
     by_sent (Some base) is = absurd (true≢false (sym is.1 ∙ on.still))
 
-same_place : (h g : HeldContent BaseContent) → Some h ≡ Some g → h.base ≡ g.base
+pub same_place : (h g : HeldContent BaseContent) → Some h ≡ Some g → h.base ≡ g.base
 same_place h g e = let t : h ≡ g = cc in ap (λ (x : HeldContent BaseContent). x.base) t
 
 -- an entry that leaves its timer on the held base, which is then let go

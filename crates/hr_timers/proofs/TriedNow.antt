@@ -15,7 +15,7 @@ use Rattle.hr_timers.proofs.Making.{looks_on, looks_trans, made_before}
 use Rattle.pass_names.proofs.SharedHistory as shared
 
 -- looks before a call that made no entry
-looks_at_before : (u v : BaseView BaseContent) (w : KnownOfTimers) (x : List SystemEntry) → OnlySeesMore u v → LooksAt (rows.known_of v) w x
+pub looks_at_before : (u v : BaseView BaseContent) (w : KnownOfTimers) (x : List SystemEntry) → OnlySeesMore u v → LooksAt (rows.known_of v) w x
     → LooksAt (rows.known_of u) w x
 looks_at_before u v w x first at = record {
   looks = shared.looks_trans (rows.known_of u) (rows.known_of v) w (looks_on u v first) at.looks;

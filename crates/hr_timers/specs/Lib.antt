@@ -7,3 +7,6 @@ pub mod Logged
 pub mod Answered
 pub mod Handlers
 pub mod Expiring
+pub mod Once
+pub mod Carriers
+pub mod Carrying

@@ -36,6 +36,27 @@ pub fn claim_next<R: Wait, S: ReceiptSink>(
     ensures room { S.room sink.old ≤ S.room sink.new + 1 }
 {
     let held = lock(rt, row, pass, base);
+    claim_on(row, pass, sink, held, context, base, reading)
+}
+
+/// The same on the held base, which is let go.
+pub fn claim_on<S: ReceiptSink>(
+    row: &BaseRow,
+    pass: &mut Pass,
+    sink: &mut S,
+    held: HeldBase,
+    context: Context,
+    base: u32,
+    reading: Reading,
+) -> ClaimAnswer
+    requires holds { HoldsBase row.now pass.old held }
+    requires base { held.base ≡ base }
+    requires room { 0 < S.room sink.old }
+    ensures rest { IsAtRest row.now pass.new }
+    ensures claims { ClaimsLogged S.pushed row.now.about (known_of pass.old.knows) (known_of pass.new.knows) context base reading result sink.old sink.new }
+    ensures locks { LocksGoOnIn pass.old.knows pass.new.knows }
+    ensures room { S.room sink.old ≤ S.room sink.new + 1 }
+{
     if let Some((timer, generation)) = row.running(pass, &held, context) {
         leave_base(row, pass, held, base);
         return ClaimAnswer::BaseBusy { timer, generation };
@@ -134,6 +155,28 @@ pub fn finish<R: Wait, S: ReceiptSink>(
     ensures room { S.room sink.old ≤ S.room sink.new + 1 }
 {
     let held = hold_claimed(rt, row, pass, claim);
+    finish_held(row, pass, sink, held, claim, restart)
+}
+
+/// The same on the held base, which is let go.
+pub fn finish_held<S: ReceiptSink>(
+    row: &BaseRow,
+    pass: &mut Pass,
+    sink: &mut S,
+    held: HeldBase,
+    claim: ClaimNumbers,
+    restart: bool,
+) -> Finished
+    requires claim { OwnsClaim row.now.about (known_of pass.old.knows) claim }
+    requires holds { HoldsTimer row.now pass.old held claim.timer }
+    requires base { held.base ≡ claim.base }
+    requires runs { (timer_seen row.now.about pass.old.knows claim.timer).running ≡ Some claim.generation }
+    requires room { 0 < S.room sink.old }
+    ensures rest { IsAtRest row.now pass.new }
+    ensures finishes { FinishesLogged S.pushed row.now.about (known_of pass.old.knows) (known_of pass.new.knows) claim restart result sink.old sink.new }
+    ensures locks { LocksGoOnIn pass.old.knows pass.new.knows }
+    ensures room { S.room sink.old ≤ S.room sink.new + 1 }
+{
     let state = state_of(row, pass, &held, claim.timer);
     state.bounded();
     let stamp = state.stamp();
@@ -170,7 +213,7 @@ pub fn forward<R: Wait, S: ReceiptSink>(
 }
 
 /// The same on the held base, which is let go.
-fn forward_held<S: ReceiptSink>(
+pub fn forward_held<S: ReceiptSink>(
     row: &BaseRow,
     pass: &mut Pass,
     sink: &mut S,

@@ -37,6 +37,7 @@ pub fn chase(row: &BaseRow, pass: &mut Pass, base: u32) -> u32
     ensures sees { OnlySeesMore pass.old.knows pass.new.knows }
     ensures held { pass.new.knows.held ≡ pass.old.knows.held }
     ensures steady { Steady pass.old.knows pass.new.knows }
+    ensures locks { (pass.new.knows.takes ≡ pass.old.knows.takes) × (pass.new.knows.met ≡ pass.old.knows.met) }
     ensures low { result ≤ base }
     ensures way { (path : List ℕ) × IsWay row.now.about pass.old.knows.seen base path result pass.new.knows.seen }
 {
@@ -153,7 +154,7 @@ fn bring<R: Wait, S: ReceiptSink>(
 }
 
 /// Sends a timer on that the pass carries, from the held base, which is off line, to its heir, and lets the base go.
-fn send_on<S: ReceiptSink>(
+pub fn send_on<S: ReceiptSink>(
     row: &BaseRow,
     pass: &mut Pass,
     sink: &mut S,
