@@ -4,6 +4,7 @@ pub mod Counts
 pub mod Crosses
 pub mod Erasing
 pub mod Finds
+pub mod Forests
 pub mod Puts
 pub mod Rotations
 pub mod Stepping

@@ -83,7 +83,7 @@ impl Block {
         held.parts.slots.put(n as usize, node);
     }
 
-    /// Gives a node another parent, and counts it.
+    /// Becomes a node another parent, and counts it.
     pub(crate) fn set_parent<L: Ledger>(&mut self, n: u32, parent: u32, steps: &mut Steps<L>)
         requires inside { n < length self.old }
         requires link { IsLink (length self.old) parent }
@@ -96,7 +96,7 @@ impl Block {
         held.parts.slots.get_mut(n as usize).parent = parent;
     }
 
-    /// Gives a node another node in place of one below it, and counts it.
+    /// Becomes a node another node in place of one below it, and counts it.
     pub(crate) fn set_child<L: Ledger>(&mut self, n: u32, from: u32, to: u32, steps: &mut Steps<L>)
         requires inside { n < length self.old }
         requires link { IsLink (length self.old) to }
@@ -114,7 +114,7 @@ impl Block {
         }
     }
 
-    /// Gives a node another subtree on a side, another parent and another rank, and counts it.
+    /// Becomes a node another subtree on a side, another parent and another rank, and counts it.
     pub(crate) fn set_links<L: Ledger>(
         &mut self,
         n: u32,
@@ -142,7 +142,7 @@ impl Block {
         node.rank = rank;
     }
 
-    /// Gives a node another rank, and counts it.
+    /// Becomes a node another rank, and counts it.
     pub(crate) fn set_rank<L: Ledger>(&mut self, n: u32, rank: u32, steps: &mut Steps<L>)
         requires inside { n < length self.old }
         ensures block { self.new ≡ slice_set self.old n (record (node_at self.old n) { rank = rank }) }
