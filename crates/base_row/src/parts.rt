@@ -51,7 +51,7 @@ pub fn counter_index(counter: usize) -> usize
 
 /// How many counters there may be beside so many bases and timers: they take no memory of their own.
 pub fn most_counters(bases: u32, timers: usize) -> u32
-    requires few { (bases ≤ 256) × (timers ≤ 65536) }
+    requires few { (bases ≤ 256) × (timers ≤ 16777216) }
     ensures { result ≡ most_counters bases timers }
 {
     4 * bases + 2 * (timers as u32) + 2
