@@ -143,7 +143,7 @@ impl BaseRow {
         };
         let count = timers.len();
         let words = zeros(alloc, timer_index(bases as usize, count + bases as usize))?;
-        let slots = empty_slots(alloc, bases, timers.as_slice())?;
+        let slots = empty_slots(alloc, bases, timers)?;
         match Table::new(alloc, words.as_slice(), slots, &about) {
             Ok((table, seat)) => Ok((
                 BaseRow {

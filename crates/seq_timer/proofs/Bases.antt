@@ -29,7 +29,8 @@ absent_with id contexts.Soft contexts.Hard h c here other = other
 absent_with id contexts.Soft contexts.Soft h c here other = here
 
 -- a timer that is taken off the queues of its context is in none of the base's
-pub dequeued-absent : (id : ℕ) (x : Context) (b : BaseState) → IsInNone id (half_of (other_context x) b.content) → IsAbsent id (in_half x (dequeued id) b).content
+pub dequeued-absent : (id : ℕ) (x : Context) (b : BaseState) → IsInNone id (half_of (other_context x) b.content)
+    → IsAbsent id (in_half x (dequeued id) b).content
 dequeued-absent id x b other = record {
   each = λ y. absent_with id x y (dequeued id (half_of x b.content)) b.content (dequeued-in_none id (half_of x b.content)) other;
 }

@@ -33,7 +33,8 @@ times_two : (k i j : ℕ) (qs : List (List (ℕ × ℕ))) → i < length qs → 
 times_two k i j qs inside apart =
     omega (arith, times_set k i qs [] inside, times_one k j (slice_set qs i []), ap (λ q. times k q) (get_or-set_other qs i j [] [] apart))
 
-pub queue_in : (xs : List Node) (rs : List Root) (i : ℕ) → i < length rs → slice_index_or (queues_of xs rs) i [] ≡ queue_at xs (slice_index_or rs i no_root).root
+pub queue_in : (xs : List Node) (rs : List Root) (i : ℕ) → i < length rs →
+    slice_index_or (queues_of xs rs) i [] ≡ queue_at xs (slice_index_or rs i no_root).root
 queue_in xs rs i inside = get_or-map (λ (r : Root). queue_at xs r.root) rs i no_root [] inside
 
 module _ (xs zs : List Node) (rs : List Root) (i : ℕ) (r : Root) (qs : List (ℕ × ℕ)) (old steps : ℕ) (all : AreStored xs rs) (inside : i < length rs)
@@ -62,7 +63,8 @@ module _ (xs zs : List Node) (rs : List Root) (i : ℕ) (r : Root) (qs : List (�
 
   pub queues_after : queues_of zs (slice_set rs i r) ≡ slice_set (queues_of xs rs) i qs
   queues_after = same_lists (queues_of zs (slice_set rs i r)) (slice_set (queues_of xs rs) i qs)
-      (length-map (slice_set rs i r) (λ (r : Root). queue_at zs r.root) ∙ length-set rs i r ∙ sym (length-map rs (λ (r : Root). queue_at xs r.root)) ∙ sym (length-set (queues_of xs rs) i qs))
+      (length-map (slice_set rs i r) (λ (r : Root). queue_at zs r.root) ∙ length-set rs i r
+      ∙ sym (length-map rs (λ (r : Root). queue_at xs r.root)) ∙ sym (length-set (queues_of xs rs) i qs))
       (λ j d within.
       let within : j < length (slice_set rs i r) = omega (arith, within, length-map (slice_set rs i r) (λ (r : Root). queue_at zs r.root)) in
       get_or-map (λ (t : Root). queue_at zs t.root) (slice_set rs i r) j no_root d within ∙ elim (cases_eq j i) [
@@ -115,12 +117,13 @@ times_all-none id (q ∷ qs) none =
 -- one that is in one of them is in this one
 has_any-some : (id : ℕ) (qs : List (List (ℕ × ℕ))) → has_any id qs ≡ true → (n : ℕ) × (n < length qs) × (has_id id (slice_index_or qs n []) ≡ true)
 has_any-some id [] some = absurd (true≢false (sym some))
-has_any-some id (q ∷ qs) some = elim (has_id id q) as (λ b. has_id id q ≡ b → (n : ℕ) × (n < length (q ∷ qs)) × (has_id id (slice_index_or (q ∷ qs) n []) ≡ true)) [
-  | true ↦ λ here. (0, omega arith, here)
-  | false ↦ λ absent.
-      let rest : has_any id qs ≡ true = grind (arith, nat_tests) in
-      let at = has_any-some id qs rest in (suc at.0, omega (arith, at.1), at.2)
-] refl
+has_any-some id (q ∷ qs) some = elim (has_id id q) as (λ b. has_id id q ≡ b →
+    (n : ℕ) × (n < length (q ∷ qs)) × (has_id id (slice_index_or (q ∷ qs) n []) ≡ true)) [
+      | true ↦ λ here. (0, omega arith, here)
+      | false ↦ λ absent.
+          let rest : has_any id qs ≡ true = grind (arith, nat_tests) in
+          let at = has_any-some id qs rest in (suc at.0, omega (arith, at.1), at.2)
+    ] refl
 
 -- a timer is in one of the queues where its node has a rank
 pub has_stored_all : (xs : List Node) (rs : List Root) (k : ℕ) → AreStored xs rs → not (nat_eq (node_at xs k).rank 0) ≡ has_any k (queues_of xs rs)

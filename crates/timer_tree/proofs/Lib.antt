@@ -1,7 +1,6 @@
 pub mod Adding
 pub mod Climbs
 pub mod Counts
-pub mod Crosses
 pub mod Erasing
 pub mod Finds
 pub mod Forests
@@ -10,5 +9,4 @@ pub mod Rotations
 pub mod Stepping
 pub mod Stores
 pub mod Taking
-pub mod Told
 pub mod Trees

@@ -8,7 +8,6 @@ pub use tree::TimerTree;
 mod add;
 mod block;
 mod erase;
-mod held;
 mod links;
 mod node;
 mod repair;

@@ -18,5 +18,6 @@ returns g c =
     let x = c.args.context in
     let queued = subst (λ (b : BaseState). IsQueuedIn c.args.id c.args.armed c.args.clock (half_of x b.content)) (sym c.self.view_is) c.requires.queued in
     let content = dequeued_six c.args.id x c.args.armed c.args.clock c.queue_index.result (g.Q.Six.SixQueues.queues c.self.inside.queues)
-    (g.Q.Six.SixQueues.queues c.erase.new.self) c.self.inside.hard c.self.inside.soft c.self.invariant c.queue_index.ensures.number c.erase.ensures.queues queued in
+    (g.Q.Six.SixQueues.queues c.erase.new.self) c.self.inside.hard c.self.inside.soft c.self.invariant c.queue_index.ensures.number
+    c.erase.ensures.queues queued in
     (λ i. record { content = content i; room = c.erase.ensures.bound i }) ∙ ap (in_half x (dequeued c.args.id)) c.self.view_is

@@ -8,7 +8,8 @@ use Rattle.timer_tree.proofs.six.SixTrees.add_counted.Goals as goal
 
 pub add_to-requires-clause-absent : goal.add_to-requires-clause-absent
 add_to-requires-clause-absent g c =
-    subst (λ q. has_id c.args.id q ≡ false) (queue_in c.self.inside.block c.self.inside.trees c.args.queue (omega (arith, c.self.invariant.1, c.requires.queue)))
+    subst (λ q. has_id c.args.id q ≡ false) (queue_in c.self.inside.block c.self.inside.trees c.args.queue
+    (omega (arith, c.self.invariant.1, c.requires.queue)))
     (has_any-none c.args.id c.args.queue (queues_of c.self.inside.block c.self.inside.trees)
     (subst (λ v. has_any c.args.id v.0 ≡ false) (sym c.self.view_is) c.requires.absent))
 

@@ -14,7 +14,8 @@ erase_from-requires g c = record {
 pub invariant_of-self : goal.invariant_of-self
 invariant_of-self g c = (
   queue_again _ _ _ _ c.erase_from.ensures.gives.stored,
-  subst (λ ps. AreUnranked c.erase_from.new.block (λ k. times k ps)) (sym c.erase_from.ensures.pairs) (free_alone c.erase_from.ensures.gives c.self.invariant.1),
+  subst (λ ps. AreUnranked c.erase_from.new.block (λ k. times k ps)) (sym c.erase_from.ensures.pairs)
+      (free_alone c.erase_from.ensures.gives c.self.invariant.1),
 )
 
 pub returns : goal.returns
@@ -22,5 +23,6 @@ returns g c = record {
   pairs = c.erase_from.ensures.pairs ∙ ap (λ v. without c.args.id v.0) c.self.view_is;
   bound = c.erase_from.ensures.gives.kept.size ∙ ap (λ v. v.1) c.self.view_is;
   kept = (invariant_of-self g c).0.queue;
-  steps = subst (λ v. (d : ℕ) → length v.0 + 1 < 2 ^ d → c.erase_from.new.steps ≤ c.args.steps.now + 32 * (d + 1)) c.self.view_is c.erase_from.ensures.gives.count;
+  steps = subst (λ v. (d : ℕ) → length v.0 + 1 < 2 ^ d → c.erase_from.new.steps ≤ c.args.steps.now + 32 * (d + 1))
+      c.self.view_is c.erase_from.ensures.gives.count;
 }
