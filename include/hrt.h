@@ -91,7 +91,7 @@ typedef struct hrt_answer {
 
 /* Puts new timers behind a handle that has none: 1 to HRT_MAX_BASES bases, and at most HRT_MAX_TIMERS timers, numbered from 0 as they stand in
  * declared, which may not be null even where count is 0. At max_events entries, 1 to HRT_MAX_EVENTS, a timer takes no start, forward or restart
- * any more. It takes memory for all of them at once: some 96 bytes a timer, and 144 more for each base.
+ * any more. It takes memory for all of them at once: some 96 bytes a timer, and 24 more for each base.
  * HRT_DONE; HRT_IN_USE, HRT_BAD_BASE, HRT_BAD_COUNT, HRT_BAD_LIMIT, HRT_BAD_CLOCK or HRT_BAD_CONTEXT of the first bad declaration,
  * HRT_NO_MEMORY. The only call on a handle that takes memory. */
 int32_t hrt_new(hrt_timers *timers, uint32_t bases, const hrt_declared *declared, size_t count, uint64_t max_events);

@@ -51,7 +51,7 @@ pub fn counter_index(counter: usize) -> usize
 
 /// How many counters there may be beside so many bases and timers: they take no memory of their own.
 pub fn most_counters(bases: u32, timers: usize) -> u32
-    requires few { (bases ≤ 256) × (timers ≤ 65536) }
+    requires few { (bases ≤ 256) × (timers ≤ 16777216) }
     ensures { result ≡ most_counters bases timers }
 {
     4 * bases + 2 * (timers as u32) + 2
@@ -88,8 +88,23 @@ pub fn zeros(alloc: Global, count: usize) -> Result<Vec<u64>, AllocError>
     Ok(vec![in alloc; 0u64; count]?)
 }
 
-/// So many bases without timers, each in a slot of its own.
+/// So many bases without timers, each in a slot of its own. The last one keeps this list.
 pub fn empty_slots(
+    alloc: Global,
+    count: u32,
+    timers: Vec<TimerState>,
+) -> Result<Vec<BaseCell>, AllocError>
+    requires some { 0 < count }
+    requires few { length timers.items < 2 ^ 32 }
+    ensures { IfOk result (λ v. v.items ≡ replicate count (Some (no_base timers.items))) }
+{
+    let mut slots = slots_but_one(alloc, count - 1, timers.as_slice())?;
+    slots.push(BaseCell::of(BaseSlot::of(alloc, timers)?))?;
+    Ok(slots)
+}
+
+/// So many, with room for one more.
+fn slots_but_one(
     alloc: Global,
     count: u32,
     timers: &[TimerState],
@@ -97,7 +112,7 @@ pub fn empty_slots(
     requires few { length timers.now < 2 ^ 32 }
     ensures { IfOk result (λ v. v.items ≡ replicate count (Some (no_base timers.now))) }
 {
-    let mut slots = Vec::with_capacity(alloc, count as usize)?;
+    let mut slots = Vec::with_capacity(alloc, count as usize + 1)?;
     for _ in 0..count {
         slots.push(BaseCell::of(BaseSlot::make(alloc, timers)?))?;
     }

@@ -55,7 +55,7 @@ impl Model for BaseRow {
         ≡ word_at r.table.shared.key.bases (length r.table.shared.key.timers.value.items + r.table.shared.key.bases))
         × (r.table.shared.table_id.slots ≡ r.table.shared.key.bases) × (r.bases ≡ r.table.shared.key.bases)
         × (r.timers ≡ length r.table.shared.key.timers.value.items)
-        × (length r.table.shared.key.timers.value.items ≤ 65536) × (AreFresh r.table.shared.key.timers.value.items)
+        × (length r.table.shared.key.timers.value.items ≤ 16777216) × (AreFresh r.table.shared.key.timers.value.items)
         × (0 < r.table.shared.key.bases) × (r.table.shared.key.bases ≤ 256)
         × (r.counters ≡ r.table.shared.key.counters)
         × (counters_in (opening_in r.table.shared.key) ≤ most_counters r.table.shared.key.bases (length r.table.shared.key.timers.value.items)) };
@@ -70,7 +70,7 @@ impl BaseRow {
         timers: &[Declared],
         terms: Terms,
     ) -> Result<(BaseRow, Pass), AllocError>
-        requires few { (0 < bases) × (bases ≤ 256) × (length timers.now ≤ 65536) }
+        requires few { (0 < bases) × (bases ≤ 256) × (length timers.now ≤ 16777216) }
         requires limit { 0 < terms.limit }
         requires room { HasRoom terms }
         ensures row { IfOk result (λ r. IsBasePassOf r.0 r.1) }
@@ -89,7 +89,7 @@ impl BaseRow {
         terms: Terms,
         counters: u32,
     ) -> Result<(BaseRow, Pass), AllocError>
-        requires few { (0 < bases) × (bases ≤ 256) × (length timers.now ≤ 65536) }
+        requires few { (0 < bases) × (bases ≤ 256) × (length timers.now ≤ 16777216) }
         requires counters { counters ≤ most_counters bases (length timers.now) }
         requires limit { 0 < terms.limit }
         requires room { HasRoom terms }
@@ -109,7 +109,7 @@ impl BaseRow {
         counters: u32,
         rings: &Vec<u64>,
     ) -> Result<(BaseRow, Pass), AllocError>
-        requires few { (0 < bases) × (bases ≤ 256) × (length timers.now ≤ 65536) }
+        requires few { (0 < bases) × (bases ≤ 256) × (length timers.now ≤ 16777216) }
         requires counters { counters + (length rings.now.items + length rings.now.items) ≤ most_counters bases (length timers.now) }
         requires limit { 0 < terms.limit }
         requires room { HasRoom terms }
@@ -129,7 +129,7 @@ impl BaseRow {
         rings: &Vec<u64>,
     ) -> Result<(BaseRow, Pass), AllocError>
         requires fresh { AreFresh timers.items }
-        requires few { (0 < bases) × (bases ≤ 256) × (length timers.items ≤ 65536) }
+        requires few { (0 < bases) × (bases ≤ 256) × (length timers.items ≤ 16777216) }
         requires counters { counters + (length rings.now.items + length rings.now.items) ≤ most_counters bases (length timers.items) }
         ensures row { IfOk result (λ r. IsBasePassOf r.0 r.1) }
         ensures about { IfOk result (λ r. r.0.about ≡ record { bases = bases; timers = timers.items; counters = counters; rings = rings.now.items }) }
@@ -143,7 +143,7 @@ impl BaseRow {
         };
         let count = timers.len();
         let words = zeros(alloc, timer_index(bases as usize, count + bases as usize))?;
-        let slots = empty_slots(alloc, bases, timers.as_slice())?;
+        let slots = empty_slots(alloc, bases, timers)?;
         match Table::new(alloc, words.as_slice(), slots, &about) {
             Ok((table, seat)) => Ok((
                 BaseRow {

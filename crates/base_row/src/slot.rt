@@ -45,9 +45,17 @@ impl BaseSlot {
         requires few { length timers.now < 2 ^ 32 }
         ensures { IfOk result (λ s. s ≡ no_base timers.now) }
     {
-        let base = Base::make(alloc, timers.len() as u32)?;
         let mut states = Vec::new(alloc);
         states.extend_from_slice(timers)?;
+        BaseSlot::of(alloc, states)
+    }
+
+    /// The same, with this list of them.
+    pub(crate) fn of(alloc: Global, states: Vec<TimerState>) -> Result<BaseSlot, AllocError>
+        requires few { length states.items < 2 ^ 32 }
+        ensures { IfOk result (λ s. s ≡ no_base states.items) }
+    {
+        let base = Base::make(alloc, states.len() as u32)?;
         let parts = Parts {
             base,
             states,

@@ -28,7 +28,7 @@ impl Timers {
         terms: Terms,
         counters: u32,
     ) -> Result<(Timers, Pass), AllocError>
-        requires few { (0 < bases) × (bases ≤ 64) × (length timers.now ≤ 65536) }
+        requires few { (0 < bases) × (bases ≤ 64) × (length timers.now ≤ 16777216) }
         requires limit { 0 < terms.limit }
         requires room { HasRoom terms }
         requires counters { counters ≤ most_counters bases (length timers.now) }

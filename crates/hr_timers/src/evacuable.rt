@@ -24,7 +24,7 @@ impl Timers {
         max_events: u64,
         reach: u64,
     ) -> Result<(Timers, Pass), AllocError>
-        requires few { (0 < bases) × (bases ≤ 64) × (length timers.now ≤ 65536) }
+        requires few { (0 < bases) × (bases ≤ 64) × (length timers.now ≤ 16777216) }
         requires limit { (0 < max_events) × (0 < reach) × (max_events + reach + 80 < 2 ^ 48) }
         ensures pass { IfOk result (λ r. IsPassOf r.0 r.1) }
         ensures about { IfOk result (λ r. r.0.about ≡ opening_of bases timers.now (record { limit = max_events; reach = reach })) }

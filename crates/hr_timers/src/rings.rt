@@ -25,7 +25,7 @@ impl Timers {
         counters: u32,
         rings: &Vec<u64>,
     ) -> Result<(Timers, Pass), AllocError>
-        requires few { (0 < bases) × (bases ≤ 64) × (length timers.now ≤ 65536) }
+        requires few { (0 < bases) × (bases ≤ 64) × (length timers.now ≤ 16777216) }
         requires limit { 0 < terms.limit }
         requires room { HasRoom terms }
         requires counters { counters + (length rings.now.items + length rings.now.items) ≤ most_counters bases (length timers.now) }

@@ -51,7 +51,7 @@ impl Timers {
         clocks: &[ClockId],
         max_events: u64,
     ) -> Result<(Timers, Pass), AllocError>
-        requires few { (0 < bases) × (bases ≤ 64) × (length clocks.now ≤ 65536) }
+        requires few { (0 < bases) × (bases ≤ 64) × (length clocks.now ≤ 16777216) }
         requires limit { (0 < max_events) × (max_events ≤ greatest_limit) }
         ensures pass { IfOk result (λ r. IsPassOf r.0 r.1) }
         ensures about { IfOk result (λ r. r.0.about ≡ opening_of bases (map hard_on clocks.now) (limited max_events)) }
@@ -69,7 +69,7 @@ impl Timers {
         timers: &[Declared],
         max_events: u64,
     ) -> Result<(Timers, Pass), AllocError>
-        requires few { (0 < bases) × (bases ≤ 64) × (length timers.now ≤ 65536) }
+        requires few { (0 < bases) × (bases ≤ 64) × (length timers.now ≤ 16777216) }
         requires limit { (0 < max_events) × (max_events ≤ greatest_limit) }
         ensures pass { IfOk result (λ r. IsPassOf r.0 r.1) }
         ensures about { IfOk result (λ r. r.0.about ≡ opening_of bases timers.now (limited max_events)) }

@@ -1,5 +1,5 @@
 -- A base agrees with the timers after each event of one of them: the half of the timer's context changes, and the other stays.
-use Rattle.std.proofs.Common.{◌≡◌, ◌≢◌, ℕ, true, false, List, [], ◌∷◌, refl, sym, ap, ◌∙◌, subst, if◌then◌else◌}
+use Rattle.std.proofs.Common.{◌≡◌, ◌≢◌, ℕ, true, false, List, [], ◌∷◌, refl, sym, ap, ◌∙◌, subst, if◌then◌else◌, is_some}
 use Rattle.std.proofs.Math.Logic.{⊎_elim}
 use Rattle.std.proofs.lemmas.Bool.{cases_Bool, cases_eq, true≢false}
 use Rattle.seq_timer.specs.declared.context.Context.{Context}
@@ -9,8 +9,12 @@ use Rattle.seq_timer.specs.Effects.{effect}
 use Rattle.seq_timer.specs.Histories.{Entry, after_all}
 use Rattle.seq_timer.specs.Steps.{Timer, Needs, after}
 use Rattle.seq_timer.specs.Tables.{in_context, is_armed_on, is_context, no_timer, seen_in}
-use Rattle.seq_timer.specs.Bases.{IsQueuedAs, IsQueuedIn}
-use Rattle.seq_timer.specs.Halves.{Half, IsFreeFor, IsHalfOf, half_after}
+use Rattle.seq_timer.specs.Bases.{IsInNone, IsQueuedAs, IsQueuedIn, other_context}
+use Rattle.seq_timer.specs.Halves.{Half, IsFreeFor, IsHalfOf, half_after, queue_of, wanted}
+use Rattle.ktime.specs.declared.clock_id.ClockId.{ClockId}
+use Rattle.ktime.specs.declared.clock_id.ClockId.TheVariants as clocks
+use Rattle.timer_queue.specs.Pairs.{has_id}
+use Rattle.timer_queue.proofs.Pairs.{has_id-expiry_of}
 use Rattle.seq_timer.specs.Contents.{Content, IsContentOf, content_after, half_of, with_half}
 use Rattle.seq_timer.proofs.Effects.{IsApart, by_effect}
 use Rattle.seq_timer.proofs.Halves.{Changes, IsHalfOf-after, IsHalfOf-elsewhere, IsQueuedIn-from}
@@ -127,8 +131,23 @@ module _ (f g : ℕ → Timer) (id : ℕ) (e : Event) (changes : Changes f g id 
       other x apart = subst (λ k. IsHalfOf k base (half_of x c)) (unchanged x apart) (here.each x)
 
 -- what a base that agrees with the timers gives to the next step
+
+-- a timer of one context is none of the other's
+apart_context : (y : Context) → is_context (other_context y) y ≡ false
+apart_context contexts.Hard = refl
+apart_context contexts.Soft = refl
+
+never_queued : (id : ℕ) (f : ℕ → Timer) (base : ℕ) (c : Half) → f id ≡ no_timer → IsHalfOf f base c → IsInNone id c
+never_queued id f base c none here = record { monotonic = out clocks.Monotonic; realtime = out clocks.Realtime; boottime = out clocks.Boottime }
+  where
+    out : (clock : ClockId) → has_id id (queue_of c clock) ≡ false
+    out clock = has_id-expiry_of id (queue_of c clock) ∙ ap is_some ((here.queues clock).exact id ∙ ap (wanted base clock) none)
+
 pub IsQueuedAs-from : (f : ℕ → Timer) (id : ℕ) (c : Content) → IsApart (f id) → IsContentOf f (f id).base c → IsQueuedAs id (f id) c
 IsQueuedAs-from f id c apart here =
-    let y = (f id).declared.context in
-    subst (λ t. IsApart t → IsHalfOf (in_context y f) t.base (half_of y c) → IsQueuedIn id t.armed t.clock (half_of y c)) (seen_own (f id))
-    (IsQueuedIn-from (in_context y f) id (half_of y c)) apart (here.each y)
+    let y = (f id).declared.context in record {
+      own = subst (λ t. IsApart t → IsHalfOf (in_context y f) t.base (half_of y c) → IsQueuedIn id t.armed t.clock (half_of y c)) (seen_own (f id))
+          (IsQueuedIn-from (in_context y f) id (half_of y c)) apart (here.each y);
+      other = never_queued id (in_context (other_context y) f) (f id).base (half_of (other_context y) c)
+          (seen_else (other_context y) (f id) (apart_context y)) (here.each (other_context y));
+    }

@@ -1,12 +1,13 @@
 pub mod Agreement
 pub mod Alike
+pub mod Bases
 pub mod Contents
-pub mod Effects
-pub mod Halves
 pub mod Due
+pub mod Effects
 pub mod Firsts
 pub mod Fronts
 pub mod Generations
+pub mod Halves
 pub mod Limits
 pub mod OffLine
 pub mod Queues

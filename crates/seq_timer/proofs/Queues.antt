@@ -85,10 +85,15 @@ dequeued-unarmed id armed kept c here none =
     (sym (without_absent id c.realtime (here.realtime ∙ off clocks.Realtime))) (sym (without_absent id c.boottime (here.boottime ∙ off clocks.Boottime)))
 
 -- the queue of a clock put in the place of the one that is there
-abbrev with_queue : ClockId → List (ℕ × ℕ) → Half → Half
+abbrev pub with_queue : ClockId → List (ℕ × ℕ) → Half → Half
 with_queue clocks.Monotonic queue c = record c { monotonic = queue }
 with_queue clocks.Realtime queue c = record c { realtime = queue }
 with_queue clocks.Boottime queue c = record c { boottime = queue }
+
+pub with_queue-put : (clock : ClockId) (expires id : ℕ) (c : Half) → with_queue clock (put expires id (queue_of c clock)) c ≡ enqueued clock expires id c
+with_queue-put clocks.Monotonic expires id c = refl
+with_queue-put clocks.Realtime expires id c = refl
+with_queue-put clocks.Boottime expires id c = refl
 
 -- one that is, is in its clock's
 dequeued_there : (id : ℕ) (armed : Option ℕ) (kept its : ClockId) (queue : List (ℕ × ℕ)) (c : Half) → IsQueuedIn id armed kept c → kept ≡ its
@@ -106,7 +111,6 @@ dequeued_there id armed kept clocks.Boottime queue c here on off =
     (away id armed kept clocks.Boottime clocks.Monotonic c.monotonic on refl here.monotonic)
     (away id armed kept clocks.Boottime clocks.Realtime c.realtime on refl here.realtime) off
 
-pub dequeued-armed : (id : ℕ) (armed : Option ℕ) (kept its : ClockId) (queue : List (ℕ × ℕ)) (old c : Half) → old ≡ c → IsQueuedIn id armed kept c → kept ≡ its
-    → queue ≡ without id (queue_of old its) → with_queue its queue old ≡ dequeued id c
-dequeued-armed id armed kept its queue old c is here on off =
-    dequeued_there id armed kept its queue old (subst (IsQueuedIn id armed kept) (sym is) here) on off ∙ ap (dequeued id) is
+pub dequeued-armed : (id : ℕ) (armed : Option ℕ) (kept : ClockId) (c : Half) → IsQueuedIn id armed kept c
+    → with_queue kept (without id (queue_of c kept)) c ≡ dequeued id c
+dequeued-armed id armed kept c here = dequeued_there id armed kept kept (without id (queue_of c kept)) c here refl refl

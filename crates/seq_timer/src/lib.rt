@@ -26,7 +26,6 @@ mod base;
 mod context;
 mod effect;
 mod event;
-mod half;
 mod laws;
 mod observation;
 mod standing;

@@ -1,5 +1,5 @@
 -- A timer queue as a list of pairs: the expiry in nanoseconds, and the timer's number.
-use Rattle.std.specs.Prelude.{ℕ, ◌≤◌, ◌<◌, ◌+◌, List, [], ◌∷◌, map, filter, Option, Some, None, Bool, not, nat_eq, nat_lt, if◌then◌else◌}
+use Rattle.std.specs.Prelude.{ℕ, ◌≤◌, ◌<◌, ◌+◌, List, [], ◌∷◌, map, filter, get_or, set, Option, Some, None, Bool, not, nat_eq, nat_lt, if◌then◌else◌}
 use Rattle.std.specs.List.{list_any, IsDistinct, AllByRecursion}
 
 -- the queue with one more pair: before the first pair that expires later, else last
@@ -40,3 +40,17 @@ pub record IsQueue (room : ℕ) (ps : List (ℕ × ℕ)) : Type 0 where
   pub once : IsDistinct nat_eq (map (λ p. p.1) ps)
   pub below : AllByRecursion (λ p. p.1 < room) ps
   pub by_expiry : IsByExpiry ps
+
+-- ---- several queues, each by its number
+
+-- whether a timer is in one of them
+abbrev pub has_any : ℕ → List (List (ℕ × ℕ)) → Bool
+has_any id queues = list_any (λ queue. has_id id queue) queues
+
+-- the queues with one more pair in that of this number
+abbrev pub put_among : (queue expires id : ℕ) → List (List (ℕ × ℕ)) → List (List (ℕ × ℕ))
+put_among queue expires id queues = set queues queue (put expires id (get_or queues queue []))
+
+-- the queues with a timer taken out of that of this number
+abbrev pub without_among : (queue id : ℕ) → List (List (ℕ × ℕ)) → List (List (ℕ × ℕ))
+without_among queue id queues = set queues queue (without id (get_or queues queue []))

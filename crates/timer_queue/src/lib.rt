@@ -3,6 +3,10 @@
 
 pub use list::ListQueue;
 pub use queue::Queue;
+pub use six::SixQueues;
+pub use six_lists::SixLists;
 
 mod list;
 mod queue;
+mod six;
+mod six_lists;

@@ -3,6 +3,7 @@ ghost use Rattle.std.specs.Prelude.{◌≡◌, ℕ, ◌≤◌, List, vec_capacit
 ghost use Rattle.timer_queue.specs.Pairs.{IsQueue, place_of};
 
 use crate::queue::Queue;
+use crate::six_lists::SixLists;
 use std::alloc::{AllocError, Global};
 use std::marker::Model;
 
@@ -22,6 +23,8 @@ impl Model for ListQueue {
 }
 
 impl Queue for ListQueue {
+    type Six = SixLists;
+
     ghost pairs = { λ q. q.0 };
 
     ghost bound = { λ q. q.1 };

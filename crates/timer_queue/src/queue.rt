@@ -2,11 +2,15 @@
 ghost use Rattle.std.specs.Prelude.{◌≡◌, ℕ, ◌<◌, ◌≤◌, List, [], IfOk, IsTrue, false};
 ghost use Rattle.timer_queue.specs.Pairs.{put, without, first_of, has_id, IsQueue};
 
+use crate::six::SixQueues;
 use std::alloc::{AllocError, Global};
 
 /// A queue of timers, as one clock of one base keeps it. Contracts see it as a list of pairs (expiry, timer number) in the order in
 /// which the timers are due; equal expiries stand in the order in which they were added.
 pub trait Queue {
+    /// What a base has of this kind: a queue for each context and clock.
+    type Six: SixQueues + Drop;
+
     /// The pairs, the one that is due first at the front.
     ghost pairs: { Self → List (ℕ × ℕ) };
 

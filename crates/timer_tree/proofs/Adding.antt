@@ -8,7 +8,7 @@ use Rattle.timer_tree.specs.Nodes.{none, pick, node_at, with_links, is_leaf}
 use Rattle.timer_tree.specs.Moves.{inserted}
 use Rattle.timer_tree.specs.Links.{with_child}
 use Rattle.timer_tree.specs.Trees.{Leaf, Fork, top, pairs, Stands, IsBalanced, one, times, first_id, Keeps}
-use Rattle.timer_tree.specs.Contexts.{Frame, parent_of, root_of, IsAround, around, pairs_before, pairs_after, Cut, IsStored, IsUnbalanced}
+use Rattle.timer_tree.specs.Contexts.{Frame, parent_of, root_of, IsAround, around, pairs_before, pairs_after, Cut, IsStored, Becomes, IsUnbalanced}
 use Rattle.timer_tree.specs.Contexts.{IsRepaired, IsOver}
 use Rattle.timer_tree.specs.Places.{side_of, first_on, IsOnSide, IsPlace}
 use Rattle.timer_tree.proofs.Trees.{with_child-with_links, times-append, one_same, once_with, Keeps-then, Keeps-for, Fit-size}
@@ -16,7 +16,7 @@ use Rattle.timer_tree.proofs.Trees.{set_keeps, set_stands, Stands-kept, IsAround
 use Rattle.timer_tree.proofs.Trees.{frame_written, pairs-plug, cut_times, cut_unbalanced}
 use Rattle.timer_tree.proofs.Puts.{times-put}
 use Rattle.timer_tree.proofs.Counts.{cut_low}
-use Rattle.timer_tree.proofs.Stores.{Gives, times-absent, fit_of}
+use Rattle.timer_tree.proofs.Stores.{times-absent, fit_of}
 use Rattle.timer_tree.specs.declared.node.Node.{Node}
 use Rattle.timer_tree.specs.declared.node.Side.{Side}
 use Rattle.timer_tree.specs.declared.node.Side.TheVariants as sides
@@ -142,7 +142,7 @@ module _ (xs : List Node) (root first parent expires id : ℕ) (ps : List (ℕ �
       ((parent ≡ none → ⊥) → leaf ≡ is_leaf (node_at xs parent)) →
       inserted_steps ≤ steps + 3 → ((qs : List (ℕ × ℕ)) (b : IsUnbalanced true new.0 new.1 (record { at = parent; child = id; rank = 1 }) qs) →
       IsOver b.context leaf → IsRepaired new.0 zs new_root qs (length b.context) inserted_steps new_steps) → new_first ≡ first_on new.2 parent first id →
-      Gives ps (put expires id ps) (length xs) zs new_root new_first old new_steps
+      Becomes ps (put expires id ps) xs zs new_root new_first old new_steps
   added leaf inserted_steps zs new_root new_first new_steps known few repairs first_is =
       let c = found.context in
       let can = inserted_can leaf known in
@@ -154,10 +154,9 @@ module _ (xs : List Node) (root first parent expires id : ℕ) (ps : List (ℕ �
           is_tree = repaired.tree;
           first_is = first_is ∙ first_placed new.2 parent c first id expires found.parent_is inserted_new.side_is
               (λ k. subst (λ qs. times k qs ≤ 1) whole (found.cut.fit.once k)) (stored.first_is ∙ ap first_id whole) ∙ sym (ap first_id (found.puts id));
-          free = λ k gone. ap (λ (x : Node). x.rank) (kept.rest k (omega (arith, gone)))
-              ∙ stored.free k (omega (arith, times-put k expires id ps, gone));
           queue = repaired.tree.whole.fit.queue;
         };
-        size = kept.size;
+        kept = Keeps-for (λ k gone. omega (arith, gone)) kept;
+        gone = λ k here left. let never : ⊥ = omega (arith, here, left, times-put k expires id ps) in absurd never;
         count = λ d fits. omega (arith, found.count, few, can.2, repaired.count, cut_low xs root c Leaf ps found.cut d fits);
       }

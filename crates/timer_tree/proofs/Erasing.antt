@@ -6,13 +6,13 @@ use Rattle.timer_queue.specs.Pairs.{without, has_id}
 use Rattle.timer_tree.specs.Nodes.{none, node_at, pick}
 use Rattle.timer_tree.specs.Rotate.{ranked}
 use Rattle.timer_tree.specs.Trees.{Tree, Leaf, Fork, top, tall, pairs, IsAt, IsBalanced, one, times, first_id, Keeps}
-use Rattle.timer_tree.specs.Contexts.{Frame, parent_of, pairs_before, pairs_after, IsStored, IsRepairing, IsRepaired, Cut}
+use Rattle.timer_tree.specs.Contexts.{Frame, parent_of, pairs_before, pairs_after, IsStored, Becomes, IsRepairing, IsRepaired, Cut}
 use Rattle.timer_tree.specs.Places.{first_off}
 use Rattle.timer_tree.specs.Takes.{IsTaking, IsTaken}
-use Rattle.timer_tree.proofs.Trees.{by_eq, times-append, one_same, apart_one, once_with, Keeps-then, Fit-size, set_keeps}
+use Rattle.timer_tree.proofs.Trees.{by_eq, times-append, one_same, apart_one, once_with, Keeps-then, Keeps-for, Fit-size, set_keeps}
 use Rattle.timer_tree.proofs.Trees.{set_stands, IsAt-kept, IsAround-kept, pairs-plug}
 use Rattle.timer_tree.proofs.Trees.{tall-le, cut_times}
-use Rattle.timer_tree.proofs.Stores.{Gives, present_times}
+use Rattle.timer_tree.proofs.Stores.{present_times}
 use Rattle.timer_tree.proofs.Climbs.{repairing_start}
 use Rattle.timer_tree.proofs.Taking.{place_of, without_part, gone_times, other_times}
 use Rattle.timer_tree.specs.declared.node.Node.{Node}
@@ -104,6 +104,12 @@ taken_can xs id ps ys mid_root r old steps zs new taken is =
     repairing_start new
     (record { context = b.context; subtree = b.subtree; old_rank = b.old_rank; cut = cut; at_is = b.at_is; changed = b.changed })
 
+one_taken : (k id : ℕ) (ps : List (ℕ × ℕ)) → 0 < times id ps → times k ps ≡ 0 → one k id ≡ 0
+one_taken k id ps present gone = elim (cases_eq k id) [
+  | inl same ↦ let never : ⊥ = omega (arith, present, subst (λ j. times j ps ≡ 0) same gone) in absurd never
+  | inr apart ↦ apart_one k id apart
+]
+
 -- the queue after a timer was taken out
 pub erased : (xs : List Node) (root first id : ℕ) (node : Node) (ps : List (ℕ × ℕ)) (ys : List Node) (mid_root : ℕ) (r : Unbalanced)
     (old read_steps taken_steps : ℕ) (zs : List Node) (written_steps : ℕ) (ws : List Node) (new_root new_first new_steps : ℕ) → IsStored xs root first ps →
@@ -111,7 +117,7 @@ pub erased : (xs : List Node) (root first id : ℕ) (node : Node) (ps : List (�
     IsTaken xs id ps ys mid_root r read_steps taken_steps → zs ≡ ranked ys id 0 → written_steps ≡ taken_steps + 1 →
     ((us : List Node) (qs : List (ℕ × ℕ)) (levels start : ℕ) → IsRepairing false us zs mid_root r qs levels start written_steps →
     IsRepaired us ws new_root qs levels start new_steps) →
-    Gives ps (without id ps) (length xs) ws new_root new_first old new_steps
+    Becomes ps (without id ps) xs ws new_root new_first old new_steps
 erased xs root first id node ps ys mid_root r old read_steps taken_steps zs written_steps ws new_root new_first new_steps stored taking node_is first_is
     one_read taken zs_is one_write repairs =
     let repaired = repairs zs (without id ps) _ _ (taken_can xs id ps ys mid_root r read_steps taken_steps zs written_steps taken zs_is) in
@@ -123,14 +129,13 @@ erased xs root first id node ps ys mid_root r old read_steps taken_steps zs writ
       stored = record {
         is_tree = repaired.tree;
         first_is = erased_first xs root first id node ps new_first taking stored.first_is node_is first_is;
-        free = λ k gone. elim (cases_eq k id) [
-          | inl same ↦ ap (λ (x : Node). x.rank) (repaired.kept.rest k gone ∙ ap (λ us. node_at us k) zs_is ∙ ap (λ j. node_at (ranked ys id 0) j) same
-              ∙ (set_stands ys id unlinked inside).is)
-          | inr apart ↦ ap (λ (x : Node). x.rank) (kept.rest k (omega (arith, other_times k id ps apart, gone, apart_one k id apart)))
-              ∙ stored.free k (omega (arith, other_times k id ps apart, gone))
-        ];
         queue = repaired.tree.whole.fit.queue;
       };
-      size = kept.size;
+      kept = Keeps-for (λ k gone. omega (arith, gone, one_taken k id ps taking.present (omega (arith, gone)))) kept;
+      gone = λ k here left. elim (cases_eq k id) [
+        | inl same ↦ ap (λ (x : Node). x.rank) (repaired.kept.rest k left ∙ ap (λ us. node_at us k) zs_is ∙ ap (λ j. node_at (ranked ys id 0) j) same
+            ∙ (set_stands ys id unlinked inside).is)
+        | inr apart ↦ let never : ⊥ = omega (arith, here, left, other_times k id ps apart) in absurd never
+      ];
       count = λ d few. omega (arith, one_read, taken.count, one_write, repaired.count, taken.low d few);
     }

@@ -1,13 +1,12 @@
 pub mod Adding
 pub mod Climbs
 pub mod Counts
-pub mod Crosses
 pub mod Erasing
 pub mod Finds
+pub mod Forests
 pub mod Puts
 pub mod Rotations
 pub mod Stepping
 pub mod Stores
 pub mod Taking
-pub mod Told
 pub mod Trees

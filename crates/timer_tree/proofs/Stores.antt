@@ -1,5 +1,5 @@
 -- What is known of the block of a queue.
-use Rattle.std.proofs.Common.{◌≡◌, ℕ, true, false, ◌+◌, ◌*◌, ◌^◌, ◌<◌, ◌≤◌, List, [], ◌∷◌, ◌++◌, Option, Some}
+use Rattle.std.proofs.Common.{◌≡◌, ℕ, true, false, ◌+◌, ◌-◌, ◌<◌, ◌≤◌, List, [], ◌∷◌, ◌++◌, Option, Some}
 use Rattle.std.proofs.Common.{None, not, length, map, nat_eq, if◌then◌else◌, arith, refl}
 use Rattle.std.proofs.Common.{ap, ◌∙◌, sym, subst, zero, suc, inl, inr, replicate}
 use Rattle.std.specs.List.{AllByRecursion, IsDistinct}
@@ -10,9 +10,9 @@ use Rattle.timer_queue.specs.Pairs.{has_id, first_of, IsQueue}
 use Rattle.timer_queue.proofs.Pairs.{All-from_ids, apart_from_absent, IsQueue-empty, length-le_room}
 use Rattle.std.proofs.lemmas.List.{get_or_past, get_or-replicate, length-replicate}
 use Rattle.timer_tree.specs.Nodes.{none, blank, node_at, IsLink}
-use Rattle.timer_tree.specs.Trees.{Tree, Leaf, Fork, top, tall, pairs, IsAt, IsBalanced, one, times, first_id, pairs_below, queue_at}
-use Rattle.timer_tree.specs.Contexts.{IsTree, IsStored, Fit, Cut}
-use Rattle.timer_tree.proofs.Trees.{rank_at, located, once_with, tall-le}
+use Rattle.timer_tree.specs.Trees.{Tree, Leaf, Fork, top, tall, pairs, IsAt, IsBalanced, one, times, first_id, pairs_below, queue_at, Keeps}
+use Rattle.timer_tree.specs.Contexts.{IsTree, IsStored, AreUnranked, Becomes, Fit, Cut}
+use Rattle.timer_tree.proofs.Trees.{rank_at, located, once_with, tall-le, Fit-size, Keeps-for, IsAt-kept}
 use Rattle.timer_tree.specs.declared.node.Node.{Node}
 
 times-apart : (k : ℕ) (ps : List (ℕ × ℕ)) → AllByRecursion (λ p. nat_eq k p.1 ≡ false) ps → times k ps ≡ 0
@@ -60,12 +60,6 @@ queue_at-is xs root ps is =
 pub queue_again : (xs : List Node) (root first : ℕ) (ps : List (ℕ × ℕ)) → IsStored xs root first ps → IsStored xs root first (queue_at xs root)
 queue_again xs root first ps stored = subst (λ qs. IsStored xs root first qs) (sym (queue_at-is xs root ps stored.is_tree)) stored
 
--- the queue after a call, and how many steps that took
-pub record Gives (ps qs : List (ℕ × ℕ)) (room : ℕ) (zs : List Node) (root first old_steps steps : ℕ) : Type 0 where
-  pub stored : IsStored zs root first qs
-  pub size : length zs ≡ room
-  pub count : (d : ℕ) → length ps + 1 < 2 ^ d → steps ≤ old_steps + 32 * (d + 1)
-
 -- ---- the first pair, and whether a timer is in the tree
 
 abbrev first_at : List Node → ℕ → Option (ℕ × ℕ)
@@ -106,18 +100,20 @@ present_times k (p ∷ ps) present =
       | inr apart ↦ let rest : has_id k ps ≡ true = grind (arith, nat_tests) in omega (arith, present_times k ps rest)
     ]
 
-pub has_stored : (xs : List Node) (root first : ℕ) (ps : List (ℕ × ℕ)) (k : ℕ) → IsStored xs root first ps → not (nat_eq (node_at xs k).rank 0) ≡ has_id k ps
-has_stored xs root first ps k stored =
+pub has_stored : (xs : List Node) (root first : ℕ) (ps : List (ℕ × ℕ)) (k : ℕ) → IsStored xs root first ps →
+    (times k ps ≡ 0 → (node_at xs k).rank ≡ 0) → not (nat_eq (node_at xs k).rank 0) ≡ has_id k ps
+has_stored xs root first ps k stored free =
     elim (has_id k ps) as (λ b. has_id k ps ≡ b → not (nat_eq (node_at xs k).rank 0) ≡ b) [
       | true ↦ λ present.
           let cut = (located xs root k ps stored.is_tree (present_times k ps present)).cut in
           ap not (ne_eqb (node_at xs k).rank 0 (λ zero_h. omega (arith, zero_h, ap (λ (x : Node). x.rank) cut.under.0.is, cut.balanced.0.below_a)))
-      | false ↦ λ absent. ap (λ h. not (nat_eq h 0)) (stored.free k (times-absent k ps absent))
+      | false ↦ λ absent. ap (λ h. not (nat_eq h 0)) (free (times-absent k ps absent))
     ] refl
 
 -- ---- the empty tree
 
-pub empty_stored : (xs : List Node) (room : ℕ) → room ≤ none → xs ≡ replicate room blank → IsStored xs none none (queue_at xs none) × (queue_at xs none ≡ [])
+pub empty_stored : (xs : List Node) (room : ℕ) → room ≤ none → xs ≡ replicate room blank → IsStored xs none none (queue_at xs none) × (queue_at xs none ≡ []) ×
+    ((k : ℕ) → (node_at xs k).rank ≡ 0)
 empty_stored xs room small is =
     let size : length xs ≡ room = ap length is ∙ length-replicate room blank in
     let blank_at : (k : ℕ) → node_at xs k ≡ blank = λ k. ap (λ ys. node_at ys k) is ∙ elim (cases_lt k room) [
@@ -130,13 +126,47 @@ empty_stored xs room small is =
     let stored : IsStored xs none none [] = record {
       is_tree = tree;
       first_is = refl;
-      free = λ k gone. ap (λ (x : Node). x.rank) (blank_at k);
       queue = IsQueue-empty (length xs);
-    } in (queue_again xs none none [] stored, queue_at-is xs none [] tree)
+    } in (queue_again xs none none [] stored, queue_at-is xs none [] tree, λ k. ap (λ (x : Node). x.rank) (blank_at k))
 
 -- a timer's number is below the room
 pub has_inside : (xs : List Node) (root first : ℕ) (ps : List (ℕ × ℕ)) (k : ℕ) → IsStored xs root first ps → has_id k ps ≡ true → k < length xs
 has_inside xs root first ps k stored present = (located xs root k ps stored.is_tree (present_times k ps present)).cut.under.0.inside
 
-pub has_past : (xs : List Node) (root first : ℕ) (ps : List (ℕ × ℕ)) (k : ℕ) → IsStored xs root first ps → length xs ≤ k → false ≡ has_id k ps
-has_past xs root first ps k stored past = ap (λ (x : Node). not (nat_eq x.rank 0)) (sym (get_or_past xs k blank past)) ∙ has_stored xs root first ps k stored
+-- ---- a queue beside another one whose timers alone have changed
+
+pub stored_beside : (out : ℕ → ℕ) (xs ys : List Node) (root first : ℕ) (ps : List (ℕ × ℕ)) → Keeps out xs ys → ((k : ℕ) → 0 < times k ps → out k ≡ 0) →
+    IsStored xs root first ps → IsStored ys root first ps
+stored_beside out xs ys root first ps kept apart stored =
+    let tree = stored.is_tree in
+    let cut = tree.whole in
+    let rest : Keeps (λ k. 1 - times k ps) xs ys = Keeps-for (λ k gone. apart k (omega (arith, gone))) kept in
+    let same : (k : ℕ) → 1 - times k ps + times k (pairs tree.tree) ≤ 1 =
+    λ k. omega (arith, cut.fit.once k, ap (λ qs. times k qs) cut.pairs_are) in
+    let fit = Fit-size kept.size cut.fit in
+    let under = IsAt-kept none tree.tree rest same cut.under in
+    let whole : Cut ys root [] tree.tree (tall tree.tree) ps = record {
+      fit = fit;
+      linked = tt;
+      under = under;
+      root_is = cut.root_is;
+      balanced = cut.balanced;
+      fits = tt;
+      pairs_are = cut.pairs_are;
+    } in record {
+      is_tree = record { tree = tree.tree; whole = whole };
+      first_is = stored.first_is;
+      queue = subst (λ n. IsQueue n ps) (sym kept.size) stored.queue;
+    }
+
+-- timers in no queue have the rank 0 still, where others count so often elsewhere
+pub free_after : (elsewhere : ℕ → ℕ) {ps qs : List (ℕ × ℕ)} {xs zs : List Node} {root first old steps : ℕ} → Becomes ps qs xs zs root first old steps →
+    AreUnranked xs (λ k. times k ps + elsewhere k) → AreUnranked zs (λ k. times k qs + elsewhere k)
+free_after elsewhere {ps = ps} {qs = qs} gives free k none_now = elim (cases_eq (times k ps) 0) [
+  | inl before ↦ ap (λ (x : Node). x.rank) (gives.kept.rest k (omega (arith, before, none_now))) ∙ free k (omega (arith, before, none_now))
+  | inr some ↦ gives.gone k (omega (arith, some)) (omega (arith, none_now))
+]
+
+pub free_alone : {ps qs : List (ℕ × ℕ)} {xs zs : List Node} {root first old steps : ℕ} → Becomes ps qs xs zs root first old steps →
+    AreUnranked xs (λ k. times k ps) → AreUnranked zs (λ k. times k qs)
+free_alone gives free k none_now = free_after (λ k. 0) gives (λ j gone. free j (omega (arith, gone))) k (omega (arith, none_now))

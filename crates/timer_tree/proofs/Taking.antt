@@ -1,7 +1,7 @@
 -- What taking a timer out makes of the tree.
 use Rattle.std.proofs.Common.{◌≡◌, ℕ, ◌+◌, ◌<◌, ◌≤◌, List, [], ◌∷◌, ◌++◌, length, nat_eq, if◌then◌else◌, arith, refl, ap, ◌∙◌, sym, subst}
 use Rattle.std.proofs.Common.{slice_set, append_assoc, append-nil, length-append, ◌⊎◌, inl, inr}
-use Rattle.std.proofs.lemmas.Bool.{eq-eqb, ne_eqb}
+use Rattle.std.proofs.lemmas.Bool.{eq-eqb, ne_eqb, cases_eq}
 use Rattle.std.proofs.lemmas.Bool.Decides.{nat_tests}
 use Rattle.timer_queue.specs.Pairs.{without}
 use Rattle.timer_tree.specs.Nodes.{none, node_at}
@@ -117,6 +117,12 @@ without_part c l e id h r ps is once =
 times-without : (k id : ℕ) (ps : List (ℕ × ℕ)) → times k (without id ps) ≡ (if nat_eq k id then 0 else times k ps)
 times-without k id [] = grind (arith, nat_tests)
 times-without k id (p ∷ ps) = grind (arith, nat_tests, times-without k id ps)
+
+pub times-without-le : (k id : ℕ) (ps : List (ℕ × ℕ)) → times k (without id ps) ≤ times k ps
+times-without-le k id ps = elim (cases_eq k id) [
+  | inl same ↦ omega (arith, times-without k id ps, ap (λ b. if b then 0 else times k ps) (eq-eqb k id same))
+  | inr apart ↦ omega (arith, times-without k id ps, ap (λ b. if b then 0 else times k ps) (ne_eqb k id apart))
+]
 
 pub gone_times : (id : ℕ) (ps : List (ℕ × ℕ)) → times id (without id ps) ≡ 0
 gone_times id ps = times-without id id ps ∙ ap (λ b. if b then 0 else times id ps) (eq-eqb id id refl)

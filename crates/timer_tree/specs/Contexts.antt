@@ -1,5 +1,5 @@
 -- A tree with a hole in it: what stands above a subtree, from the nearest node to the root.
-use Rattle.std.specs.Prelude.{ℕ, Bool, true, false, ◌+◌, ◌*◌, ◌<◌, ◌≤◌, min, max, nat_eq, ◌≡◌, List, [], ◌∷◌, ◌++◌, length}
+use Rattle.std.specs.Prelude.{ℕ, Bool, true, false, ◌+◌, ◌*◌, ◌^◌, ◌<◌, ◌≤◌, min, max, nat_eq, ◌≡◌, List, [], ◌∷◌, ◌++◌, length}
 use Rattle.timer_tree.specs.Nodes.{none, pick, with_links, node_at}
 use Rattle.timer_tree.specs.Trees.{Tree, Leaf, Fork, top, tall, pairs, IsAt, HasRank, IsBalanced, Stands, times, first_id, Keeps}
 use Rattle.timer_queue.specs.Pairs.{IsQueue}
@@ -85,12 +85,22 @@ pub record IsTree (xs : List Node) (root : ℕ) (ps : List (ℕ × ℕ)) : Type 
   pub tree : Tree
   pub whole : Cut xs root [] tree (tall tree) ps
 
--- the block and the numbers of the root and of the first node are those of this queue, and each timer that isn't in it has the rank 0
+-- the store has this queue as a tree with this root and this first node. Of nodes that aren't in it nothing is said.
 pub record IsStored (xs : List Node) (root first : ℕ) (ps : List (ℕ × ℕ)) : Type 0 where
   pub is_tree : IsTree xs root ps
   pub first_is : first ≡ first_id ps
-  pub free : (k : ℕ) → times k ps ≡ 0 → (node_at xs k).rank ≡ 0
   pub queue : IsQueue (length xs) ps
+
+-- each timer that this doesn't count has the rank 0
+abbrev pub AreUnranked : List Node → (ℕ → ℕ) → Type 0
+AreUnranked xs count = (k : ℕ) → count k ≡ 0 → (node_at xs k).rank ≡ 0
+
+-- the store's queue after a call, which has left the nodes of all other timers as they were, and how many steps that took
+pub record Becomes (ps qs : List (ℕ × ℕ)) (xs zs : List Node) (root first old_steps steps : ℕ) : Type 0 where
+  pub stored : IsStored zs root first qs
+  pub kept : Keeps (λ k. times k ps + times k qs) xs zs
+  pub gone : (k : ℕ) → 0 < times k ps → times k qs ≡ 0 → (node_at zs k).rank ≡ 0
+  pub count : (d : ℕ) → length ps + 1 < 2 ^ d → steps ≤ old_steps + 32 * (d + 1)
 
 -- a node has a subtree one lower than it is, and one two lower than this rank
 abbrev pub IsTilted : Tree → ℕ → Type 0

@@ -1,4 +1,5 @@
 pub mod Contexts
+pub mod Forests
 pub mod Links
 pub mod Moves
 pub mod Nodes

@@ -1,31 +1,27 @@
 //! The block of nodes: each touch of a node is counted here.
 ghost use Rattle.std.specs.Prelude.{◌≡◌, ◌+◌, ◌<◌, ◌≤◌, List, IfOk, length, replicate, slice_set, nat_lt};
-ghost use Rattle.core.specs.Mem.Slots.{slots_items, slots_ptr, slots_len, IsFull, lease_ptr, lease_len, lease_heap};
 ghost use Rattle.timer_tree.specs.Nodes.{node_at, blank, IsLink, HasLinks, AreLinked};
 ghost use Rattle.timer_tree.specs.Links.{replaced, linked};
 ghost use Rattle.timer_tree.specs.declared.node.Node.{Node};
 
-use crate::held::{Held, Parts};
 use crate::node::{Node, Side};
 use crate::steps::Steps;
-use core::slots::{Slots, release, reserve};
 use std::alloc::{AllocError, Global};
 use std::marker::Model;
 use std::sync::ledger::Ledger;
 
 /// The block of nodes, one for each number below the room. Its memory is given back when it is dropped.
+#[derive(Drop)]
 pub(crate) struct Block {
-    held: Held<Node, Global>,
-    alloc: Global,
+    nodes: Vec<Node>,
 }
 
 impl Model for Block {
     ghost Value = { List Node };
 
-    ghost view = { λ b. slots_items b.held.slots };
+    ghost view = { λ b. b.nodes.items };
 
-    ghost invariant = { λ b. IsFull b.held.slots × (lease_ptr b.held.lease ≡ slots_ptr b.held.slots) × (lease_len b.held.lease ≡ slots_len b.held.slots) ×
-        (lease_heap b.held.lease ≡ b.alloc) × AreLinked (slots_items b.held.slots) };
+    ghost invariant = { λ b. AreLinked b.nodes.items };
 }
 
 impl Block {
@@ -33,29 +29,15 @@ impl Block {
     pub(crate) fn make(alloc: Global, room: u32) -> Result<Block, AllocError>
         ensures { IfOk result (λ b. b ≡ replicate room blank) }
     {
-        let like = vec![in alloc; Node::blank(); room as usize]?;
-        Block::of(alloc, &like)
-    }
-
-    /// Takes a block for these nodes.
-    fn of(alloc: Global, like: &[Node]) -> Result<Block, AllocError>
-        requires { AreLinked like.now }
-        ensures { IfOk result (λ b. b ≡ like.now) }
-    {
-        let (mut slots, lease) = unsafe { reserve(&alloc, like)? };
-        for (i, node) in like.iter().enumerate() {
-            slots.put(i, *node);
-        }
-        let held = Held::of(Parts { slots, lease });
-        Ok(Block { held, alloc })
+        let nodes = vec![in alloc; Node::blank(); room as usize]?;
+        Ok(Block { nodes })
     }
 
     /// Whether there is a node with this number. That touches none.
     pub(crate) fn holds(&self, n: u32) -> bool
         ensures { result ≡ nat_lt n (length self.now) }
     {
-        let held = &self.held;
-        (n as usize) < held.parts.slots.len()
+        (n as usize) < self.nodes.len()
     }
 
     /// Reads a node, and counts it.
@@ -66,8 +48,7 @@ impl Block {
         ensures steps { steps.new ≡ steps.old + 1 }
     {
         steps.tick();
-        let held = &self.held;
-        *held.parts.slots.get(n as usize)
+        self.nodes[n as usize]
     }
 
     /// Writes a node, and counts it.
@@ -79,11 +60,10 @@ impl Block {
         ensures steps { steps.new ≡ steps.old + 1 }
     {
         steps.tick();
-        let held = &mut self.held;
-        held.parts.slots.put(n as usize, node);
+        self.nodes[n as usize] = node;
     }
 
-    /// Gives a node another parent, and counts it.
+    /// Becomes a node another parent, and counts it.
     pub(crate) fn set_parent<L: Ledger>(&mut self, n: u32, parent: u32, steps: &mut Steps<L>)
         requires inside { n < length self.old }
         requires link { IsLink (length self.old) parent }
@@ -92,11 +72,11 @@ impl Block {
         ensures steps { steps.new ≡ steps.old + 1 }
     {
         steps.tick();
-        let held = &mut self.held;
-        held.parts.slots.get_mut(n as usize).parent = parent;
+        let node = &mut self.nodes[n as usize];
+        node.parent = parent;
     }
 
-    /// Gives a node another node in place of one below it, and counts it.
+    /// Becomes a node another node in place of one below it, and counts it.
     pub(crate) fn set_child<L: Ledger>(&mut self, n: u32, from: u32, to: u32, steps: &mut Steps<L>)
         requires inside { n < length self.old }
         requires link { IsLink (length self.old) to }
@@ -105,8 +85,7 @@ impl Block {
         ensures steps { steps.new ≡ steps.old + 1 }
     {
         steps.tick();
-        let held = &mut self.held;
-        let node = held.parts.slots.get_mut(n as usize);
+        let node = &mut self.nodes[n as usize];
         if node.left == from {
             node.left = to;
         } else {
@@ -114,7 +93,7 @@ impl Block {
         }
     }
 
-    /// Gives a node another subtree on a side, another parent and another rank, and counts it.
+    /// Becomes a node another subtree on a side, another parent and another rank, and counts it.
     pub(crate) fn set_links<L: Ledger>(
         &mut self,
         n: u32,
@@ -132,8 +111,7 @@ impl Block {
         ensures steps { steps.new ≡ steps.old + 1 }
     {
         steps.tick();
-        let held = &mut self.held;
-        let node = held.parts.slots.get_mut(n as usize);
+        let node = &mut self.nodes[n as usize];
         match side {
             Side::Left => node.left = child,
             Side::Right => node.right = child,
@@ -142,7 +120,7 @@ impl Block {
         node.rank = rank;
     }
 
-    /// Gives a node another rank, and counts it.
+    /// Becomes a node another rank, and counts it.
     pub(crate) fn set_rank<L: Ledger>(&mut self, n: u32, rank: u32, steps: &mut Steps<L>)
         requires inside { n < length self.old }
         ensures block { self.new ≡ slice_set self.old n (record (node_at self.old n) { rank = rank }) }
@@ -150,17 +128,7 @@ impl Block {
         ensures steps { steps.new ≡ steps.old + 1 }
     {
         steps.tick();
-        let held = &mut self.held;
-        let node = *held.parts.slots.get(n as usize);
-        held.parts.slots.put(n as usize, Node { rank, ..node });
-    }
-}
-
-impl Drop for Block {
-    fn drop(self) {
-        let Block { held, alloc } = self;
-        let Held { parts } = held;
-        let Parts { slots, lease } = parts;
-        release(&alloc, slots, lease);
+        let node = &mut self.nodes[n as usize];
+        node.rank = rank;
     }
 }

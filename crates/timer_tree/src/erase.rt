@@ -93,7 +93,7 @@ fn splice<L: Ledger>(block: &mut Block, root: &mut u32, gone: Numbered, steps: &
     relink(block, root, node.parent, n, child, steps);
 }
 
-/// Gives a node that was taken out another's place and links.
+/// Becomes a node that was taken out another's place and links.
 #[tactic(auto, unfolding(crate::specs::Moves::substituted))]
 fn substitute<L: Ledger>(
     block: &mut Block,

@@ -22,7 +22,7 @@ pub(crate) fn rank_of<L: Ledger>(block: &Block, n: u32, steps: &mut Steps<L>) ->
     }
 }
 
-/// Gives a subtree another parent.
+/// Becomes a subtree another parent.
 pub(crate) fn adopt<L: Ledger>(block: &mut Block, n: u32, parent: u32, steps: &mut Steps<L>)
     requires link { IsLink (length block.old) n }
     requires parent { IsLink (length block.old) parent }

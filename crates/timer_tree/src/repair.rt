@@ -47,7 +47,7 @@ pub(crate) fn settle<L: Ledger>(
     repair(block, root, true, rest, steps);
 }
 
-/// Gives a leaf that has got a subtree the rank 2. The repair goes on at its parent.
+/// Becomes a leaf that has got a subtree the rank 2. The repair goes on at its parent.
 #[inline(always)]
 fn raise_leaf<L: Ledger>(block: &mut Block, n: u32, steps: &mut Steps<L>) -> Unbalanced
     requires inside { n < length block.old }
@@ -109,7 +109,7 @@ fn step<L: Ledger>(
     }
 }
 
-/// Gives the node above a subtree that has risen one rank more where it needs that and its other subtree allows it. Where that doesn't,
+/// Becomes the node above a subtree that has risen one rank more where it needs that and its other subtree allows it. Where that doesn't,
 /// the tree is rotated there.
 #[inline(always)]
 #[tactic(auto, unfolding(crate::specs::Moves::risen, crate::specs::Nodes::next))]
@@ -154,7 +154,7 @@ fn rise_at<L: Ledger>(
     }
 }
 
-/// Gives a node one rank more where its other subtree allows that. Else the tree is rotated there.
+/// Becomes a node one rank more where its other subtree allows that. Else the tree is rotated there.
 #[inline(always)]
 #[tactic(auto, unfolding(crate::specs::Moves::raised, crate::specs::Nodes::next))]
 fn raise<L: Ledger>(
@@ -181,7 +181,7 @@ fn raise<L: Ledger>(
     end()
 }
 
-/// Gives the node above a subtree that has sunk the rank that it needs. The repair ends where that is the one that it has.
+/// Becomes the node above a subtree that has sunk the rank that it needs. The repair ends where that is the one that it has.
 #[inline(always)]
 #[tactic(auto, unfolding(crate::specs::Moves::lowered))]
 fn sink_at<L: Ledger>(
@@ -216,7 +216,7 @@ fn sink_at<L: Ledger>(
     }
 }
 
-/// Gives a node one rank less where its other subtree allows that. Else the tree is rotated there.
+/// Becomes a node one rank less where its other subtree allows that. Else the tree is rotated there.
 #[inline(always)]
 #[tactic(auto, unfolding(crate::specs::Moves::sunk))]
 fn lower<L: Ledger>(
@@ -251,7 +251,7 @@ fn lower<L: Ledger>(
     go_on(block, rest.at, node.parent, node.rank - 1, steps)
 }
 
-/// Gives a node another rank. The repair goes on at its parent.
+/// Becomes a node another rank. The repair goes on at its parent.
 #[inline(always)]
 fn go_on<L: Ledger>(
     block: &mut Block,

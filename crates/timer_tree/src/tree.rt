@@ -1,16 +1,12 @@
 //! A queue of timers as a tree, and the calls that count what they touch.
 ghost use Rattle.std.specs.Prelude.{◌≡◌, ℕ, ◌+◌, ◌*◌, ◌^◌, ◌<◌, ◌≤◌, false, List, length, IsTrue};
-ghost use Rattle.timer_tree.specs.Places.{first_on, first_off};
 ghost use Rattle.timer_queue.specs.Pairs.{put, without, first_of, has_id, IsQueue};
-ghost use Rattle.timer_tree.specs.Rotate.{ranked};
-ghost use Rattle.timer_tree.specs.Trees.{queue_at};
-ghost use Rattle.timer_tree.specs.Contexts.{IsStored};
+ghost use Rattle.timer_tree.specs.Trees.{queue_at, times};
+ghost use Rattle.timer_tree.specs.Contexts.{IsStored, AreUnranked};
 
-use crate::add::{Place, find, insert};
 use crate::block::Block;
-use crate::erase::take_out;
-use crate::node::{NONE, Node, Side};
-use crate::repair::{repair, settle};
+use crate::shared::{EMPTY, Root, add_to, erase_from, first_of, is_linked};
+use crate::six::SixTrees;
 use crate::steps::Steps;
 use std::alloc::{AllocError, Global};
 use std::marker::{Brand, Model};
@@ -22,16 +18,16 @@ use timer_queue::Queue;
 #[derive(Drop)]
 pub struct TimerTree {
     block: Block,
-    root: u32,
-    first: u32,
+    tree: Root,
 }
 
 impl Model for TimerTree {
     ghost Value = { List (ℕ × ℕ) × ℕ };
 
-    ghost view = { λ t. (queue_at t.block t.root, length t.block) };
+    ghost view = { λ t. (queue_at t.block t.tree.root, length t.block) };
 
-    ghost invariant = { λ t. IsStored t.block t.root t.first (queue_at t.block t.root) };
+    ghost invariant = { λ t. IsStored t.block t.tree.root t.tree.first (queue_at t.block t.tree.root)
+        × AreUnranked t.block (λ k. times k (queue_at t.block t.tree.root)) };
 }
 
 impl TimerTree {
@@ -45,11 +41,7 @@ impl TimerTree {
         // Where d binary digits hold the number of timers before the call and one more.
         ensures steps { (d : ℕ) → length self.old.0 + 1 < 2 ^ d → steps.new ≤ steps.old + 32 * (d + 1) }
     {
-        let place = find(&self.block, self.root, expires, steps);
-        let Place { parent, .. } = place;
-        let side = insert(&mut self.block, &mut self.root, parent, expires, id, steps);
-        put_first(&mut self.first, side, parent, id);
-        settle(&mut self.block, &mut self.root, place, id, steps);
+        add_to(&mut self.block, &mut self.tree, expires, id, steps);
     }
 
     /// As `erase`, counting the links that are read or written.
@@ -61,11 +53,7 @@ impl TimerTree {
         // Where d binary digits hold the number of timers before the call and one more.
         ensures steps { (d : ℕ) → length self.old.0 + 1 < 2 ^ d → steps.new ≤ steps.old + 32 * (d + 1) }
     {
-        let node = self.block.read(id, steps);
-        drop_first(&mut self.first, node, id);
-        let broken = take_out(&mut self.block, &mut self.root, id, node, steps);
-        forget(&mut self.block, id, steps);
-        repair(&mut self.block, &mut self.root, false, broken, steps);
+        erase_from(&mut self.block, &mut self.tree, id, steps);
     }
 
     /// As `first`, counting the links that are read or written.
@@ -74,12 +62,7 @@ impl TimerTree {
         ensures kept { IsQueue self.now.1 self.now.0 }
         ensures steps { steps.new ≡ steps.old + 1 }
     {
-        if self.first == NONE {
-            steps.tick();
-            return None;
-        }
-        let node = self.block.read(self.first, steps);
-        Some((node.expires, self.first))
+        first_of(&self.block, &self.tree, steps)
     }
 
     /// As `has`, counting the links that are read or written.
@@ -88,11 +71,7 @@ impl TimerTree {
         ensures kept { IsQueue self.now.1 self.now.0 }
         ensures steps { steps.new ≤ steps.old + 1 }
     {
-        if !self.block.holds(id) {
-            return false;
-        }
-        let node = self.block.read(id, steps);
-        node.rank != 0
+        is_linked(&self.block, id, steps)
     }
 
     /// Adds under a ledger of its own, whose count is let go.
@@ -150,6 +129,8 @@ impl TimerTree {
 }
 
 impl Queue for TimerTree {
+    type Six = SixTrees;
+
     ghost pairs = { λ t. t.0 };
 
     ghost bound = { λ t. t.1 };
@@ -159,11 +140,7 @@ impl Queue for TimerTree {
 
     fn make(alloc: Global, room: u32) -> Result<TimerTree, AllocError> {
         let block = Block::make(alloc, room)?;
-        Ok(TimerTree {
-            block,
-            root: NONE,
-            first: NONE,
-        })
+        Ok(TimerTree { block, tree: EMPTY })
     }
 
     fn add(&mut self, expires: u64, id: u32) {
@@ -180,39 +157,5 @@ impl Queue for TimerTree {
 
     fn has(&self, id: u32) -> bool {
         self.has_uncounted::<Brand>(id, Blank::new(1))
-    }
-}
-
-/// Marks a timer that was taken out as not in the tree.
-#[inline(always)]
-fn forget<L: Ledger>(block: &mut Block, id: u32, steps: &mut Steps<L>)
-    requires inside { id < length block.old }
-    ensures block { block.new ≡ ranked block.old id 0 }
-    ensures steps { steps.new ≡ steps.old + 1 }
-{
-    block.set_rank(id, 0, steps);
-}
-
-/// The first timer once this one is inserted on a side of this parent.
-fn put_first(first: &mut u32, side: Side, parent: u32, id: u32)
-    ensures { first.new ≡ first_on side parent first.old id }
-{
-    if let Side::Left = side
-        && parent == *first
-    {
-        *first = id;
-    }
-}
-
-/// The first timer once this one, with this node, is taken out. The first node has at most one node on its right.
-fn drop_first(first: &mut u32, node: Node, id: u32)
-    ensures { first.new ≡ first_off node first.old id }
-{
-    if *first == id {
-        *first = if node.right == NONE {
-            node.parent
-        } else {
-            node.right
-        };
     }
 }

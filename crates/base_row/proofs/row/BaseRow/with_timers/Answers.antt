@@ -14,8 +14,8 @@ new-requires c =
     let count : c.timer_index.result ≡ word_at c.args.bases (length timers.items + c.args.bases) = omega (arith, c.len-count.ensures, timers.ok.0) in
     rw (c.from.ensures, c.from-2.ensures, told, rings)
     (begins (record { bases = c.args.bases; timers = timers.items; counters = c.args.counters; rings = c.args.rings.now.items }) c.requires.fresh c.requires.counters _ _
-    (c.as_slice-2.ensures.value ∙ (c.in_ok-words.ensures ∙ ap (λ n. replicate n 0) count))
-    (c.in_ok-slots.ensures ∙ ap (λ l. replicate c.args.bases (Some (no_base l))) c.as_slice.ensures.value))
+    (c.as_slice.ensures.value ∙ (c.in_ok-words.ensures ∙ ap (λ n. replicate n 0) count))
+    c.in_ok-slots.ensures)
 
 pub invariant_of-result-in-Ok : goal.invariant_of-result-in-Ok
 invariant_of-result-in-Ok c =

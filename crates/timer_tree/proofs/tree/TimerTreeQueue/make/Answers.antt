@@ -3,4 +3,5 @@ use Rattle.timer_tree.proofs.Stores.{empty_stored}
 use Rattle.timer_tree.proofs.tree.TimerTreeQueue.make.Goals as goal
 
 pub invariant_of-result : goal.invariant_of-result
-invariant_of-result c = (empty_stored c.in_ok-block.block c.args.room (omega arith) c.in_ok-block.ensures).0
+invariant_of-result c =
+    let empty = empty_stored c.in_ok-block.block c.args.room (omega arith) c.in_ok-block.ensures in (empty.0, λ k gone. empty.2 k)
