@@ -1,5 +1,5 @@
 //! An end of a queue that is lent to a caller, who makes several calls by it: meanwhile no one else pushes, or pops.
-ghost use Rattle.std.specs.Prelude.{◌≡◌, None};
+ghost use Rattle.std.specs.Prelude.{◌≡◌, ◌<◌, None};
 ghost use Rattle.crossbeam_queue.specs.Passes.{ruled_capacity};
 ghost use Rattle.signal_queue.specs.Calls.{CountsPops, CountsPushes, PopsSignal, PushesSignal, count_put, count_taken};
 ghost use Rattle.signal_queue.specs.Locks.{HoldsLock};
@@ -23,7 +23,7 @@ pub struct LentEnd<'a, S: Side> {
 }
 
 impl<'a, S: Side> Model for LentEnd<'a, S> {
-    ghost use Rattle.std.specs.Prelude.{◌≡◌, None};
+    ghost use Rattle.std.specs.Prelude.{◌≡◌, ◌<◌, None};
     ghost use Rattle.crossbeam_queue.specs.Passes.{ruled_capacity};
     ghost use Rattle.signal_queue.specs.Locks.{HoldsLock};
     ghost use Rattle.signal_queue.specs.Views.{EndOfQueue};
@@ -32,7 +32,7 @@ impl<'a, S: Side> Model for LentEnd<'a, S> {
 
     ghost view = { λ e. record { queue = record { id = e.ring.now.table.shared.table_id; room = ruled_capacity e.ring.now }; count = e.end.count } };
 
-    ghost invariant = { λ e. HoldsLock e.lock.now None e.hold × S.is_end e.lock.now.of e.end × (e.lock.now.of.table_id ≡ e.ring.now.table.shared.table_id) × (e.lock.now.of.me.0.client.room ≡ ruled_capacity e.ring.now) };
+    ghost invariant = { λ e. HoldsLock e.lock.now None e.hold × S.is_end e.lock.now.of e.end × (e.lock.now.of.table_id ≡ e.ring.now.table.shared.table_id) × (e.lock.now.of.me.0.client.room ≡ ruled_capacity e.ring.now) × (0 < ruled_capacity e.ring.now) };
 }
 
 impl<'a, S: Side> LentEnd<'a, S> {
@@ -47,6 +47,7 @@ impl<'a, S: Side> LentEnd<'a, S> {
         requires holds { HoldsLock lock.now None hold }
         requires queue { lock.now.of.table_id ≡ ring.now.table.shared.table_id }
         requires room { lock.now.of.me.0.client.room ≡ ruled_capacity ring.now }
+        requires some { 0 < ruled_capacity ring.now }
         ensures queue { result.queue ≡ record { id = ring.now.table.shared.table_id; room = ruled_capacity ring.now } }
         ensures count { result.count ≡ end.count }
     {
@@ -63,6 +64,14 @@ impl<'a, S: Side> LentEnd<'a, S> {
         ensures { result ≡ self.now.count }
     {
         self.end.count
+    }
+
+    /// How many signals may wait.
+    pub fn room(&self) -> usize
+        ensures room { result ≡ self.now.queue.room }
+        ensures some { 0 < result }
+    {
+        self.ring.capacity()
     }
 
     /// Whoever waits for the end may have it. It doesn't wait.

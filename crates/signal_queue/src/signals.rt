@@ -36,7 +36,7 @@ pub struct Signals {
 }
 
 impl Model for Signals {
-    ghost use Rattle.std.specs.Prelude.{◌≡◌};
+    ghost use Rattle.std.specs.Prelude.{◌≡◌, ◌<◌};
     ghost use Rattle.crossbeam_queue.specs.Passes.{ruled_capacity};
     ghost use Rattle.signal_queue.specs.Views.{QueueOf};
 
@@ -44,8 +44,8 @@ impl Model for Signals {
 
     ghost view = { λ s. record { id = s.ring.table.shared.table_id; room = ruled_capacity s.ring } };
 
-    // The seats that the locks were made with are of the ring, and knew its room.
-    ghost invariant = { λ s. (s.pushing.of.table_id ≡ s.ring.table.shared.table_id) × (s.popping.of.table_id ≡ s.ring.table.shared.table_id) × (s.pushing.of.me.0.client.room ≡ ruled_capacity s.ring) × (s.popping.of.me.0.client.room ≡ ruled_capacity s.ring) };
+    // The seats that the locks were made with are of the ring, and knew its room; there is some.
+    ghost invariant = { λ s. (s.pushing.of.table_id ≡ s.ring.table.shared.table_id) × (s.popping.of.table_id ≡ s.ring.table.shared.table_id) × (s.pushing.of.me.0.client.room ≡ ruled_capacity s.ring) × (s.popping.of.me.0.client.room ≡ ruled_capacity s.ring) × (0 < ruled_capacity s.ring) };
 }
 
 impl Signals {
