@@ -15,7 +15,7 @@ use Rattle.seq_timer.specs.Systems.{rises_of}
 use Rattle.seq_timer.specs.declared.system.SystemEntry.{SystemEntry}
 use Rattle.seq_timer.specs.declared.system.SystemEntry.TheVariants as entries
 use Rattle.seq_timer.proofs.Systems.{rises_of-append}
-use Rattle.ordered_signals.specs.Places.{PopStands, PushStands, StandsAt, pops_told, pushes_told, signal_ring}
+use Rattle.ordered_signals.specs.Places.{PopStands, PushStands, RingStandsAt, pops_told, pushes_told, signal_ring}
 use Rattle.signal_queue.specs.Calls.{PopsSignal, PushesSignal}
 use Rattle.signal_queue.specs.declared.signal.Signal.{Signal}
 use Rattle.signal_queue.specs.declared.signals.Push.{Push}
@@ -32,7 +32,7 @@ both_at k j {old} {mid} {new} n m a b low high least most =
     )
 
 -- what is said of a later beginning is said of an earlier one
-pub stands_from : (o : Opening) {old mid new : List SystemEntry} {put taken : ℕ} → Begins old mid → StandsAt o mid new put taken → StandsAt o old new put taken
+pub stands_from : (o : Opening) {old mid new : List SystemEntry} {put taken : ℕ} → Begins old mid → RingStandsAt o mid new put taken → RingStandsAt o old new put taken
 stands_from o a s = record { at = s.at; from = begins_trans a s.from; seen = s.seen; pushes = s.pushes; pops = s.pops }
 
 risen_from : {k : ℕ} {old mid new : List SystemEntry} {number : ℕ} → Begins old mid → RisesAt k mid new number → RisesAt k old new number

@@ -39,7 +39,7 @@ module _ (o : Opening) where
   pops_told seen = taken_off o signal_ring seen
 
   -- At a moment between what was seen before and what is seen after, so many signals were pushed, and so many popped.
-  pub record StandsAt (old new : List SystemEntry) (put taken : ℕ) : Type 0 where
+  pub record RingStandsAt (old new : List SystemEntry) (put taken : ℕ) : Type 0 where
     pub at : List SystemEntry
     pub from : Begins old at
     pub seen : Begins at new
@@ -50,12 +50,12 @@ module _ (o : Opening) where
   -- that found no room found it at a moment between them, when there were just these pushes and pops.
   abbrev pub PushStands : KnownOfTimers → KnownOfTimers → QueueView → Push → Type 0
   PushStands v w t Queued = RisesAt (put_counter o signal_ring) v.seen w.seen (pushes_seen t)
-  PushStands v w t (Full most) = StandsAt v.seen w.seen (pushes_seen t) (pops_seen t)
+  PushStands v w t (Full most) = RingStandsAt v.seen w.seen (pushes_seen t) (pops_seen t)
 
   -- Where a pop stands: one that took a signal has its place, and one that found none its moment.
   abbrev pub PopStands : KnownOfTimers → KnownOfTimers → QueueView → Option Signal → Type 0
   PopStands v w t (Some s) = RisesAt (taken_counter o signal_ring) v.seen w.seen (pops_seen t)
-  PopStands v w t None = StandsAt v.seen w.seen (pushes_seen t) (pops_seen t)
+  PopStands v w t None = RingStandsAt v.seen w.seen (pushes_seen t) (pops_seen t)
 
   -- ---- why a turn has to be made again: the timers are told otherwise than whoever has the end knows
 

@@ -1,7 +1,7 @@
 //! A pop, whose place is the rise of the timers' count of pops.
 ghost use Rattle.std.specs.Prelude.{◌≡◌, ◌≤◌, ◌<◌, ◌+◌, ℕ, true, false, IfNone, IfSome};
 ghost use Rattle.hr_timers.specs.Known.{IsPassOf, KeepsLocks};
-ghost use Rattle.ordered_signals.specs.Places.{HasSignalRing, PopStands, PopsDiffer, StandsAt, pops_told, pushes_told};
+ghost use Rattle.ordered_signals.specs.Places.{HasSignalRing, PopStands, PopsDiffer, RingStandsAt, pops_told, pushes_told};
 ghost use Rattle.pass_names.specs.Passes.{Looks};
 ghost use Rattle.pass_names.specs.SharedHistory.{LooksOn};
 ghost use Rattle.signal_queue.specs.Calls.{PopsSignal};
@@ -111,7 +111,7 @@ fn is_empty(timers: &Timers, pass: &mut Pass, count: u64, put: u64) -> bool
     ensures pass { IsPassOf timers.now pass.new }
     ensures looks { LooksOn pass.old.known pass.new.known }
     ensures locks { KeepsLocks pass.old pass.new }
-    ensures stands { result ≡ true → StandsAt timers.now.about pass.old.known.seen pass.new.known.seen count count }
+    ensures stands { result ≡ true → RingStandsAt timers.now.about pass.old.known.seen pass.new.known.seen count count }
     ensures why { result ≡ false → PopsDiffer timers.now.about count pass.new.known.seen }
 {
     if put > count {

@@ -1,7 +1,7 @@
 //! A push, whose place is the rise of the timers' count of pushes.
 ghost use Rattle.std.specs.Prelude.{◌≡◌, ◌≤◌, ◌<◌, ◌+◌, ℕ, true, false, IfNone, IfSome};
 ghost use Rattle.hr_timers.specs.Known.{IsPassOf, KeepsLocks};
-ghost use Rattle.ordered_signals.specs.Places.{HasSignalRing, PushStands, PushesDiffer, StandsAt, pops_told, pushes_told};
+ghost use Rattle.ordered_signals.specs.Places.{HasSignalRing, PushStands, PushesDiffer, RingStandsAt, pops_told, pushes_told};
 ghost use Rattle.pass_names.specs.Passes.{Looks};
 ghost use Rattle.pass_names.specs.SharedHistory.{LooksOn};
 ghost use Rattle.signal_queue.specs.Calls.{PushesSignal};
@@ -114,7 +114,7 @@ fn is_full(timers: &Timers, pass: &mut Pass, count: u64, taken: u64, room: u64) 
     ensures pass { IsPassOf timers.now pass.new }
     ensures looks { LooksOn pass.old.known pass.new.known }
     ensures locks { KeepsLocks pass.old pass.new }
-    ensures stands { result ≡ true → (popped : ℕ) → popped + room ≡ count → StandsAt timers.now.about pass.old.known.seen pass.new.known.seen count popped }
+    ensures stands { result ≡ true → (popped : ℕ) → popped + room ≡ count → RingStandsAt timers.now.about pass.old.known.seen pass.new.known.seen count popped }
     ensures why { result ≡ false → PushesDiffer timers.now.about room count pass.new.known.seen }
 {
     let Some(popped) = count.checked_sub(room) else {

@@ -37,12 +37,7 @@ impl<'a, S: Side> Model for LentEnd<'a, S> {
 
 impl<'a, S: Side> LentEnd<'a, S> {
     /// The end that lay in this lock, of the queue that this ring is.
-    pub(crate) fn new(
-        ring: &'a Ring,
-        lock: &'a EndLock<S>,
-        end: End,
-        hold: Hold,
-    ) -> LentEnd<'a, S>
+    pub(crate) fn new(ring: &'a Ring, lock: &'a EndLock<S>, end: End, hold: Hold) -> LentEnd<'a, S>
         requires end { S.is_end lock.now.of end }
         requires holds { HoldsLock lock.now None hold }
         requires queue { lock.now.of.table_id ≡ ring.now.table.shared.table_id }

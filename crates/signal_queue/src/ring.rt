@@ -141,12 +141,7 @@ fn count_of_pops(answer: &Option<Signal>, count: u64, next: u64) -> u64
 }
 
 /// Pops with an end that is lent for it, and answers the end too.
-pub fn pop_by<R: Wait>(
-    rt: &R,
-    ring: &Ring,
-    seat: &mut QueueSeat,
-    end: End,
-) -> (Option<Signal>, End)
+pub fn pop_by<R: Wait>(rt: &R, ring: &Ring, seat: &mut QueueSeat, end: End) -> (Option<Signal>, End)
     requires queue { IsPassOf ring.now seat.old × IsPassOf ring.now end.seat }
     requires rests { IsRestingQueueView (view seat.old) }
     requires end { IsEndView (view seat.old).room false true end.count (view end.seat) }

@@ -4,7 +4,7 @@ use Rattle.ordered_clock.proofs.Moments.{risen_at, rises}
 use Rattle.pass_names.proofs.Passes.{begins_trans}
 use Rattle.signal_queue.specs.Calls.{PopsSignal, count_taken}
 use Rattle.signal_queue.proofs.Turns.{counted}
-use Rattle.ordered_signals.specs.Places.{StandsAt, pops_seen, pushes_seen, signal_ring}
+use Rattle.ordered_signals.specs.Places.{RingStandsAt, pops_seen, pushes_seen, signal_ring}
 use Rattle.ordered_signals.proofs.Places.{stands_from}
 use Rattle.ordered_signals.proofs.popping.pop_in_turn.Goals as goal
 
@@ -44,6 +44,6 @@ returns-else-not-is_empty-clause-stands g c =
     let popped_all : pops_seen c.pop-answer.new.pass.knows ≡ c.count-count.result =
     omega (arith, told.counts.all, told.counts.more, ap count_taken c.in-None.is, c.count-count.ensures) in
     let pushed_all : pushes_seen c.pop-answer.new.pass.knows ≡ c.count-count.result = omega (arith, all, ap length none.none, popped_all) in
-    subst (λ n. StandsAt o c.args.pass.now.known.seen c.is_empty.new.pass.known.seen n (pops_seen c.pop-answer.new.pass.knows)) (sym pushed_all)
-    (subst (λ n. StandsAt o c.args.pass.now.known.seen c.is_empty.new.pass.known.seen c.count-count.result n) (sym popped_all)
+    subst (λ n. RingStandsAt o c.args.pass.now.known.seen c.is_empty.new.pass.known.seen n (pops_seen c.pop-answer.new.pass.knows)) (sym pushed_all)
+    (subst (λ n. RingStandsAt o c.args.pass.now.known.seen c.is_empty.new.pass.known.seen c.count-count.result n) (sym popped_all)
     (stands_from o (begins_trans c.taken_count.ensures.looks.seen c.put_count-put.ensures.looks.seen) (c.is_empty.ensures.stands c.if-not-is_empty.false)))

@@ -1,4 +1,4 @@
-use Rattle.std.proofs.Common.{◌≡◌, arith}
+use Rattle.std.proofs.Common.{arith}
 use Rattle.std.proofs.lemmas.Bool.{eqb-true}
 use Rattle.base_row.specs.Rings.{put_counter, taken_counter}
 use Rattle.ordered_signals.specs.Places.{signal_ring}

@@ -4,7 +4,7 @@ use Rattle.ordered_clock.proofs.Moments.{risen_at, rises}
 use Rattle.pass_names.proofs.Passes.{begins_trans}
 use Rattle.signal_queue.specs.Calls.{PushesSignal, count_put}
 use Rattle.signal_queue.proofs.Turns.{counted}
-use Rattle.ordered_signals.specs.Places.{StandsAt, pops_seen, pushes_seen, signal_ring}
+use Rattle.ordered_signals.specs.Places.{RingStandsAt, pops_seen, pushes_seen, signal_ring}
 use Rattle.ordered_signals.proofs.Places.{stands_from}
 use Rattle.ordered_signals.proofs.pushing.push_in_turn.Goals as goal
 
@@ -43,6 +43,6 @@ returns-else-not-is_full-clause-stands g c =
     let all = counted _ _ told.known.legal in
     let same : pushes_seen c.push-answer.new.pass.knows ≡ c.count-count.result =
     omega (arith, told.counts.all, told.counts.more, ap count_put c.in-Full.is, c.count-count.ensures) in
-    subst (λ n. StandsAt o c.args.pass.now.known.seen c.is_full.new.pass.known.seen n (pops_seen c.push-answer.new.pass.knows)) (sym same)
+    subst (λ n. RingStandsAt o c.args.pass.now.known.seen c.is_full.new.pass.known.seen n (pops_seen c.push-answer.new.pass.knows)) (sym same)
     (stands_from o (begins_trans c.put_count.ensures.looks.seen c.taken_count-taken.ensures.looks.seen)
     (c.is_full.ensures.stands c.if-not-is_full.false _ (omega (arith, all, full.1.full, same))))
