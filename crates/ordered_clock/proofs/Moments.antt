@@ -1,6 +1,7 @@
 -- Between two counts there is a moment with each count between them, and counts never fall.
 use Rattle.std.proofs.Common.{◌≡◌, ℕ, ◌+◌, ◌<◌, ◌≤◌, Bool, true, false, nat_eq, List, [], ◌∷◌, ◌++◌, length, refl, ap, sym, ◌∙◌, ⊎_elim, arith, if◌then◌else◌}
 use Rattle.std.proofs.lemmas.Bool.{cases_lt, eqb-true}
+use Rattle.std.proofs.lemmas.Bool.Decides.{nat_tests}
 use Rattle.std.proofs.lemmas.List.{append_assoc}
 use Rattle.pass_names.specs.Passes.{Begins}
 use Rattle.pass_names.proofs.Passes.{begins_more, begins_trans}
@@ -14,7 +15,7 @@ use Rattle.ktime.specs.declared.write.Write.{Write}
 use Rattle.clock_cell.specs.declared.view.ClockView.{ClockView}
 use Rattle.clock_cell.specs.Views.{AcceptsWrite, writes}
 use Rattle.pass_names.proofs.Passes.{begins_length}
-use Rattle.ordered_clock.specs.Moments.{IsReadBeforeItIsWritten, ReadsAt, WritesAt, clock_counter}
+use Rattle.ordered_clock.specs.Moments.{CountsAt, IsReadBeforeItIsWritten, ReadsAt, RisesAt, clock_counter}
 
 -- a counter's rise of this number stands in a list, where the count passes it; so many stand before the list
 record HasRise (k many number : ℕ) (xs : List SystemEntry) : Type 0 where
@@ -52,36 +53,38 @@ has_rise k many number (entries.Rise j ∷ xs) low high =
           (λ ys. omega (arith, ap (λ (b : Bool). if b then rises_of k ys + 1 else rises_of k ys) not)) (has_rise k many number xs low (omega (arith, top)))
     ] refl high
 
--- the clock's write of a number that wasn't told yet where a counter was looked at, and is told behind that
-pub written_at : {old mid new : List SystemEntry} (stamp : ℕ) → Begins old mid → Begins mid new → rises_of clock_counter mid < stamp
-    → stamp ≤ rises_of clock_counter new → WritesAt old new stamp
-written_at {old} {mid} {new} stamp a b low high =
-    let whole : rises_of clock_counter new ≡ rises_of clock_counter mid + rises_of clock_counter b.rest =
-    ap (rises_of clock_counter) b.whole ∙ rises_of-append clock_counter mid b.rest in
-    let r = has_rise clock_counter (rises_of clock_counter mid) stamp b.rest low (omega (arith, whole, high)) in record {
+one_rise : (k : ℕ) → rises_of k (entries.Rise k ∷ []) ≡ 1
+one_rise k = elim (nat_eq k k) as (λ q. nat_eq k k ≡ q → (if q then 0 + 1 else 0) ≡ 1) [ true ↦ λ is. refl | false ↦ λ not. absurd (grind (arith, nat_tests, not)) ] refl
+
+-- the rise of a number that a counter hadn't reached where it was looked at, and has behind that
+pub risen_at : (k : ℕ) {old mid new : List SystemEntry} (number : ℕ) → Begins old mid → Begins mid new → rises_of k mid < number → number ≤ rises_of k new
+    → RisesAt k old new number
+risen_at k {old} {mid} {new} number a b low high =
+    let whole : rises_of k new ≡ rises_of k mid + rises_of k b.rest = ap (rises_of k) b.whole ∙ rises_of-append k mid b.rest in
+    let r = has_rise k (rises_of k mid) number b.rest low (omega (arith, whole, high)) in record {
       before = mid ++ r.before;
       from = begins_trans a (begins_more mid r.before);
       seen = record {
         rest = r.later;
-        whole = b.whole ∙ (ap (λ zs. mid ++ zs) r.whole ∙ (sym (append_assoc mid r.before (entries.Rise clock_counter ∷ r.later))
-            ∙ sym (append_assoc (mid ++ r.before) (entries.Rise clock_counter ∷ []) r.later)));
+        whole = b.whole ∙ (ap (λ zs. mid ++ zs) r.whole ∙ (sym (append_assoc mid r.before (entries.Rise k ∷ r.later))
+            ∙ sym (append_assoc (mid ++ r.before) (entries.Rise k ∷ []) r.later)));
       };
-      count = omega (arith, rises_of-append clock_counter mid r.before, r.count);
+      count = omega (arith, rises_of-append k mid r.before, r.count);
     }
 
--- the moment of a reading: where the counter was looked at, or right behind the last of its writes
-pub read_at : {old mid new : List SystemEntry} (stamp : ℕ) → Begins old mid → Begins mid new → rises_of clock_counter mid ≤ stamp
-    → stamp ≤ rises_of clock_counter new → ReadsAt old new stamp
-read_at {old} {mid} {new} stamp a b low high =
+-- the moment of a count: where the counter was looked at, or right behind the last of its rises
+pub counted_at : (k : ℕ) {old mid new : List SystemEntry} (number : ℕ) → Begins old mid → Begins mid new → rises_of k mid ≤ number → number ≤ rises_of k new
+    → CountsAt k old new number
+counted_at k {old} {mid} {new} number a b low high =
     ⊎_elim
-    (λ (more : rises_of clock_counter mid < stamp). let w = written_at stamp a b more high in record {
-      at = w.before ++ entries.Rise clock_counter ∷ [];
-      from = begins_trans w.from (begins_more w.before (entries.Rise clock_counter ∷ []));
+    (λ (more : rises_of k mid < number). let w = risen_at k number a b more high in record {
+      at = w.before ++ entries.Rise k ∷ [];
+      from = begins_trans w.from (begins_more w.before (entries.Rise k ∷ []));
       seen = w.seen;
-      count = rises_of-append clock_counter w.before (entries.Rise clock_counter ∷ []) ∙ w.count;
+      count = omega (arith, rises_of-append k w.before (entries.Rise k ∷ []), one_rise k, w.count);
     })
     (λ same. record { at = mid; from = a; seen = b; count = omega (arith, low, same) })
-    (cases_lt (rises_of clock_counter mid) stamp)
+    (cases_lt (rises_of k mid) number)
 
 -- a count never falls
 pub rises : (k : ℕ) {xs ys : List SystemEntry} → Begins xs ys → rises_of k xs ≤ rises_of k ys

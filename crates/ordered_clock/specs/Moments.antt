@@ -1,5 +1,5 @@
 -- Where the clock's readings and writes stand among the entries of timers. Counter 0 of the timers repeats the number of the clock's writes, so the k-th of
--- its rises is the place of the k-th write.
+-- its rises is the place of the k-th write. So it is of any shared thing whose changes a counter repeats.
 use Rattle.std.specs.Prelude.{ℕ, ◌≡◌, ◌+◌, ◌≤◌, List, [], ◌∷◌, ◌++◌, length, Result, IfOk, OnErr}
 use Rattle.clock_cell.specs.Views.{reading_after, seen_reading, writes}
 use Rattle.clock_cell.specs.declared.view.ClockView.{ClockView}
@@ -21,19 +21,27 @@ clock_counter = 0
 abbrev pub told : KnownOfTimers → ℕ
 told k = rises_of clock_counter k.seen
 
--- At a moment between what was seen before and what is seen after, the clock had so many writes.
-pub record ReadsAt (old new : List SystemEntry) (stamp : ℕ) : Type 0 where
+-- At a moment between what was seen before and what is seen after, a counter had risen so often.
+pub record CountsAt (counter : ℕ) (old new : List SystemEntry) (number : ℕ) : Type 0 where
   pub at : List SystemEntry
   pub from : Begins old at
   pub seen : Begins at new
-  pub count : rises_of clock_counter at ≡ stamp
+  pub count : rises_of counter at ≡ number
 
--- Between what was seen before and what is seen after stands the clock's write of this number.
-pub record WritesAt (old new : List SystemEntry) (stamp : ℕ) : Type 0 where
+-- Between what was seen before and what is seen after stands a counter's rise of this number.
+pub record RisesAt (counter : ℕ) (old new : List SystemEntry) (number : ℕ) : Type 0 where
   pub before : List SystemEntry
   pub from : Begins old before
-  pub seen : Begins (before ++ entries.Rise clock_counter ∷ []) new
-  pub count : rises_of clock_counter before + 1 ≡ stamp
+  pub seen : Begins (before ++ entries.Rise counter ∷ []) new
+  pub count : rises_of counter before + 1 ≡ number
+
+-- At a moment between what was seen before and what is seen after, the clock had so many writes.
+abbrev pub ReadsAt : List SystemEntry → List SystemEntry → ℕ → Type 0
+ReadsAt old new stamp = CountsAt clock_counter old new stamp
+
+-- Between what was seen before and what is seen after stands the clock's write of this number.
+abbrev pub WritesAt : List SystemEntry → List SystemEntry → ℕ → Type 0
+WritesAt old new stamp = RisesAt clock_counter old new stamp
 
 -- A write that the clock took has a place between what was seen before and after, and one that it refused had a reading at a moment between them, by which it
 -- was refused. Afterwards the timers are told of all the writes that the pass of the clock has seen.

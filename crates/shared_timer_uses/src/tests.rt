@@ -9,6 +9,7 @@ mod of_base_row;
 mod of_clock_cell;
 mod of_hr_timers;
 mod of_ordered_clock;
+mod of_ordered_signals;
 mod of_rings;
 mod threads;
 

@@ -34,6 +34,8 @@ agrees_on log more v b no_push no_pop agrees = record {
   gone = agrees.gone;
   pushes = λ on. let told = agrees.pushes on in (no_push on ∙ told.0, told.1);
   pops = λ on. no_pop on ∙ agrees.pops on;
+  pushes_made = λ on. agrees.pushes_made on ∙ ap length (sym (no_push on));
+  pops_made = λ on. agrees.pops_made on ∙ ap length (sym (no_pop on));
 }
 
 -- where one has an end, no other has

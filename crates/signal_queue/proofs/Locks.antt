@@ -7,6 +7,7 @@ use lib.ListN.{get_elem?}
 use Rattle.atomic_table.specs.Table.{Act, Allows, Arrives, Enters, Me, State, Valid, carried_after, gives, homes_after, keeps, step, stepped, takes}
 use Rattle.atomic_table.proofs.Lists.{at_set}
 use Rattle.signal_queue.specs.Ends.{SeatOfQueue}
+use Rattle.signal_queue.specs.declared.ends.End.{End}
 use Rattle.signal_queue.specs.Locks.{FreesLock, IsLock, SeesLock, TriesLock, first_lock_view, idle_lock_view}
 use Rattle.signal_queue.specs.declared.lock.LockView.{LockView}
 use Rattle.signal_queue.specs.declared.lock.Past.{Past}
@@ -19,14 +20,14 @@ last_is [] w v (suc j) e = absurd (some-ne-none v (sym e))
 last_is (x ∷ xs) w v zero e = inl e
 last_is (x ∷ xs) w v (suc j) e = ⊎_elim (λ t. inl t) (λ t. inr (ap suc t.0, t.1)) (last_is xs w v j e)
 
-module _ (is_end : SeatOfQueue → SeatOfQueue → Type 0) (of : SeatOfQueue) where
+module _ (is_end : SeatOfQueue → End → Type 0) (of : SeatOfQueue) where
   -- what a try of a lock in this state has to show
-  abbrev Goes : State (Option SeatOfQueue) LockView → Type 0
-  Goes s = (w : LockView) × (a : Act (Option SeatOfQueue)) × Valid s.homes [] a
+  abbrev Goes : State (Option End) LockView → Type 0
+  Goes s = (w : LockView) × (a : Act (Option End)) × Valid s.homes [] a
       × IsLock is_end of record { words = slice_set s.words 0 1; homes = homes_after s.homes [] a; views = s.views ++ w ∷ [] }
       × TriesLock is_end (step 1 0 1 0 none) (first_lock_view of, []) (slice_index s.words 0) (w, carried_after [] a)
 
-  goes_free : (end : SeatOfQueue) (views : List LockView) → is_end of end
+  goes_free : (end : End) (views : List LockView) → is_end of end
       → ((j : ℕ) (v : LockView) → get_elem? views j ≡ some v → (v.of ≡ of) × (v.holds ≡ false))
       → Goes (record { words = 0 ∷ []; homes = some (Some end) ∷ []; views = views })
   goes_free end views fits known = (
@@ -73,7 +74,7 @@ module _ (is_end : SeatOfQueue → SeatOfQueue → Type 0) (of : SeatOfQueue) wh
       subst Goes (sym (λ i. record { words = taken.words i; homes = taken.homes i; views = s.views })) (goes_taken taken.by s.views taken.views)
 
   -- what a look at a lock in this state has to show
-  abbrev Looks : State (Option SeatOfQueue) LockView → Type 0
+  abbrev Looks : State (Option End) LockView → Type 0
   Looks s = (w : LockView) × IsLock is_end of record { words = s.words; homes = s.homes; views = s.views ++ w ∷ [] }
       × SeesLock (step 1 0 0 0 none) (first_lock_view of, []) (slice_index s.words 0) (w, [])
 
@@ -105,14 +106,14 @@ module _ (is_end : SeatOfQueue → SeatOfQueue → Type 0) (of : SeatOfQueue) wh
 
   -- ---- the end is put back
 
-  abbrev pub held : SeatOfQueue → Me (Option SeatOfQueue) LockView
+  abbrev pub held : End → Me (Option End) LockView
   held end = (record { of = of; holds = true; past = New }, (0, Some end) ∷ [])
 
-  abbrev Returns : ℕ → SeatOfQueue → State (Option SeatOfQueue) LockView → Type 0
-  Returns id end s = (w : LockView) × (a : Act (Option SeatOfQueue)) × Valid s.homes (held end).1 a × IsLock is_end of (stepped s 0 0 id (held end).1 w a)
+  abbrev Returns : ℕ → End → State (Option End) LockView → Type 0
+  Returns id end s = (w : LockView) × (a : Act (Option End)) × Valid s.homes (held end).1 a × IsLock is_end of (stepped s 0 0 id (held end).1 w a)
       × FreesLock (step 1 0 0 0 none) (held end) 0 (w, carried_after (held end).1 a)
 
-  returns_taken : (id : ℕ) (end : SeatOfQueue) (by : ℕ) (views : List LockView) → is_end of end
+  returns_taken : (id : ℕ) (end : End) (by : ℕ) (views : List LockView) → is_end of end
       → ((j : ℕ) (v : LockView) → get_elem? views j ≡ some v → (v.of ≡ of) × (v.holds ≡ true → j ≡ by))
       → get_elem? views id ≡ some (held end).0
       → Returns id end (record { words = 1 ∷ []; homes = none ∷ []; views = views })
@@ -133,15 +134,15 @@ module _ (is_end : SeatOfQueue → SeatOfQueue → Type 0) (of : SeatOfQueue) wh
         refl,
       )
 
-  pub returns : (slots id : ℕ) (end : SeatOfQueue) → is_end of end → Allows (IsLock is_end of) slots id (held end) 0 (λ n. 0) (λ n. FreesLock (step slots 0 0 0 none) (held end) 0)
+  pub returns : (slots id : ℕ) (end : End) → is_end of end → Allows (IsLock is_end of) slots id (held end) 0 (λ n. 0) (λ n. FreesLock (step slots 0 0 0 none) (held end) 0)
   returns slots id end fits s (inl free) many at small = absurd (true≢false ((free.views id (held end).0 at).1))
   returns slots id end fits s (inr taken) many at small =
       subst (Returns id end) (sym (λ i. record { words = taken.words i; homes = taken.homes i; views = s.views }))
       (returns_taken id end taken.by s.views fits taken.views at)
 
 -- what lies in a slot is one thing
-pub same_slot : (k : ℕ) (x y : Option SeatOfQueue) (xs ys : List (ℕ × Option SeatOfQueue)) → (k, x) ∷ xs ≡ (k, y) ∷ ys → x ≡ y
-same_slot k x y xs ys e = ap (λ (l : List (ℕ × Option SeatOfQueue)). (get_or {A = ℕ × Option SeatOfQueue} l 0 (k, x)).1) e
+pub same_slot : (k : ℕ) (x y : Option End) (xs ys : List (ℕ × Option End)) → (k, x) ∷ xs ≡ (k, y) ∷ ys → x ≡ y
+same_slot k x y xs ys e = ap (λ (l : List (ℕ × Option End)). (get_or {A = ℕ × Option End} l 0 (k, x)).1) e
 
-pub same_end : (x y : SeatOfQueue) → Some x ≡ Some y → x ≡ y
+pub same_end : (x y : End) → Some x ≡ Some y → x ≡ y
 same_end x y e = cc

@@ -20,7 +20,7 @@ no_write (suc i) k = grind (arith, nat_tests)
 agrees_first : (j : ℕ) (v : QueueView) → get_elem? (first_queue_view ∷ []) j ≡ some v → QueueAgrees [] v
 agrees_first zero v e =
     subst (λ u. QueueAgrees [] u) (some-injective first_queue_view v e)
-    (record { seen = goes_refl ([] ∷ []); heard = All-nil (λ ws. Begins ws []); gone = λ off. refl; pushes = λ on. (refl, omega arith); pops = λ on. refl })
+    (record { seen = goes_refl ([] ∷ []); heard = All-nil (λ ws. Begins ws []); gone = λ off. refl; pushes = λ on. (refl, omega arith); pops = λ on. refl; pushes_made = λ on. refl; pops_made = λ on. refl })
 agrees_first (suc j) v e = absurd (some-ne-none v (sym e))
 
 knows_first : (j : ℕ) (v : QueueView) → get_elem? (first_queue_view ∷ []) j ≡ some v → v.pass.id.live ≡ true → v.room ≡ 0

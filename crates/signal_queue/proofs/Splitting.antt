@@ -1,6 +1,6 @@
 -- Passes are split off and taken in, ends are lent and given back, and the rule stays.
-use Rattle.std.proofs.Common.{◌≡◌, ◌≤◌, ℕ, ◌+◌, ◌⊎◌, inl, inr, Bool, true, false, List, [], ◌∷◌, ◌++◌, length, map, set, refl, ap, sym, ◌∙◌, subst, ⊎_elim, arith}
-use Rattle.std.specs.Prelude.{◌||◌, ◌&&◌}
+use Rattle.std.proofs.Common.{◌≡◌, ◌≤◌, ℕ, ◌+◌, Bool, true, false, List, [], ◌∷◌, ◌++◌, length, map, set, refl, ap, sym, ◌∙◌, subst, arith}
+use Rattle.std.specs.Prelude.{◌||◌}
 use Rattle.std.proofs.lemmas.Bool.{true≢false}
 use Rattle.std.proofs.lemmas.List.{map-append, map-set}
 use Rattle.std.proofs.lemmas.List.Elements.{All-nil, All-cons, All-append}
@@ -32,6 +32,8 @@ agrees_gone log = record {
   gone = λ off. refl;
   pushes = λ on. absurd (true≢false (sym on));
   pops = λ on. absurd (true≢false (sym on));
+  pushes_made = λ on. absurd (true≢false (sym on));
+  pops_made = λ on. absurd (true≢false (sym on));
 }
 
 pub splits : (id : ℕ) (v : QueueView) → v.pass.id.live ≡ true → Forks QueueInvariant id v (split_queue_view v) (new_queue_view v)
@@ -40,13 +42,23 @@ splits id v live items views inv at =
     let w = new_queue_view v in
     let v' = split_queue_view v in
     grown items views inv id v v' w at
-    (record { seen = agrees.seen; heard = agrees.heard; gone = agrees.gone; pushes = agrees.pushes; pops = agrees.pops })
+    (record {
+      seen = agrees.seen;
+      heard = agrees.heard;
+      gone = agrees.gone;
+      pushes = agrees.pushes;
+      pops = agrees.pops;
+      pushes_made = agrees.pushes_made;
+      pops_made = agrees.pops_made;
+    })
     (record {
       seen = agrees.seen;
       heard = agrees.heard;
       gone = λ off. refl;
       pushes = λ on. absurd (true≢false (sym on));
       pops = λ on. absurd (true≢false (sym on));
+      pushes_made = λ on. absurd (true≢false (sym on));
+      pops_made = λ on. absurd (true≢false (sym on));
     })
     inv.room inv.legal (inv.rooms id v at) (λ on. inv.rooms id v at live) (λ j u apart at_u. inv.rooms j u at_u)
     (subst IsPassTree
@@ -75,6 +87,8 @@ joins id other v w live live_w answers v_push w_push v_pop w_pop items views inv
       gone = λ off. absurd (true≢false (sym live ∙ off));
       pushes = λ on. absurd (true≢false (sym on));
       pops = λ on. absurd (true≢false (sym on));
+      pushes_made = λ on. absurd (true≢false (sym on));
+      pops_made = λ on. absurd (true≢false (sym on));
     })
     (agrees_gone inv.log) (λ on. inv.rooms id v at live) (λ on. absurd (true≢false (sym on)))
     (subst IsPassTree
@@ -95,20 +109,19 @@ pushes_on room most a b legal told =
     let all = pushed_between a b told.0 in
     (all, omega (arith, fewer_wait room a (legal_begin room b legal) (sym all ∙ told.0), told.1))
 
-or_cases : (a b : Bool) → (a || b) ≡ true → (a ≡ true) ⊎ (b ≡ true)
-or_cases true b e = inl refl
-or_cases false b e = inr e
+or_second : (a b : Bool) → a ≡ false → (a || b) ≡ true → b ≡ true
+or_second true b off e = absurd (true≢false off)
+or_second false b off e = e
 
-or_sum : (a b : Bool) → (a && b) ≡ false → one_if (a || b) + 0 ≡ one_if a + one_if b
-or_sum true true e = absurd (true≢false e)
-or_sum true false e = refl
-or_sum false true e = refl
-or_sum false false e = refl
+or_sum : (a b : Bool) → a ≡ false → one_if (a || b) + 0 ≡ one_if a + one_if b
+or_sum true b off = absurd (true≢false off)
+or_sum false true off = refl
+or_sum false false off = refl
 
 pub lends : (id other : ℕ) (v w : QueueView) → v.pass.id.live ≡ true → w.pass.id ≡ gone_pass_id → w.pass.mine ≡ [] → w.room ≡ v.room
-    → (v.pushes && w.pushes) ≡ false → (v.pops && w.pops) ≡ false
+    → v.pushes ≡ false → v.pops ≡ false
     → Merges QueueInvariant id v other w (lent_queue_view v w) gone_queue_view
-lends id other v w live off none room push pop items views inv at apart at_other =
+lends id other v w live off none room no_push no_pop items views inv at apart at_other =
     let l = lent_queue_view v w in
     let at_w : get_elem? views other ≡ some w = sym (set_else views id other l apart) ∙ at_other in
     let P : List Turn → Type 0 = λ ts. Begins ts inv.log in
@@ -116,7 +129,7 @@ lends id other v w live off none room push pop items views inv at apart at_other
     let heard = inv.each_view other w at_w in
     let mine = agrees.seen.each 0 in
     let theirs = heard.seen.each 0 in
-    let both = goes_on (turns v) (turns w) inv.log mine theirs in
+    let theirs_first = (goes_on (turns v) (turns w) inv.log mine theirs).1 in
     let on = longer_begins (turns v) (turns w) inv.log mine theirs in
     merged items views inv id other v l w gone_queue_view at at_other
     (record {
@@ -124,16 +137,17 @@ lends id other v w live off none room push pop items views inv at apart at_other
       heard = All-cons P (turns v) (turns w ∷ v.heard ++ w.heard) mine
           (All-cons P (turns w) (v.heard ++ w.heard) theirs (All-append P v.heard w.heard agrees.heard heard.heard));
       gone = λ e. absurd (true≢false (sym live ∙ e));
-      pushes = λ may. ⊎_elim (λ t. pushes_on inv.room v.room both.0 on inv.legal (agrees.pushes t))
-          (λ t. pushes_on inv.room v.room both.1 on inv.legal
-          (let told = heard.pushes t in (told.0, subst (λ n. length (waiting_after [] (turns w)) ≤ n) room told.1))) (or_cases v.pushes w.pushes may);
-      pops = λ may. ⊎_elim (λ t. popped_between both.0 on (agrees.pops t)) (λ t. popped_between both.1 on (heard.pops t)) (or_cases v.pops w.pops may);
+      pushes = λ may. pushes_on inv.room v.room theirs_first on inv.legal
+          (let told = heard.pushes (or_second v.pushes w.pushes no_push may) in (told.0, subst (λ n. length (waiting_after [] (turns w)) ≤ n) room told.1));
+      pops = λ may. popped_between theirs_first on (heard.pops (or_second v.pops w.pops no_pop may));
+      pushes_made = λ may. heard.pushes_made (or_second v.pushes w.pushes no_push may);
+      pops_made = λ may. heard.pops_made (or_second v.pops w.pops no_pop may);
     })
     (agrees_gone inv.log) (λ on. inv.rooms id v at live) (λ on. absurd (true≢false (sym on)))
     (subst IsPassTree
     (sym (map_kept queue_pass_id (set views id l) other w gone_queue_view at_other (sym off) ∙ map_kept queue_pass_id views id v l at refl)) inv.tree)
     (λ i k. omega (arith, ap (count (is_place i k)) none))
-    (or_sum v.pushes w.pushes push) (or_sum v.pops w.pops pop)
+    (or_sum v.pushes w.pushes no_push) (or_sum v.pops w.pops no_pop)
     apart (λ h. record { live = live; all = all_first (turns v) (turns w) inv.log mine theirs h.all })
     (λ h. record { live = live; all = all_second (turns v) (turns w) inv.log mine theirs h.all })
 
@@ -149,6 +163,8 @@ gives id v items views inv at =
       gone = agrees.gone;
       pushes = λ on. absurd (true≢false (sym on));
       pops = λ on. absurd (true≢false (sym on));
+      pushes_made = λ on. absurd (true≢false (sym on));
+      pops_made = λ on. absurd (true≢false (sym on));
     })
     (record {
       seen = goes_one (turns v) inv.log (agrees.seen.each 0);
@@ -156,6 +172,8 @@ gives id v items views inv at =
       gone = λ e. refl;
       pushes = agrees.pushes;
       pops = agrees.pops;
+      pushes_made = agrees.pushes_made;
+      pops_made = agrees.pops_made;
     })
     inv.room inv.legal (inv.rooms id v at) (λ on. absurd (true≢false (sym on))) (λ j u apart at_u. inv.rooms j u at_u)
     (subst IsPassTree (sym (map-append queue_pass_id (set views id v') (w ∷ []) ∙ ap (λ ls. ls ++ gone_pass_id ∷ []) (map_kept queue_pass_id views id v v' at refl)))
@@ -179,6 +197,8 @@ opens_ends id most v first items views inv at =
       gone = agrees.gone;
       pushes = λ on. let told = agrees.pushes on in (told.0, omega (arith, told.1, small));
       pops = λ on. absurd (true≢false (sym on));
+      pushes_made = agrees.pushes_made;
+      pops_made = λ on. absurd (true≢false (sym on));
     })
     (record {
       seen = goes_one (turns v) inv.log (agrees.seen.each 0);
@@ -186,6 +206,8 @@ opens_ends id most v first items views inv at =
       gone = λ e. refl;
       pushes = λ on. absurd (true≢false (sym on));
       pops = agrees.pops;
+      pushes_made = λ on. absurd (true≢false (sym on));
+      pops_made = agrees.pops_made;
     })
     most (subst (AreTurns most []) (sym none) tt) (λ on. refl) (λ on. absurd (true≢false (sym on)))
     (λ j u apart at_u on. absurd (apart (alone_last inv id v at live last j u at_u on)))

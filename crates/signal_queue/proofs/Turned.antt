@@ -1,5 +1,5 @@
 -- What a pass knows after a call that was lent an end: what the ring told it, and what it had seen before.
-use Rattle.std.proofs.Common.{◌≡◌, ℕ, Bool, true, false, List, [], ◌∷◌, ◌++◌, length, refl, ap, sym, ◌∙◌, subst, arith}
+use Rattle.std.proofs.Common.{◌≡◌, ℕ, ◌+◌, Bool, true, false, List, [], ◌∷◌, ◌++◌, length, refl, ap, sym, ◌∙◌, subst, arith}
 use Rattle.std.specs.Prelude.{All, ◌||◌, Option, Some, None}
 use Rattle.std.proofs.lemmas.List.Elements.{All-nil, All-cons, All-append, All-head, All-tail, All-weaker}
 use Rattle.crossbeam_queue.specs.Fifo.{Held}
@@ -9,10 +9,10 @@ use Rattle.signal_queue.specs.declared.signal.Signal.{Signal}
 use Rattle.signal_queue.specs.declared.signal.Turn.{Turn}
 use Rattle.signal_queue.specs.declared.signals.Push.{Push}
 use Rattle.signal_queue.specs.declared.signals.Push.TheVariants.{Full, Queued}
-use Rattle.signal_queue.specs.Calls.{FindsEmpty, FindsFull, MakesTurn, PopsLent, PopsSignal, PushesLent, PushesSignal, RuleHeld}
+use Rattle.signal_queue.specs.Calls.{FindsEmpty, FindsFull, MakesTurn, PopsLent, PopsSignal, PushesLent, PushesSignal, RuleHeld, count_put, count_taken}
 use Rattle.signal_queue.specs.declared.view.QueueView.{QueueView}
 use Rattle.signal_queue.specs.Rules.{turns, QueueAgrees}
-use Rattle.signal_queue.specs.Turns.{AreTurns}
+use Rattle.signal_queue.specs.Turns.{AreTurns, popped, pushed}
 use Rattle.signal_queue.specs.Views.{IsEndView, IsRestingQueueView, joined_queue_view, lent_queue_view, longer_turns, rid_queue_view}
 use Rattle.signal_queue.proofs.Turns.{full_is_seen, legal_begin, none_is_seen}
 use Rattle.signal_queue.proofs.Frames.{goes_one}
@@ -35,7 +35,7 @@ pub pops_id : (v w : QueueView) (answer : Option Signal) → PopsSignal v w answ
 pops_id v w (Some s) told = told.id
 pops_id v w None told = told.looks.id
 
-module _ {v e : QueueView} {most : ℕ} {pushing popping : Bool} (rests : IsRestingQueueView v) (end : IsEndView most pushing popping e) where
+module _ {v e : QueueView} {most : ℕ} {pushing popping : Bool} {n : ℕ} (rests : IsRestingQueueView v) (end : IsEndView most pushing popping n e) where
   abbrev lent : QueueView
   lent = lent_queue_view v e
 
@@ -100,15 +100,15 @@ module _ {v e : QueueView} {most : ℕ} {pushing popping : Bool} (rests : IsRest
         no_pop = refl;
       }
 
-  pub finds_full : (n : ℕ) → lent.pushes ≡ true → v.room ≡ n → Held n (RuleHeld lent) → FindsFull n v (rid_queue_view lent)
-  finds_full n may room held =
+  pub finds_full : (room : ℕ) → lent.pushes ≡ true → v.room ≡ room → Held room (RuleHeld lent) → FindsFull room v (rid_queue_view lent)
+  finds_full room may same held =
       let shown = held.2 in
       let inv = shown.2 in
       let agrees = inv.each_view shown.1 lent shown.3 in
       let told = agrees.pushes may in
       record {
         looks = looks shown;
-        full = full_is_seen inv.room n (agrees.seen.each 0) inv.legal told.0 (omega (arith, told.1, room)) (ap length (sym inv.shows) ∙ held.1);
+        full = full_is_seen inv.room room (agrees.seen.each 0) inv.legal told.0 (omega (arith, told.1, same)) (ap length (sym inv.shows) ∙ held.1);
       }
 
   pub finds_empty : lent.pops ≡ true → Held 0 (RuleHeld lent) → FindsEmpty v (rid_queue_view lent)
@@ -126,11 +126,11 @@ module _ {v e : QueueView} {most : ℕ} {pushing popping : Bool} (rests : IsRest
   or_right false b on = on
 
   -- what a push told a pass that was lent the end for it
-  push_told : (n : ℕ) (s : Signal) (answer : Push) (w : QueueView) → e.pushes ≡ true → v.room ≡ n → PushesLent n lent w s answer
-      → PushesSignal n v (rid_queue_view w) s answer × IsRestingQueueView (rid_queue_view w)
-  push_told n s Queued w on room told = ((made_adds told, told.within (told.same_push ∙ or_right v.pushes e.pushes on)), made_rests told)
-  push_told n s (Full most) w on room told =
-      let full = finds_full n (or_right v.pushes e.pushes on) room told.2 in (
+  push_told : (room : ℕ) (s : Signal) (answer : Push) (w : QueueView) → e.pushes ≡ true → v.room ≡ room → PushesLent room lent w s answer
+      → PushesSignal room v (rid_queue_view w) s answer × IsRestingQueueView (rid_queue_view w)
+  push_told room s Queued w on same told = ((made_adds told, told.within (told.same_push ∙ or_right v.pushes e.pushes on)), made_rests told)
+  push_told room s (Full most) w on same told =
+      let full = finds_full room (or_right v.pushes e.pushes on) same told.2 in (
         (told.0, subst (λ u. FindsFull most v (rid_queue_view u)) (sym told.1) (subst (λ m. FindsFull m v (rid_queue_view lent)) (sym told.0) full)),
         subst (λ u. IsRestingQueueView (rid_queue_view u)) (sym told.1) (looked_rests told.2.2),
       )
@@ -144,12 +144,51 @@ module _ {v e : QueueView} {most : ℕ} {pushing popping : Bool} (rests : IsRest
   )
   pop_told (Some s) w on told = (made_adds told, made_rests told)
 
+  -- how many pushes the pass has then seen, and the end has made
+  abbrev Counted : ℕ → ℕ → QueueView → Type 0
+  Counted seen more w = (w.made ≡ n + more) × (seen ≡ n + more)
+
+  push_counted : (room : ℕ) (s : Signal) (answer : Push) (w : QueueView) → e.pushes ≡ true → PushesLent room lent w s answer
+      → Counted (length (pushed (turns w))) (count_put answer) w
+  push_counted room s Queued w on told =
+      let more : w.made ≡ n + 1 = omega (arith, told.one_more, end.made) in
+      (more, sym (told.pushes_made (told.same_push ∙ or_right v.pushes e.pushes on)) ∙ more)
+  push_counted room s (Full most) w on told =
+      let shown = told.2.2 in
+      let agrees = shown.2.each_view shown.1 lent shown.3 in
+      let may = or_right v.pushes e.pushes on in
+      subst (λ u. Counted (length (pushed (turns u))) 0 u) (sym told.1)
+      (omega (arith, end.made), omega (arith, end.made, agrees.pushes_made may, ap length (agrees.pushes may).0))
+
+  pop_counted : (answer : Option Signal) (w : QueueView) → e.pops ≡ true → PopsLent lent w answer → Counted (length (popped (turns w))) (count_taken answer) w
+  pop_counted (Some s) w on told =
+      let more : w.made ≡ n + 1 = omega (arith, told.one_more, end.made) in
+      (more, sym (told.pops_made (told.same_pop ∙ or_right v.pops e.pops on)) ∙ more)
+  pop_counted None w on told =
+      let shown = told.1.2 in
+      let agrees = shown.2.each_view shown.1 lent shown.3 in
+      let may = or_right v.pops e.pops on in
+      subst (λ u. Counted (length (popped (turns u))) 0 u) (sym told.0)
+      (omega (arith, end.made), omega (arith, end.made, agrees.pops_made may, ap length (agrees.pops may)))
+
   -- the same where the views are named otherwise
-  pub pushed_by : (n : ℕ) (s : Signal) (answer : Push) (l w new : QueueView) → l ≡ lent → new ≡ rid_queue_view w → e.pushes ≡ true → v.room ≡ n
-      → PushesLent n l w s answer → PushesSignal n v new s answer × IsRestingQueueView new
-  pushed_by n s answer l w new is_lent is_rid on room told =
-      subst (λ u. PushesSignal n v u s answer × IsRestingQueueView u) (sym is_rid)
-      (push_told n s answer w on room (subst (λ x. PushesLent n x w s answer) is_lent told))
+  pub pushed_by : (room : ℕ) (s : Signal) (answer : Push) (l w new : QueueView) → l ≡ lent → new ≡ rid_queue_view w → e.pushes ≡ true → v.room ≡ room
+      → PushesLent room l w s answer → PushesSignal room v new s answer × IsRestingQueueView new
+  pushed_by room s answer l w new is_lent is_rid on same told =
+      subst (λ u. PushesSignal room v u s answer × IsRestingQueueView u) (sym is_rid)
+      (push_told room s answer w on same (subst (λ x. PushesLent room x w s answer) is_lent told))
+
+  pub pushes_counted : (room : ℕ) (s : Signal) (answer : Push) (l w new : QueueView) → l ≡ lent → new ≡ rid_queue_view w → e.pushes ≡ true
+      → PushesLent room l w s answer → Counted (length (pushed (turns new))) (count_put answer) w
+  pushes_counted room s answer l w new is_lent is_rid on told =
+      subst (λ u. Counted (length (pushed (turns u))) (count_put answer) w) (sym is_rid)
+      (push_counted room s answer w on (subst (λ x. PushesLent room x w s answer) is_lent told))
+
+  pub pops_counted : (answer : Option Signal) (l w new : QueueView) → l ≡ lent → new ≡ rid_queue_view w → e.pops ≡ true → PopsLent l w answer
+      → Counted (length (popped (turns new))) (count_taken answer) w
+  pops_counted answer l w new is_lent is_rid on told =
+      subst (λ u. Counted (length (popped (turns u))) (count_taken answer) w) (sym is_rid)
+      (pop_counted answer w on (subst (λ x. PopsLent x w answer) is_lent told))
 
   pub popped_by : (answer : Option Signal) (l w new : QueueView) → l ≡ lent → new ≡ rid_queue_view w → e.pops ≡ true → PopsLent l w answer
       → PopsSignal v new answer × IsRestingQueueView new

@@ -21,6 +21,10 @@ use Rattle.pass_names.proofs.Counts.{set_there}
 use Rattle.signal_queue.proofs.Frames.{alone, goes_one, turned}
 use Rattle.signal_queue.proofs.Lasting.{each_of_last}
 
+-- a count goes on by one
+one_more : {n k m : ℕ} → m ≡ k + 1 → n ≡ k → n + 1 ≡ m
+one_more e same = omega (arith, e, same)
+
 module _ (id : ℕ) (v : QueueView) (live : v.pass.id.live ≡ true) where
   -- the turn's place is one more
   one_place : (t : Turn) (log : List Turn) (i k : ℕ)
@@ -41,14 +45,16 @@ module _ (id : ℕ) (v : QueueView) (live : v.pass.id.live ≡ true) where
   makes : (t : Turn) (items items' : List Signal) (views : List QueueView) (inv : QueueInvariant items views) → get_elem? views id ≡ some v
       → AreTurns inv.room [] (inv.log ++ t ∷ []) → items' ≡ waiting_after [] (inv.log ++ t ∷ [])
       → (v.pushes ≡ true → length items' ≤ v.room)
+      → (v.pushes ≡ true → v.made + 1 ≡ length (pushed (inv.log ++ t ∷ [])))
+      → (v.pops ≡ true → v.made + 1 ≡ length (popped (inv.log ++ t ∷ [])))
       → ((j : ℕ) (u : QueueView) → j ≢ id → get_elem? views j ≡ some u → u.pushes ≡ true → pushed (inv.log ++ t ∷ []) ≡ pushed inv.log)
       → ((j : ℕ) (u : QueueView) → j ≢ id → get_elem? views j ≡ some u → u.pops ≡ true → popped (inv.log ++ t ∷ []) ≡ popped inv.log)
       → (w : QueueView) × QueueInvariant items' (slice_set views id w) × MakesTurn t v w
-  makes t items items' views inv at legal shows few no_push no_pop =
+  makes t items items' views inv at legal shows few put taken no_push no_pop =
       let log = inv.log ++ t ∷ [] in
       let more : Begins inv.log log = begins_more inv.log (t ∷ []) in
       let agrees = inv.each_view id v at in
-      let w : QueueView = record v { pass = record v.pass { seen = log ∷ []; mine = v.pass.mine ++ (0, length inv.log + 1) ∷ [] }; heard = [] } in
+      let w : QueueView = record v { pass = record v.pass { seen = log ∷ []; mine = v.pass.mine ++ (0, length inv.log + 1) ∷ [] }; heard = []; made = v.made + 1 } in
       let next = turned items views inv id v w items' log at more shows legal
       (record {
         seen = goes_refl (log ∷ []);
@@ -56,6 +62,8 @@ module _ (id : ℕ) (v : QueueView) (live : v.pass.id.live ≡ true) where
         gone = λ off. absurd (true≢false (sym live ∙ off));
         pushes = λ on. (refl, subst (λ l. length l ≤ v.room) shows (few on));
         pops = λ on. refl;
+        pushes_made = put;
+        pops_made = taken;
       }) refl refl
       (one_place t inv.log) refl refl no_push no_pop (record { live = live; all = refl }) in (
         w,
@@ -77,15 +85,20 @@ module _ (id : ℕ) (v : QueueView) (live : v.pass.id.live ≡ true) where
           same_push = refl;
           same_pop = refl;
           within = λ on. subst (λ l. length l ≤ v.room) shows (few on);
+          one_more = refl;
+          pushes_made = put;
+          pops_made = taken;
         },
       )
 
-  pub pushes : (n : ℕ) (s : Signal) → v.pushes ≡ true → v.room ≡ n → Pushes QueueInvariant n id v s (MakesTurn (Pushed s) v)
-  pushes n s may same items views room inv at =
+  pub pushes : (n : ℕ) (s : Signal) → v.pushes ≡ true → v.pops ≡ false → v.room ≡ n → Pushes QueueInvariant n id v s (MakesTurn (Pushed s) v)
+  pushes n s may off same items views room inv at =
       makes (Pushed s) items (items ++ s ∷ []) views inv at
       (legal_push inv.room [] inv.log s inv.legal (omega (arith, room, same, inv.rooms id v at live, ap length inv.shows)))
       (ap (λ l. l ++ s ∷ []) inv.shows ∙ sym (waits_push [] inv.log s))
       (λ on. omega (arith, room, same, length-append items (s ∷ [])))
+      (λ on. one_more (ap length (pushed-append inv.log (Pushed s ∷ [])) ∙ length-append (pushed inv.log) (s ∷ [])) ((inv.each_view id v at).pushes_made on))
+      (λ on. absurd (true≢false (sym on ∙ off)))
       (λ j u apart at_u on. absurd (alone (λ x. x.pushes) views inv.one_pusher id j v u apart at at_u may on))
       (λ j u apart at_u on. popped-append inv.log (Pushed s ∷ []) ∙ append-nil (popped inv.log))
 
@@ -94,6 +107,8 @@ module _ (id : ℕ) (v : QueueView) (live : v.pass.id.live ≡ true) where
       makes (Popped s) (s ∷ items) items views inv at (legal_pop inv.room [] inv.log s items inv.legal (sym inv.shows))
       (sym (waits_pop [] inv.log s items (sym inv.shows)))
       (λ on. absurd (true≢false (sym on ∙ off)))
+      (λ on. absurd (true≢false (sym on ∙ off)))
+      (λ on. one_more (ap length (popped-append inv.log (Popped s ∷ [])) ∙ length-append (popped inv.log) (s ∷ [])) ((inv.each_view id v at).pops_made on))
       (λ j u apart at_u on. pushed-append inv.log (Popped s ∷ []) ∙ append-nil (pushed inv.log))
       (λ j u apart at_u on. absurd (alone (λ x. x.pops) views inv.one_popper id j v u apart at at_u may on))
 

@@ -1,5 +1,5 @@
 -- What a push and a pop come to.
-use Rattle.std.specs.Prelude.{◌≡◌, ℕ, true, List, [], ◌∷◌, length, All, Option, Some, None}
+use Rattle.std.specs.Prelude.{◌≡◌, ℕ, ◌+◌, true, List, [], ◌∷◌, length, All, Option, Some, None}
 use mathlib.Core.Option.{some}
 use lib.ListN.{get_elem?}
 use Rattle.crossbeam_queue.specs.Fifo.{Held}
@@ -11,7 +11,7 @@ use Rattle.signal_queue.specs.declared.signals.Push.{Push}
 use Rattle.signal_queue.specs.declared.signals.Push.TheVariants.{Queued, Full}
 use Rattle.signal_queue.specs.declared.view.QueueView.{QueueView}
 use Rattle.signal_queue.specs.Rules.{IsWithin, QueueInvariant, turns}
-use Rattle.signal_queue.specs.Turns.{waiting_after}
+use Rattle.signal_queue.specs.Turns.{popped, pushed, waiting_after}
 use Rattle.signal_queue.specs.Views.{KnowsQueue}
 
 -- ---- what callers are told
@@ -40,6 +40,25 @@ abbrev pub PopsSignal : QueueView → QueueView → Option Signal → Type 0
 PopsSignal old new (Some s) = TakesTurn old new (Popped s)
 PopsSignal old new None = FindsEmpty old new
 
+-- how many signals a push has put, and a pop has taken
+abbrev pub count_put : Push → ℕ
+count_put Queued = 1
+count_put (Full most) = 0
+
+abbrev pub count_taken : Option Signal → ℕ
+count_taken (Some s) = 1
+count_taken None = 0
+
+-- A call by an end left one by which so many more were made; the pass has seen all pushes that there were until then.
+pub record CountsPushes (old made : ℕ) (new : QueueView) (count : ℕ) : Type 0 where
+  pub more : count ≡ old + made
+  pub all : length (pushed (turns new)) ≡ count
+
+-- The same of pops.
+pub record CountsPops (old made : ℕ) (new : QueueView) (count : ℕ) : Type 0 where
+  pub more : count ≡ old + made
+  pub all : length (popped (turns new)) ≡ count
+
 -- ---- what the ring tells a pass that has an end
 
 -- at a moment of the call the rule held of these signals, and of this view among others
@@ -57,6 +76,9 @@ pub record MakesTurn (t : Turn) (old new : QueueView) : Type 0 where
   pub same_push : new.pushes ≡ old.pushes
   pub same_pop : new.pops ≡ old.pops
   pub within : new.pushes ≡ true → IsWithin new
+  pub one_more : new.made ≡ old.made + 1
+  pub pushes_made : new.pushes ≡ true → new.made ≡ length (pushed (turns new))
+  pub pops_made : new.pops ≡ true → new.made ≡ length (popped (turns new))
 
 -- Queued: the signal was put last. Full: the view stays, and as many signals as there is room for were shown.
 abbrev pub PushesLent : ℕ → QueueView → QueueView → Signal → Push → Type 0

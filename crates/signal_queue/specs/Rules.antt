@@ -43,6 +43,9 @@ pub record QueueAgrees (log : List Turn) (v : QueueView) : Type 0 where
   -- who may push has seen all pushes, and who may pop all pops
   pub pushes : v.pushes ≡ true → (pushed log ≡ pushed (turns v)) × IsWithin v
   pub pops : v.pops ≡ true → popped log ≡ popped (turns v)
+  -- and how many there were
+  pub pushes_made : v.pushes ≡ true → v.made ≡ length (pushed log)
+  pub pops_made : v.pops ≡ true → v.made ≡ length (popped log)
 
 -- a pass has seen the whole history
 pub record HasSeenAll (log : List Turn) (v : QueueView) : Type 0 where

@@ -13,6 +13,11 @@ pub record QueueOf : Type 0 where
   pub id : TableId
   pub room : ℕ
 
+-- an end of a queue that is lent, by which so many signals were pushed, or popped
+pub record EndOfQueue : Type 0 where
+  pub queue : QueueOf
+  pub count : ℕ
+
 -- a pass of a queue, and what it knows
 pub record PassOfQueue : Type 0 where
   pub queue : TableId
@@ -45,7 +50,7 @@ longer_turns xs ys = if nat_lt (length xs) (length ys) then ys else xs
 
 -- the first pass, which has both ends at first
 abbrev pub first_queue_view : QueueView
-first_queue_view = record { pass = first_pass 1; heard = []; room = 0; pushes = true; pops = true }
+first_queue_view = record { pass = first_pass 1; heard = []; room = 0; pushes = true; pops = true; made = 0 }
 
 -- after a pass was split off
 abbrev pub split_queue_view : QueueView → QueueView
@@ -53,7 +58,7 @@ split_queue_view v = record v { pass = splitter v.pass }
 
 -- the pass that was split off
 abbrev pub new_queue_view : QueueView → QueueView
-new_queue_view v = record { pass = split_off v.pass; heard = v.heard; room = v.room; pushes = false; pops = false }
+new_queue_view v = record { pass = split_off v.pass; heard = v.heard; room = v.room; pushes = false; pops = false; made = 0 }
 
 -- what two passes have seen and were told of
 abbrev pub heard_by_both : QueueView → QueueView → List (List Turn)
@@ -67,11 +72,12 @@ joined_queue_view v w = record {
   room = v.room;
   pushes = false;
   pops = false;
+  made = 0;
 }
 
 -- what is left of a pass that was taken in, or of an end that was lent
 abbrev pub gone_queue_view : QueueView
-gone_queue_view = record { pass = record { id = gone_pass_id; seen = []; mine = [] }; heard = []; room = 0; pushes = false; pops = false }
+gone_queue_view = record { pass = record { id = gone_pass_id; seen = []; mine = [] }; heard = []; room = 0; pushes = false; pops = false; made = 0 }
 
 -- ---- ends: views without a name, which pass on who may push and who may pop
 
@@ -82,6 +88,7 @@ lent_queue_view v w = record v {
   heard = heard_by_both v w;
   pushes = v.pushes || w.pushes;
   pops = v.pops || w.pops;
+  made = w.made;
 }
 
 -- a pass that has given back what it was lent
@@ -98,14 +105,21 @@ opened_view room v = record v { room = room; pops = false }
 
 -- that end
 abbrev pub opened_end : ℕ → QueueView → QueueView
-opened_end room v =
-    record { pass = record { id = gone_pass_id; seen = turns v ∷ []; mine = [] }; heard = []; room = room; pushes = false; pops = v.pops }
+opened_end room v = record {
+  pass = record { id = gone_pass_id; seen = turns v ∷ []; mine = [] };
+  heard = [];
+  room = room;
+  pushes = false;
+  pops = v.pops;
+  made = v.made;
+}
 
--- an end that isn't lent, for pushes or for pops
-pub record IsEndView (most : ℕ) (pushing popping : Bool) (v : QueueView) : Type 0 where
+-- an end that isn't lent, for pushes or for pops, by which so many were made
+pub record IsEndView (most : ℕ) (pushing popping : Bool) (count : ℕ) (v : QueueView) : Type 0 where
   pub off : v.pass.id ≡ gone_pass_id
   pub none : v.pass.mine ≡ []
   pub told : v.heard ≡ []
   pub room : v.room ≡ most
   pub pushes : v.pushes ≡ pushing
   pub pops : v.pops ≡ popping
+  pub made : v.made ≡ count

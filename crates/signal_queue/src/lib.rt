@@ -3,7 +3,9 @@
 //! so that a push that finds no room, and a pop that finds nothing, say how the one history stands.
 #![tactic(auto)]
 
+pub use ends::{Popping, Pushing, Side};
 pub use laws::each_pop_takes_the_oldest;
+pub use lending::LentEnd;
 pub use pass::SignalPass;
 pub use signal::{Signal, Turn};
 pub use signals::{Push, Signals};
@@ -11,6 +13,7 @@ pub use view::QueueView;
 
 mod ends;
 mod laws;
+mod lending;
 mod lock;
 mod pass;
 mod plays;

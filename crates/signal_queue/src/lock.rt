@@ -1,9 +1,9 @@
 //! The lock by which an end of a queue is lent: a word, 1 while the end is lent, and a slot in which the end lies while it isn't.
 ghost use Rattle.std.specs.Prelude.{◌≡◌, IfErr, IfOk, Option, Some, None};
-ghost use Rattle.signal_queue.specs.Ends.{SeatOfQueue};
+ghost use Rattle.signal_queue.specs.declared.ends.End as ends;
 ghost use Rattle.signal_queue.specs.Locks.{FoundLent, HasGivenBack, HoldsLock};
 
-use crate::ends::Side;
+use crate::ends::{End, Side};
 use crate::pass::QueueSeat;
 use atomic_table::{Play, Refused, Seat, Table, TableRule};
 use pass_names::Retries;
@@ -35,7 +35,7 @@ pub struct LockRule<S: Side> {
     side: PhantomData<S>,
 }
 
-impl<S: Side> TableRule<Option<QueueSeat>, LockView, QueueSeat> for LockRule<S> {
+impl<S: Side> TableRule<Option<End>, LockView, QueueSeat> for LockRule<S> {
     ghost use Rattle.signal_queue.specs.Locks.{IsLock, first_lock_view};
 
     ghost holds = { IsLock S.is_end };
@@ -46,7 +46,7 @@ impl<S: Side> TableRule<Option<QueueSeat>, LockView, QueueSeat> for LockRule<S> 
 /// A look whether the end is lent.
 pub struct Sees;
 
-impl Play<Option<QueueSeat>, LockView> for Sees {
+impl Play<Option<End>, LockView> for Sees {
     ghost use Rattle.signal_queue.specs.Locks.{SeesLock};
 
     ghost then = { SeesLock };
@@ -57,7 +57,7 @@ pub struct Tries<S: Side> {
     side: PhantomData<S>,
 }
 
-impl<S: Side> Play<Option<QueueSeat>, LockView> for Tries<S> {
+impl<S: Side> Play<Option<End>, LockView> for Tries<S> {
     ghost use Rattle.signal_queue.specs.Locks.{TriesLock};
 
     ghost then = { TriesLock S.is_end };
@@ -66,14 +66,14 @@ impl<S: Side> Play<Option<QueueSeat>, LockView> for Tries<S> {
 /// The end is put back.
 pub struct Frees;
 
-impl Play<Option<QueueSeat>, LockView> for Frees {
+impl Play<Option<End>, LockView> for Frees {
     ghost use Rattle.signal_queue.specs.Locks.{FreesLock};
 
     ghost then = { FreesLock };
 }
 
 /// A seat of a lock.
-pub type LockSeat = Seat<Option<QueueSeat>, LockView>;
+pub type LockSeat = Seat<Option<End>, LockView>;
 
 /// The hold of a lock, with an end or for one. It can't be dropped: only `give` takes it.
 pub struct Hold {
@@ -91,7 +91,7 @@ impl Model for Hold {
 /// The lock of an end.
 #[derive(Drop)]
 pub struct EndLock<S: Side> {
-    table: Table<Option<QueueSeat>, LockView, QueueSeat, LockRule<S>, Global>,
+    table: Table<Option<End>, LockView, QueueSeat, LockRule<S>, Global>,
 }
 
 impl<S: Side> Model for EndLock<S> {
@@ -107,7 +107,7 @@ impl<S: Side> Model for EndLock<S> {
 
 impl<S: Side> EndLock<S> {
     /// A lock with the end in it, of the queue that the other seat is of.
-    pub fn make(alloc: Global, end: QueueSeat, of: &QueueSeat) -> Result<EndLock<S>, AllocError>
+    pub fn make(alloc: Global, end: End, of: &QueueSeat) -> Result<EndLock<S>, AllocError>
         requires { S.is_end of.now end }
         ensures { IfOk result (λ l. l.of ≡ of.now) }
     {
@@ -119,7 +119,7 @@ impl<S: Side> EndLock<S> {
     }
 
     /// Takes the end, once nobody else has it.
-    pub fn take<R: Wait>(&self, rt: &R) -> (QueueSeat, Hold)
+    pub fn take<R: Wait>(&self, rt: &R) -> (End, Hold)
         ensures end { S.is_end self.now.of result.0 }
         ensures holds { HoldsLock self.now None result.1 }
     {
@@ -132,7 +132,7 @@ impl<S: Side> EndLock<S> {
     }
 
     /// One try to take the end. Where there is none, the seat is one that came when somebody else had it.
-    fn try_take(&self) -> Result<(QueueSeat, Hold), LockSeat>
+    fn try_take(&self) -> Result<(End, Hold), LockSeat>
         ensures taken { IfOk result (λ r. S.is_end self.now.of r.0 × HoldsLock self.now None r.1) }
         ensures refused { IfErr result (λ seat. FoundLent self.now seat) }
     {
@@ -145,7 +145,7 @@ impl<S: Side> EndLock<S> {
 
     /// One try to take the lock, which then has the end in its slot.
     fn try_lock(&self) -> Result<Hold, LockSeat>
-        ensures taken { IfOk result (λ hold. (end : SeatOfQueue) × (S.is_end self.now.of end × HoldsLock self.now (Some end) hold)) }
+        ensures taken { IfOk result (λ hold. (end : ends.End) × (S.is_end self.now.of end × HoldsLock self.now (Some end) hold)) }
         ensures refused { IfErr result (λ seat. FoundLent self.now seat) }
     {
         let shared = &self.table.shared;
@@ -162,7 +162,7 @@ impl<S: Side> EndLock<S> {
     }
 
     /// Gives the end back. It doesn't wait. The seat is the hold's, behind that.
-    pub fn give(&self, hold: Hold, end: QueueSeat) -> LockSeat
+    pub fn give(&self, hold: Hold, end: End) -> LockSeat
         requires end { S.is_end self.now.of end }
         requires holds { HoldsLock self.now None hold }
         ensures gave { HasGivenBack self.now hold result }
@@ -173,18 +173,18 @@ impl<S: Side> EndLock<S> {
     }
 
     /// What lies in the slot of a lock that the seat has goes out, and another comes in.
-    fn exchange(&self, seat: &mut LockSeat, new: Option<QueueSeat>) -> Option<QueueSeat>
-        requires holds { (old : Option SeatOfQueue) × HoldsLock self.now old seat.old }
+    fn exchange(&self, seat: &mut LockSeat, new: Option<End>) -> Option<End>
+        requires holds { (old : Option ends.End) × HoldsLock self.now old seat.old }
         ensures holds { HoldsLock self.now new seat.new }
         ensures same { seat.new.id ≡ seat.old.id }
-        ensures out { (old : Option SeatOfQueue) → HoldsLock self.now old seat.old → result ≡ old }
+        ensures out { (old : Option ends.End) → HoldsLock self.now old seat.old → result ≡ old }
     {
         self.table.shared.exchange(seat, 0, new)
     }
 
     /// Ends a hold.
     fn free(&self, mut seat: LockSeat) -> LockSeat
-        requires { (end : SeatOfQueue) × (S.is_end self.now.of end × HoldsLock self.now (Some end) seat) }
+        requires { (end : ends.End) × (S.is_end self.now.of end × HoldsLock self.now (Some end) seat) }
         ensures { HasGivenBack self.now seat result }
     {
         self.table.shared.store::<Frees>(&mut seat, 0, 0);

@@ -1,11 +1,12 @@
 //! The ring of a queue, and its steps: a seat is lent an end, pushes or pops, and gives the end back; seats are split off and taken in.
-ghost use Rattle.std.specs.Prelude.{◌≡◌, Bool, true, false};
+ghost use Rattle.std.specs.Prelude.{◌≡◌, ◌+◌, ℕ, Bool, true, false};
 ghost use Rattle.crossbeam_queue.specs.Passes.{IsPassOf, IsSamePass, ruled_capacity, view};
 ghost use Rattle.pass_names.specs.Names.{AnswersFor};
 ghost use Rattle.pass_names.specs.Passes.{Retires};
-ghost use Rattle.signal_queue.specs.Calls.{PopsLent, PopsSignal, PushesLent, PushesSignal};
+ghost use Rattle.signal_queue.specs.Calls.{CountsPops, CountsPushes, PopsLent, PopsSignal, PushesLent, PushesSignal, count_put, count_taken};
 ghost use Rattle.signal_queue.specs.Views.{IsEndView, IsRestingQueueView, end_queue_view, first_queue_view, lent_queue_view, opened_end, opened_view, rid_queue_view};
 
+use crate::ends::End;
 use crate::pass::QueueSeat;
 use crate::plays::{Child, Loan, Opens, Puts, QueueRule, Room, Takes};
 use crate::signal::Signal;
@@ -31,7 +32,7 @@ pub fn open<B: Room>(ring: &Ring, seat: &mut QueueSeat) -> QueueSeat
 fn lend(ring: &Ring, seat: &mut QueueSeat, end: QueueSeat)
     requires queue { IsPassOf ring.now seat.old × IsPassOf ring.now end }
     requires rests { IsRestingQueueView (view seat.old) }
-    requires end { (pushing : Bool) × ((popping : Bool) × IsEndView (view seat.old).room pushing popping (view end)) }
+    requires end { (pushing : Bool) × ((popping : Bool) × ((made : ℕ) × IsEndView (view seat.old).room pushing popping made (view end))) }
     ensures queue { IsSamePass seat.old seat.new }
     ensures lent { view seat.new ≡ lent_queue_view (view seat.old) (view end) }
 {
@@ -48,11 +49,11 @@ pub fn give_back(ring: &Ring, seat: &mut QueueSeat) -> QueueSeat
     ring.another::<Loan>(seat)
 }
 
-/// Pushes with a seat that has the end for it.
+/// Pushes with a seat that has the end for it, and not the other one.
 fn push_lent<R: Wait>(rt: &R, ring: &Ring, seat: &mut QueueSeat, signal: Signal) -> Push
     requires queue { IsPassOf ring.now seat.old }
     requires live { (view seat.old).pass.id.live ≡ true }
-    requires end { (view seat.old).pushes ≡ true }
+    requires end { ((view seat.old).pushes ≡ true) × ((view seat.old).pops ≡ false) }
     requires room { (view seat.old).room ≡ ruled_capacity ring.now }
     ensures queue { IsSamePass seat.old seat.new }
     ensures pushes { PushesLent (ruled_capacity ring.now) (view seat.old) (view seat.new) signal result }
@@ -76,52 +77,89 @@ fn pop_lent<R: Wait>(rt: &R, ring: &Ring, seat: &mut QueueSeat) -> Option<Signal
     ring.pop_as::<Takes, R>(rt, seat)
 }
 
+/// One more than so many, if that is a number that there is; else it waits for ever.
+fn next_count<R: Wait>(rt: &R, count: u64) -> u64
+    ensures { result ≡ count + 1 }
+{
+    for _ in rt.forever() {
+        if let Some(next) = count.checked_add(1) {
+            return next;
+        }
+    }
+    unreachable!()
+}
+
+/// How many pushes there were after one that came to this.
+fn count_of_pushes(answer: &Push, count: u64, next: u64) -> u64
+    requires next { next ≡ count + 1 }
+    ensures { result ≡ count + count_put answer.now }
+{
+    match answer {
+        Push::Queued => next,
+        Push::Full { .. } => count,
+    }
+}
+
 /// Pushes with an end that is lent for it, and answers the end too.
 pub fn push_by<R: Wait>(
     rt: &R,
     ring: &Ring,
     seat: &mut QueueSeat,
-    end: QueueSeat,
+    end: End,
     signal: Signal,
-) -> (Push, QueueSeat)
-    requires queue { IsPassOf ring.now seat.old × IsPassOf ring.now end }
+) -> (Push, End)
+    requires queue { IsPassOf ring.now seat.old × IsPassOf ring.now end.seat }
     requires rests { IsRestingQueueView (view seat.old) }
     requires room { (view seat.old).room ≡ ruled_capacity ring.now }
-    requires end { IsEndView (view seat.old).room true false (view end) }
-    ensures queue { IsSamePass seat.old seat.new × IsPassOf ring.now result.1 }
+    requires end { IsEndView (view seat.old).room true false end.count (view end.seat) }
+    ensures queue { IsSamePass seat.old seat.new × IsPassOf ring.now result.1.seat }
     ensures rests { IsRestingQueueView (view seat.new) }
     ensures room { (view seat.new).room ≡ (view seat.old).room }
-    ensures end { IsEndView (view seat.old).room true false (view result.1) }
+    ensures end { IsEndView (view seat.old).room true false result.1.count (view result.1.seat) }
     ensures pushes { PushesSignal (ruled_capacity ring.now) (view seat.old) (view seat.new) signal result.0 }
+    ensures counts { CountsPushes end.count (count_put result.0) (view seat.new) result.1.count }
     ensures id { (view seat.new).pass.id ≡ (view seat.old).pass.id }
 {
-    lend(ring, seat, end);
+    let End { seat: lent, count } = end;
+    let next = next_count(rt, count);
+    lend(ring, seat, lent);
     let answer = push_lent(rt, ring, seat, signal);
-    let end = give_back(ring, seat);
-    (answer, end)
+    let count = count_of_pushes(&answer, count, next);
+    let seat = give_back(ring, seat);
+    (answer, End { seat, count })
+}
+
+/// How many pops there were after one that came to this.
+fn count_of_pops(answer: &Option<Signal>, count: u64, next: u64) -> u64
+    requires next { next ≡ count + 1 }
+    ensures { result ≡ count + count_taken answer.now }
+{
+    match answer {
+        Some(_) => next,
+        None => count,
+    }
 }
 
 /// Pops with an end that is lent for it, and answers the end too.
-pub fn pop_by<R: Wait>(
-    rt: &R,
-    ring: &Ring,
-    seat: &mut QueueSeat,
-    end: QueueSeat,
-) -> (Option<Signal>, QueueSeat)
-    requires queue { IsPassOf ring.now seat.old × IsPassOf ring.now end }
+pub fn pop_by<R: Wait>(rt: &R, ring: &Ring, seat: &mut QueueSeat, end: End) -> (Option<Signal>, End)
+    requires queue { IsPassOf ring.now seat.old × IsPassOf ring.now end.seat }
     requires rests { IsRestingQueueView (view seat.old) }
-    requires end { IsEndView (view seat.old).room false true (view end) }
-    ensures queue { IsSamePass seat.old seat.new × IsPassOf ring.now result.1 }
+    requires end { IsEndView (view seat.old).room false true end.count (view end.seat) }
+    ensures queue { IsSamePass seat.old seat.new × IsPassOf ring.now result.1.seat }
     ensures rests { IsRestingQueueView (view seat.new) }
     ensures room { (view seat.new).room ≡ (view seat.old).room }
-    ensures end { IsEndView (view seat.old).room false true (view result.1) }
+    ensures end { IsEndView (view seat.old).room false true result.1.count (view result.1.seat) }
     ensures pops { PopsSignal (view seat.old) (view seat.new) result.0 }
+    ensures counts { CountsPops end.count (count_taken result.0) (view seat.new) result.1.count }
     ensures id { (view seat.new).pass.id ≡ (view seat.old).pass.id }
 {
-    lend(ring, seat, end);
+    let End { seat: lent, count } = end;
+    let next = next_count(rt, count);
+    lend(ring, seat, lent);
     let answer = pop_lent(rt, ring, seat);
-    let end = give_back(ring, seat);
-    (answer, end)
+    let count = count_of_pops(&answer, count, next);
+    let seat = give_back(ring, seat);
+    (answer, End { seat, count })
 }
 
 /// A seat takes in another, and learns what both had seen.

@@ -7,11 +7,12 @@ ghost use Rattle.signal_queue.specs.Rules.{turns};
 ghost use Rattle.signal_queue.specs.Turns.{popped, pushed};
 ghost use Rattle.signal_queue.specs.Views.{IsPassOfQueue, KnowsQueue, first_queue_view, new_queue_view, split_queue_view};
 
-use crate::ends::{Popping, Pushing};
+use crate::ends::{End, Popping, Pushing};
+use crate::lending::LentEnd;
 use crate::lock::EndLock;
 use crate::pass::SignalPass;
 use crate::plays::Child;
-use crate::ring::{Ring, give_back, merge, open, pop_by, push_by};
+use crate::ring::{Ring, give_back, merge, open};
 use crate::signal::Signal;
 use crossbeam_queue::RuledArrayQueue;
 use std::alloc::{AllocError, Global};
@@ -35,7 +36,7 @@ pub struct Signals {
 }
 
 impl Model for Signals {
-    ghost use Rattle.std.specs.Prelude.{◌≡◌};
+    ghost use Rattle.std.specs.Prelude.{◌≡◌, ◌<◌};
     ghost use Rattle.crossbeam_queue.specs.Passes.{ruled_capacity};
     ghost use Rattle.signal_queue.specs.Views.{QueueOf};
 
@@ -43,8 +44,8 @@ impl Model for Signals {
 
     ghost view = { λ s. record { id = s.ring.table.shared.table_id; room = ruled_capacity s.ring } };
 
-    // The seats that the locks were made with are of the ring, and knew its room.
-    ghost invariant = { λ s. (s.pushing.of.table_id ≡ s.ring.table.shared.table_id) × (s.popping.of.table_id ≡ s.ring.table.shared.table_id) × (s.pushing.of.me.0.client.room ≡ ruled_capacity s.ring) × (s.popping.of.me.0.client.room ≡ ruled_capacity s.ring) };
+    // The seats that the locks were made with are of the ring, and knew its room; there is some.
+    ghost invariant = { λ s. (s.pushing.of.table_id ≡ s.ring.table.shared.table_id) × (s.popping.of.table_id ≡ s.ring.table.shared.table_id) × (s.pushing.of.me.0.client.room ≡ ruled_capacity s.ring) × (s.popping.of.me.0.client.room ≡ ruled_capacity s.ring) × (0 < ruled_capacity s.ring) };
 }
 
 impl Signals {
@@ -59,14 +60,30 @@ impl Signals {
         let (ring, mut seat) = RuledArrayQueue::ruled(alloc, room)?;
         let pops = open::<Brand>(&ring, &mut seat);
         let pushes = give_back(&ring, &mut seat);
-        let pushing = EndLock::<Pushing>::make(alloc, pushes, &seat)?;
-        let popping = EndLock::<Popping>::make(alloc, pops, &seat)?;
+        let pushing = EndLock::<Pushing>::make(alloc, End::new(pushes), &seat)?;
+        let popping = EndLock::<Popping>::make(alloc, End::new(pops), &seat)?;
         let signals = Signals {
             ring,
             pushing,
             popping,
         };
         Ok((signals, SignalPass { seat }))
+    }
+
+    /// Lends the end for pushes, once nobody else has it.
+    pub fn lend_push<'a, R: Wait>(&'a self, rt: &R) -> LentEnd<'a, Pushing>
+        ensures { result.queue ≡ self.now }
+    {
+        let (end, hold) = self.pushing.take(rt);
+        LentEnd::new(&self.ring, &self.pushing, end, hold)
+    }
+
+    /// Lends the end for pops, once nobody else has it.
+    pub fn lend_pop<'a, R: Wait>(&'a self, rt: &R) -> LentEnd<'a, Popping>
+        ensures { result.queue ≡ self.now }
+    {
+        let (end, hold) = self.popping.take(rt);
+        LentEnd::new(&self.ring, &self.popping, end, hold)
     }
 
     /// Puts a signal last, if there is room.
@@ -77,9 +94,8 @@ impl Signals {
         ensures id { pass.new.knows.pass.id ≡ pass.old.knows.pass.id }
         ensures known { KnowsQueue pass.new.knows }
     {
-        let (end, hold) = self.pushing.take(rt);
-        let (answer, end) = push_by(rt, &self.ring, &mut pass.seat, end, signal);
-        self.pushing.give(hold, end);
+        let (answer, end) = self.lend_push(rt).push(rt, pass, signal);
+        end.give_back();
         answer
     }
 
@@ -91,9 +107,8 @@ impl Signals {
         ensures id { pass.new.knows.pass.id ≡ pass.old.knows.pass.id }
         ensures known { KnowsQueue pass.new.knows }
     {
-        let (end, hold) = self.popping.take(rt);
-        let (answer, end) = pop_by(rt, &self.ring, &mut pass.seat, end);
-        self.popping.give(hold, end);
+        let (answer, end) = self.lend_pop(rt).pop(rt, pass);
+        end.give_back();
         answer
     }
 

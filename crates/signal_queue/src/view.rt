@@ -15,4 +15,6 @@ pub struct QueueView {
     pub pushes: bool,
     /// It alone may pop.
     pub pops: bool,
+    /// With an end: how many signals were pushed, or popped, by those that had it.
+    pub made: usize,
 }

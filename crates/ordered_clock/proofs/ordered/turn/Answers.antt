@@ -3,9 +3,9 @@ use Rattle.clock_cell.proofs.Taking.{hears_again, takes_again}
 use Rattle.clock_cell.specs.Views.{seen_reading, writes}
 use Rattle.ktime.specs.Clocks.{IsAccepted}
 use Rattle.ktime.proofs.Writes.{shown_by}
-use Rattle.ordered_clock.proofs.Moments.{grown, read_at, written_at}
+use Rattle.ordered_clock.proofs.Moments.{counted_at, grown, risen_at}
 use Rattle.ordered_clock.proofs.Refusing.{accepts, refuses}
-use Rattle.ordered_clock.specs.Moments.{ReadsAt}
+use Rattle.ordered_clock.specs.Moments.{ReadsAt, clock_counter}
 use Rattle.ordered_clock.proofs.ordered.turn.Goals as goal
 
 pub at-requires-clause-counted : goal.at-requires-clause-counted
@@ -18,7 +18,7 @@ pub returns-in-Err-clause-places : goal.returns-in-Err-clause-places
 returns-in-Err-clause-places g c = record {
   place = tt;
   refused = subst (ReadsAt c.args.pass.now.known.seen c.raise_counter.new.pass.known.seen) c.read_from-reading.ensures.count
-      (read_at _ c.counter-least.ensures.looks.seen c.raise_counter.ensures.looks.seen
+      (counted_at clock_counter _ c.counter-least.ensures.looks.seen c.raise_counter.ensures.looks.seen
       (omega (arith, c.counter-least.ensures.count, c.read_from-reading.ensures.least))
       (omega (arith, c.raise_counter.ensures.count, ap (λ r. r.stamp) c.reading.view_is)));
   told = omega (arith, c.raise_counter.ensures.count, ap (λ r. r.stamp) c.reading.view_is, c.read_from-reading.ensures.count);
@@ -43,7 +43,7 @@ pub returns-in-Ok-clause-places : goal.returns-in-Ok-clause-places
 returns-in-Ok-clause-places g c =
     let a = c.in-Ok.ensures.answers in
     record {
-      place = written_at c.in-Ok.after.stamp c.counter-least.ensures.looks.seen c.raise_counter-in-Ok.ensures.looks.seen
+      place = risen_at clock_counter c.in-Ok.after.stamp c.counter-least.ensures.looks.seen c.raise_counter-in-Ok.ensures.looks.seen
           (omega (arith, c.counter-least.ensures.count, c.read_from-reading.ensures.least, c.read_from-reading.ensures.count, grown a.ok))
           (omega (arith, c.raise_counter-in-Ok.ensures.count, ap (λ r. r.stamp) c.after.view_is));
       refused = tt;
