@@ -7,9 +7,7 @@ ghost use Rattle.signal_queue.specs.Views.{IsPassOfQueue};
 
 use super::{HARD, assert_equal};
 use hr_timers::{Pass, Timers};
-use ordered_signals::{
-    a_pop_stands_behind_its_push, a_push_stands_where_there_is_room, pop, push,
-};
+use ordered_signals::{a_pop_stands_behind_its_push, a_push_stands_where_there_is_room, pop, push};
 use pass_names::Retries;
 use seq_timer::Terms;
 use signal_queue::{Push, Signal, SignalPass, Signals};
