@@ -53,7 +53,8 @@ has_rise k many number (entries.Rise j ∷ xs) low high =
           (λ ys. omega (arith, ap (λ (b : Bool). if b then rises_of k ys + 1 else rises_of k ys) not)) (has_rise k many number xs low (omega (arith, top)))
     ] refl high
 
-one_rise : (k : ℕ) → rises_of k (entries.Rise k ∷ []) ≡ 1
+-- a rise is one
+pub one_rise : (k : ℕ) → rises_of k (entries.Rise k ∷ []) ≡ 1
 one_rise k = elim (nat_eq k k) as (λ q. nat_eq k k ≡ q → (if q then 0 + 1 else 0) ≡ 1) [ true ↦ λ is. refl | false ↦ λ not. absurd (grind (arith, nat_tests, not)) ] refl
 
 -- the rise of a number that a counter hadn't reached where it was looked at, and has behind that

@@ -1,13 +1,12 @@
 -- A count comes to a number while another one stays; calls of a queue after looks at it; and what bounds of a ring say of places.
-use Rattle.std.proofs.Common.{◌≡◌, ℕ, ◌+◌, ◌≤◌, ◌<◌, true, false, nat_eq, if◌then◌else◌, List, [], ◌∷◌, ◌++◌, length, ap, refl, ◌∙◌, arith}
+use Rattle.std.proofs.Common.{◌≡◌, ℕ, ◌+◌, ◌≤◌, ◌<◌, true, false, nat_eq, if◌then◌else◌, List, [], ◌∷◌, ◌++◌, length, ap, refl, sym, ◌∙◌, arith}
 use Rattle.std.proofs.lemmas.Bool.{eqb-true}
-use Rattle.std.proofs.lemmas.Bool.Decides.{nat_tests}
 use Rattle.std.specs.Prelude.{Option, Some, None, slice_index}
 use Rattle.base_row.specs.Rings.{KeepsRings, put_counter, taken_counter}
 use Rattle.base_row.specs.declared.view.Opening.{Opening}
 use Rattle.hr_timers.specs.Known.{KnownOfTimers}
 use Rattle.ordered_clock.specs.Moments.{CountsAt, RisesAt}
-use Rattle.ordered_clock.proofs.Moments.{counted_at, rises}
+use Rattle.ordered_clock.proofs.Moments.{counted_at, one_rise, rises}
 use Rattle.pass_names.specs.declared.Pass.{Pass}
 use Rattle.pass_names.specs.Passes.{Adds, Begins, Looks, places}
 use Rattle.pass_names.proofs.Passes.{begins_refl, begins_trans, goes_trans, looks_trans}
@@ -74,32 +73,21 @@ other_rise : (j k : ℕ) → (j ≡ k → ⊥) → rises_of k (entries.Rise j �
 other_rise j k apart =
     elim (nat_eq j k) as (λ q. nat_eq j k ≡ q → (if q then 0 + 1 else 0) ≡ 0) [ true ↦ λ is. absurd (apart (eqb-true j k is)) | false ↦ λ not. refl ] refl
 
-one_rise : (k : ℕ) → rises_of k (entries.Rise k ∷ []) ≡ 1
-one_rise k = elim (nat_eq k k) as (λ q. nat_eq k k ≡ q → (if q then 0 + 1 else 0) ≡ 1) [ true ↦ λ is. refl | false ↦ λ not. absurd (grind (arith, nat_tests, not)) ] refl
+-- a count before and behind a rise of another counter, and of its own
+behind_rise : (j k : ℕ) (before : List SystemEntry) → (j ≡ k → ⊥)
+    → (rises_of k (before ++ entries.Rise k ∷ []) ≡ rises_of k before + 1) × (rises_of j (before ++ entries.Rise k ∷ []) ≡ rises_of j before)
+behind_rise j k before apart = (
+  omega (arith, rises_of-append k before (entries.Rise k ∷ []), one_rise k),
+  omega (arith, rises_of-append j before (entries.Rise k ∷ []), other_rise k j (λ e. apart (sym e))),
+)
 
 module _ (o : Opening) (old new : List SystemEntry) (number : ℕ) (there : signal_ring < length o.rings) (keeps : KeepsRings o new) where
   pub pushed_first : (p : RisesAt (taken_counter o signal_ring) old new number) → number ≤ pushes_told o p.before
   pushed_first p =
-      let k = taken_counter o signal_ring in
-      let j = put_counter o signal_ring in omega (
-        arith,
-        (keeps (p.before ++ entries.Rise k ∷ []) p.seen signal_ring there).put_first,
-        rises_of-append k p.before (entries.Rise k ∷ []),
-        rises_of-append j p.before (entries.Rise k ∷ []),
-        one_rise k,
-        other_rise k j (λ e. omega (arith, e)),
-        p.count,
-      )
+      let counts = behind_rise (put_counter o signal_ring) (taken_counter o signal_ring) p.before (λ e. omega (arith, e)) in
+      omega (arith, (keeps _ p.seen signal_ring there).put_first, counts.0, counts.1, p.count)
 
   pub room_first : (p : RisesAt (put_counter o signal_ring) old new number) → number ≤ pops_told o p.before + slice_index o.rings signal_ring
   room_first p =
-      let k = put_counter o signal_ring in
-      let j = taken_counter o signal_ring in omega (
-        arith,
-        (keeps (p.before ++ entries.Rise k ∷ []) p.seen signal_ring there).room,
-        rises_of-append k p.before (entries.Rise k ∷ []),
-        rises_of-append j p.before (entries.Rise k ∷ []),
-        one_rise k,
-        other_rise k j (λ e. omega (arith, e)),
-        p.count,
-      )
+      let counts = behind_rise (taken_counter o signal_ring) (put_counter o signal_ring) p.before (λ e. omega (arith, e)) in
+      omega (arith, (keeps _ p.seen signal_ring there).room, counts.0, counts.1, p.count)
