@@ -1,5 +1,5 @@
 //! A thread at work by its handle. Its calls are those of `System`, and none has a condition on the handle.
-ghost use Rattle.std.specs.Prelude.{◌≡◌, ◌≤◌, ◌<◌, ℕ, length, IfOk};
+ghost use Rattle.std.specs.Prelude.{◌≡◌, ◌≤◌, ◌<◌, ℕ, length, IfOk, OnErr};
 ghost use Rattle.ktime.specs.declared.write.Write.TheVariants as writing;
 ghost use Rattle.seq_timer.specs.declared.answer.CancelAnswer.TheVariants as cancels;
 ghost use Rattle.seq_timer.specs.declared.context.Context.TheVariants as contexts;
@@ -7,6 +7,7 @@ ghost use Rattle.hr_timers.specs.Handlers.{CanServe};
 ghost use Rattle.hulayban.specs.Calls.{DoesCancel, DoesCancelNow, DoesNow, DoesPeek, DoesStart, DoesWrite};
 ghost use Rattle.hulayban.specs.Places.{IsHandleAt};
 ghost use Rattle.hulayban.specs.Serving.{DoesExpire};
+ghost use Rattle.hulayban.specs.Systems.{KeepsHandle};
 
 use crate::handle::Handle;
 use crate::place::Place;
@@ -154,7 +155,8 @@ impl<'s, P: Place> Session<'s, P> {
         requires base { base < P.system.timers.about.bases }
         requires ready { budget ≤ H.meaning.ready own.old }
         requires suits { CanServe H.meaning P.system.timers.about own.old }
-        ensures { IfOk result (λ a. DoesExpire H.meaning P.system self.old self.new contexts.Hard base budget own.old own.new a) }
+        ensures ok { IfOk result (λ a. DoesExpire H.meaning P.system self.old self.new contexts.Hard base budget own.old own.new a) }
+        ensures err { OnErr result (KeepsHandle P.system self.old self.new × (own.new ≡ own.old)) }
     {
         self.system.expire(rt, &mut self.me, base, budget, own)
     }
@@ -170,7 +172,8 @@ impl<'s, P: Place> Session<'s, P> {
         requires base { base < P.system.timers.about.bases }
         requires ready { budget ≤ H.meaning.ready own.old }
         requires suits { CanServe H.meaning P.system.timers.about own.old }
-        ensures { IfOk result (λ a. DoesExpire H.meaning P.system self.old self.new contexts.Soft base budget own.old own.new a) }
+        ensures ok { IfOk result (λ a. DoesExpire H.meaning P.system self.old self.new contexts.Soft base budget own.old own.new a) }
+        ensures err { OnErr result (KeepsHandle P.system self.old self.new × (own.new ≡ own.old)) }
     {
         self.system.expire_soft(rt, &mut self.me, base, budget, own)
     }

@@ -1,10 +1,11 @@
 //! A session's calls on objects and signals.
-ghost use Rattle.std.specs.Prelude.{◌≡◌, ◌<◌, length, IfOk};
+ghost use Rattle.std.specs.Prelude.{◌≡◌, ◌<◌, length, IfOk, OnErr};
 ghost use Rattle.timer_fd.specs.Steps.{count_length};
 ghost use Rattle.timer_objects.specs.Calls.{HasSetting, IsPosixKind};
 ghost use Rattle.timer_objects.specs.Known.{decl_at};
 ghost use Rattle.timer_objects.specs.declared.object.Kind.TheVariants as kinds;
 ghost use Rattle.hulayban.specs.Calls.{DoesAccept, DoesGetoverrun, DoesGettime, DoesInterrupt, DoesNextSignal, DoesRead, DoesReadable, DoesSettime, DoesSleep, DoesSlept};
+ghost use Rattle.hulayban.specs.Systems.{KeepsHandle};
 
 use crate::objects::Settime;
 use crate::place::Place;
@@ -25,7 +26,8 @@ impl<'s, P: Place> Session<'s, P> {
     ) -> Result<SettimeAnswer, AllocError>
         requires within { id < length P.system.objects.decls }
         requires kind { HasSetting (decl_at P.system.objects id).kind }
-        ensures { IfOk result (λ a. DoesSettime P.system self.old self.new id setting a) }
+        ensures ok { IfOk result (λ a. DoesSettime P.system self.old self.new id setting a) }
+        ensures err { OnErr result (KeepsHandle P.system self.old self.new) }
     {
         self.system.settime(rt, &mut self.me, id, setting)
     }
@@ -34,7 +36,8 @@ impl<'s, P: Place> Session<'s, P> {
     pub fn gettime<R: Wait>(&mut self, rt: &R, id: u32) -> Result<Gettime, AllocError>
         requires within { id < length P.system.objects.decls }
         requires kind { HasSetting (decl_at P.system.objects id).kind }
-        ensures { IfOk result (λ a. DoesGettime P.system self.old self.new id a) }
+        ensures ok { IfOk result (λ a. DoesGettime P.system self.old self.new id a) }
+        ensures err { OnErr result (KeepsHandle P.system self.old self.new) }
     {
         self.system.gettime(rt, &mut self.me, id)
     }
@@ -43,7 +46,8 @@ impl<'s, P: Place> Session<'s, P> {
     pub fn read<R: Wait>(&mut self, rt: &R, id: u32) -> Result<ReadAnswer, AllocError>
         requires within { id < length P.system.objects.decls }
         requires kind { (decl_at P.system.objects id).kind ≡ kinds.Fd }
-        ensures { IfOk result (λ a. DoesRead P.system self.old self.new id count_length a) }
+        ensures ok { IfOk result (λ a. DoesRead P.system self.old self.new id count_length a) }
+        ensures err { OnErr result (KeepsHandle P.system self.old self.new) }
     {
         self.system.read(rt, &mut self.me, id)
     }
@@ -52,7 +56,8 @@ impl<'s, P: Place> Session<'s, P> {
     pub fn accept<R: Wait>(&mut self, rt: &R, id: u32) -> Result<AcceptAnswer, AllocError>
         requires within { id < length P.system.objects.decls }
         requires kind { IsPosixKind (decl_at P.system.objects id).kind }
-        ensures { IfOk result (λ a. DoesAccept P.system self.old self.new id a) }
+        ensures ok { IfOk result (λ a. DoesAccept P.system self.old self.new id a) }
+        ensures err { OnErr result (KeepsHandle P.system self.old self.new) }
     {
         self.system.accept(rt, &mut self.me, id)
     }
@@ -67,7 +72,8 @@ impl<'s, P: Place> Session<'s, P> {
     ) -> Result<SleepAnswer, AllocError>
         requires within { id < length P.system.objects.decls }
         requires kind { (decl_at P.system.objects id).kind ≡ kinds.Sleeper }
-        ensures { IfOk result (λ a. DoesSleep P.system self.old self.new id flags time a) }
+        ensures ok { IfOk result (λ a. DoesSleep P.system self.old self.new id flags time a) }
+        ensures err { OnErr result (KeepsHandle P.system self.old self.new) }
     {
         self.system.sleep(rt, &mut self.me, id, flags, time)
     }
@@ -76,14 +82,16 @@ impl<'s, P: Place> Session<'s, P> {
     pub fn interrupt<R: Wait>(&mut self, rt: &R, id: u32) -> Result<InterruptAnswer, AllocError>
         requires within { id < length P.system.objects.decls }
         requires kind { (decl_at P.system.objects id).kind ≡ kinds.Sleeper }
-        ensures { IfOk result (λ a. DoesInterrupt P.system self.old self.new id a) }
+        ensures ok { IfOk result (λ a. DoesInterrupt P.system self.old self.new id a) }
+        ensures err { OnErr result (KeepsHandle P.system self.old self.new) }
     {
         self.system.interrupt(rt, &mut self.me, id)
     }
 
     /// Takes the oldest signal off the queue, and accepts it.
     pub fn next_signal<R: Wait>(&mut self, rt: &R) -> Result<NextSignal, AllocError>
-        ensures { IfOk result (λ a. DoesNextSignal P.system self.old self.new a) }
+        ensures ok { IfOk result (λ a. DoesNextSignal P.system self.old self.new a) }
+        ensures err { OnErr result (KeepsHandle P.system self.old self.new) }
     {
         self.system.next_signal(rt, &mut self.me)
     }
