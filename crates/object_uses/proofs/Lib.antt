@@ -3,4 +3,3 @@ pub mod Keeping
 pub mod Taking
 pub mod Rooms
 pub mod NextSignals
-pub mod Threes

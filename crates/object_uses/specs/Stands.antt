@@ -1,5 +1,5 @@
 -- Timers and objects with the passes of a thread that is their only one.
-use Rattle.std.specs.Prelude.{ℕ, ◌≡◌, ◌<◌, [], length}
+use Rattle.std.specs.Prelude.{ℕ, ◌≡◌, [], length}
 use Rattle.pass_names.specs.Names.{IsLast}
 use Rattle.atomic_table.specs.Seated.{TableId}
 use Rattle.base_row.specs.Calls as rows
@@ -29,8 +29,9 @@ pub record IsStand (timers : rows.BaseRowOf) (pass : PassOf) (objects : ObjectsO
 -- a descriptor on the one base, and its reader
 pub record IsAwaited (timers : rows.BaseRowOf) (objects : ObjectsOf) (reader : ℕ) : Type 0 where
   pub bases : timers.about.bases ≡ 1
-  pub within : reader < length objects.decls
-  pub descriptor : (decl_at objects reader).kind ≡ kinds.Fd
+  pub one : length objects.decls ≡ 1
+  pub descriptor : (decl_at objects 0).kind ≡ kinds.Fd
+  pub reads : reader ≡ 0
 
 -- a pass of the clock is still one of it, with its name
 pub record KeepsClock (clock : TableId) (old new : PassOfClock) : Type 0 where

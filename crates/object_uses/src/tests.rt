@@ -7,9 +7,7 @@ mod greatest;
 mod of_logs;
 mod passes;
 mod queued;
-mod rounds;
 mod stand;
-mod two_readers;
 mod waiting;
 
 use std::fmt::Debug;

@@ -2,9 +2,9 @@
 ghost use Rattle.std.specs.Prelude.{◌≡◌, ◌≤◌, ◌<◌, [], length, IfOk, IfSome};
 ghost use Rattle.pass_names.specs.Names.{IsLast};
 ghost use Rattle.clock_cell.specs.Views.{IsPassOfClock};
-ghost use Rattle.timer_objects.specs.Calls.{HasSetting};
+ghost use Rattle.timer_objects.specs.declared.object.Kind.TheVariants as kinds;
 ghost use Rattle.timer_objects.specs.Known.{decl_at};
-ghost use Rattle.object_uses.specs.Callers.{HasPasses, KeepsPasses, MayRun};
+ghost use Rattle.object_uses.specs.Callers.{HasPasses, KeepsPasses};
 ghost use Rattle.object_uses.specs.Stands.{IsAwaited, KeepsClock};
 
 use crate::{advance_and_expire, expire_objects, set_timer, wait_for_count};
@@ -15,19 +15,13 @@ use ktime::{ClockId, Reading};
 use seq_timer::{Declared, Terms};
 use std::alloc::{AllocError, Global};
 use std::sync::Wait;
-use std::sync::atomic::{AtomicU32, Ordering};
+use std::sync::atomic::{AtomicBool, Ordering};
 use std::thread::{Threads, join_mut};
 use timer_fd::SettimeAnswer;
 use timer_objects::{BlockingRead, Callback, Decl, Kind, Object, ObjectLog, Objects, Reader};
 
 /// The number of the descriptor, and of its timer.
 const FD: u32 = 0;
-
-/// How many entries the timer and the object may have.
-const LIMIT: u64 = 100_000;
-
-/// How many functions a run may run.
-const BUDGET: u32 = 4;
 
 /// How often a thread goes on while the other one reads.
 const TURNS: u64 = 1_000_000;
@@ -39,7 +33,7 @@ pub(super) fn awaited(
 ) -> Result<(Timers, Pass, Objects, RowPass<Object>, Reader), AllocError>
     ensures passes { IfOk result (λ r. HasPasses r.0 r.2 r.1 r.3) }
     ensures last { IfOk result (λ r. IsLast r.1.known.id × (r.1.known.claims ≡ []) × IsLast r.3.knows.pass.id) }
-    ensures one { IfOk result (λ r. IsAwaited r.0 r.2 r.4 × (length r.2.decls ≡ 1) × (r.4 ≡ 0)) }
+    ensures one { IfOk result (λ r. IsAwaited r.0 r.2 r.4) }
 {
     let decl = Decl {
         kind: Kind::Fd,
@@ -47,8 +41,8 @@ pub(super) fn awaited(
         base: 0,
     };
     let declared = [Declared::hard(clock)];
-    let (timers, pass) = Timers::make_counting(alloc, 1, &declared, Terms::limited(LIMIT), 2)?;
-    let Ok((objects, objects_pass, readers)) = Objects::make_blocking(alloc, &[decl], LIMIT) else {
+    let (timers, pass) = Timers::make_counting(alloc, 1, &declared, Terms::limited(1000), 2)?;
+    let Ok((objects, objects_pass, readers)) = Objects::make_blocking(alloc, &[decl], 1000) else {
         timers.close(pass);
         return Err(AllocError);
     };
@@ -71,7 +65,7 @@ fn first_reader(mut readers: Vec<Reader>) -> Option<Reader>
 /// What the other thread does to the clock.
 #[derive(Clone, Copy)]
 pub(super) enum Write {
-    /// Lets so much time pass, and runs the functions that are due then.
+    /// Lets so much time pass, and runs the function that is due then.
     Advance(u64),
     /// The same, but nobody tells the readers that the clock was set.
     Untold(u64),
@@ -79,8 +73,9 @@ pub(super) enum Write {
     Set(u64),
 }
 
-/// Waits for expiries and reads them, until there were so many, or a read answers something else: how many were read, and the last answer.
-fn read_wanted<R: Wait>(
+/// Waits for expiries and reads them, until there were so many, or a read answers something else: how many were read, and the last answer. It tells
+/// when it is done.
+fn read_until<R: Wait>(
     rt: &R,
     alloc: Global,
     timers: &Timers,
@@ -91,6 +86,7 @@ fn read_wanted<R: Wait>(
     clock: &SharedClock,
     clock_pass: &mut ClockPass,
     wanted: u64,
+    done: &AtomicBool,
 ) -> (u64, BlockingRead)
     requires passes { HasPasses timers.now objects.now pass.old objects_pass.old }
     requires one { IsAwaited timers.now objects.now reader.old }
@@ -120,44 +116,8 @@ fn read_wanted<R: Wait>(
             break;
         }
     }
+    done.store(true, Ordering::SeqCst);
     (sum, last)
-}
-
-/// The same, and tells when it is done: one reader fewer is left.
-pub(super) fn read_until<R: Wait>(
-    rt: &R,
-    alloc: Global,
-    timers: &Timers,
-    pass: &mut Pass,
-    objects: &Objects,
-    objects_pass: &mut RowPass<Object>,
-    reader: &mut Reader,
-    clock: &SharedClock,
-    clock_pass: &mut ClockPass,
-    wanted: u64,
-    left: &AtomicU32,
-) -> (u64, BlockingRead)
-    requires passes { HasPasses timers.now objects.now pass.old objects_pass.old }
-    requires one { IsAwaited timers.now objects.now reader.old }
-    requires clock { IsPassOfClock clock.now clock_pass.old }
-    ensures keeps { KeepsPasses timers.now objects.now pass.old pass.new objects_pass.old objects_pass.new }
-    ensures clock { KeepsClock clock.now clock_pass.old clock_pass.new }
-    ensures reader { reader.new ≡ reader.old }
-{
-    let read = read_wanted(
-        rt,
-        alloc,
-        timers,
-        pass,
-        objects,
-        objects_pass,
-        reader,
-        clock,
-        clock_pass,
-        wanted,
-    );
-    left.fetch_sub(1, Ordering::SeqCst);
-    read
 }
 
 /// Waits until there is something to read, and reads it. Where memory is wanting it answers what no such read does here.
@@ -198,29 +158,28 @@ fn read_one<R: Wait>(
     )
 }
 
-/// Writes the clock so many times; then runs the functions that are due, until no reader is left.
-pub(super) fn run_until<R: Wait>(
+/// Writes the clock so many times; then runs the function, if it is due, until the other thread is done.
+fn run_until<R: Wait>(
     rt: &R,
     alloc: Global,
     timers: &Timers,
     pass: &mut Pass,
     objects: &Objects,
     objects_pass: &mut RowPass<Object>,
-    callbacks: &[Callback],
     clock: &SharedClock,
     clock_pass: &mut ClockPass,
     write: Write,
     times: u64,
-    left: &AtomicU32,
+    done: &AtomicBool,
 )
     requires passes { HasPasses timers.now objects.now pass.old objects_pass.old }
-    requires run { MayRun timers.now objects.now callbacks.now 0 }
+    requires one { (length objects.now.decls ≡ 1) × (timers.now.about.bases ≡ 1) }
     requires clock { IsPassOfClock clock.now clock_pass.old }
     ensures keeps { KeepsPasses timers.now objects.now pass.old pass.new objects_pass.old objects_pass.new }
     ensures clock { KeepsClock clock.now clock_pass.old clock_pass.new }
 {
     for turn in 0..TURNS {
-        if left.load(Ordering::SeqCst) == 0 {
+        if done.load(Ordering::SeqCst) {
             break;
         }
         let write = (turn < times).then_some(write);
@@ -231,7 +190,6 @@ pub(super) fn run_until<R: Wait>(
             pass,
             objects,
             objects_pass,
-            callbacks,
             clock,
             clock_pass,
             write,
@@ -239,7 +197,7 @@ pub(super) fn run_until<R: Wait>(
     }
 }
 
-/// Writes the clock, if that is asked for, or runs the functions that are due.
+/// Writes the clock, if that is asked for, or runs the function, if it is due.
 fn run_one<R: Wait>(
     rt: &R,
     alloc: Global,
@@ -247,21 +205,21 @@ fn run_one<R: Wait>(
     pass: &mut Pass,
     objects: &Objects,
     objects_pass: &mut RowPass<Object>,
-    callbacks: &[Callback],
     clock: &SharedClock,
     clock_pass: &mut ClockPass,
     write: Option<Write>,
 )
     requires passes { HasPasses timers.now objects.now pass.old objects_pass.old }
-    requires run { MayRun timers.now objects.now callbacks.now 0 }
+    requires one { (length objects.now.decls ≡ 1) × (timers.now.about.bases ≡ 1) }
     requires clock { IsPassOfClock clock.now clock_pass.old }
     ensures keeps { KeepsPasses timers.now objects.now pass.old pass.new objects_pass.old objects_pass.new }
     ensures clock { KeepsClock clock.now clock_pass.old clock_pass.new }
 {
     let mut log = Log::make(alloc);
-    if log.reserve(2 * BUDGET as usize).is_err() {
+    if log.reserve(2).is_err() {
         return;
     }
+    let callbacks = &[Callback::Once];
     match write {
         Some(Write::Advance(by)) => {
             let _ = advance_and_expire(
@@ -276,7 +234,7 @@ fn run_one<R: Wait>(
                 clock,
                 clock_pass,
                 by,
-                BUDGET,
+                1,
                 &mut log,
             );
         }
@@ -293,7 +251,7 @@ fn run_one<R: Wait>(
                 callbacks,
                 0,
                 reading,
-                BUDGET,
+                1,
                 &mut log,
             );
         }
@@ -313,15 +271,15 @@ fn run_one<R: Wait>(
                 callbacks,
                 0,
                 reading,
-                BUDGET,
+                1,
                 &mut log,
             );
         }
     }
 }
 
-/// One thread reads until there were so many expiries, the other moves the clock meanwhile, until none of so many readers is left.
-pub(super) fn read_and_run<R: Threads + Wait + Sync>(
+/// One thread reads until there were so many expiries, the other moves the clock meanwhile.
+fn read_and_run<R: Threads + Wait + Sync>(
     rt: &R,
     alloc: Global,
     timers: &Timers,
@@ -331,23 +289,21 @@ pub(super) fn read_and_run<R: Threads + Wait + Sync>(
     objects_reading: &mut RowPass<Object>,
     objects_running: &mut RowPass<Object>,
     reader: &mut Reader,
-    callbacks: &[Callback],
     clock: &SharedClock,
     clock_reading: &mut ClockPass,
     clock_running: &mut ClockPass,
     write: Write,
     times: u64,
     wanted: u64,
-    left: &AtomicU32,
 ) -> (u64, BlockingRead)
     requires reading { HasPasses timers.now objects.now reading.old objects_reading.old × IsPassOfClock clock.now clock_reading.old }
     requires running { HasPasses timers.now objects.now running.old objects_running.old × IsPassOfClock clock.now clock_running.old }
     requires one { IsAwaited timers.now objects.now reader.old }
-    requires run { MayRun timers.now objects.now callbacks.now 0 }
     ensures reading { KeepsPasses timers.now objects.now reading.old reading.new objects_reading.old objects_reading.new × KeepsClock clock.now clock_reading.old clock_reading.new }
     ensures running { KeepsPasses timers.now objects.now running.old running.new objects_running.old objects_running.new × KeepsClock clock.now clock_running.old clock_running.new }
     ensures reader { reader.new ≡ reader.old }
 {
+    let done = AtomicBool::new(false);
     let (read, ()) = join_mut(
         rt,
         &mut || {
@@ -362,7 +318,7 @@ pub(super) fn read_and_run<R: Threads + Wait + Sync>(
                 clock,
                 clock_reading,
                 wanted,
-                left,
+                &done,
             )
         },
         &mut || {
@@ -373,12 +329,11 @@ pub(super) fn read_and_run<R: Threads + Wait + Sync>(
                 running,
                 objects,
                 objects_running,
-                callbacks,
                 clock,
                 clock_running,
                 write,
                 times,
-                left,
+                &done,
             )
         },
     );
@@ -394,7 +349,6 @@ pub(super) fn read_beside<R: Threads + Wait + Sync>(
     objects: &Objects,
     objects_main: &mut RowPass<Object>,
     reader: &mut Reader,
-    callbacks: &[Callback],
     clock: &SharedClock,
     clock_main: &mut ClockPass,
     write: Write,
@@ -404,7 +358,6 @@ pub(super) fn read_beside<R: Threads + Wait + Sync>(
     requires main { HasPasses timers.now objects.now main.old objects_main.old × (main.old.known.claims ≡ []) × IsPassOfClock clock.now clock_main.old }
     requires last { IsLast main.old.known.id × IsLast objects_main.old.knows.pass.id × IsLast clock_main.old.knows.pass.id }
     requires one { IsAwaited timers.now objects.now reader.old }
-    requires run { MayRun timers.now objects.now callbacks.now 0 }
     ensures main { HasPasses timers.now objects.now main.new objects_main.new × (main.new.known.claims ≡ []) × IsPassOfClock clock.now clock_main.new }
     ensures last { IsLast main.new.known.id × IsLast objects_main.new.knows.pass.id × IsLast clock_main.new.knows.pass.id }
     ensures one { IsAwaited timers.now objects.now reader.new }
@@ -412,7 +365,6 @@ pub(super) fn read_beside<R: Threads + Wait + Sync>(
     let mut other = timers.split(main);
     let mut objects_other = objects.split(objects_main);
     let mut clock_other = clock.split(clock_main);
-    let left = AtomicU32::new(1);
     let read = read_and_run(
         rt,
         alloc,
@@ -423,14 +375,12 @@ pub(super) fn read_beside<R: Threads + Wait + Sync>(
         objects_main,
         &mut objects_other,
         reader,
-        callbacks,
         clock,
         clock_main,
         &mut clock_other,
         write,
         times,
         wanted,
-        &left,
     );
     timers.retire(main, other);
     objects.join(objects_main, objects_other);
@@ -438,22 +388,21 @@ pub(super) fn read_beside<R: Threads + Wait + Sync>(
     read
 }
 
-/// Sets an object with these flags to this time of its clock, and then to each tenth nanosecond.
+/// Sets the descriptor with these flags to this time of its clock, and then to each tenth nanosecond.
 #[tactic(auto, using(crate::proofs::Rooms::room_on))]
-pub(super) fn set_object<R: Wait>(
+pub(super) fn set_fd<R: Wait>(
     rt: &R,
     alloc: Global,
     timers: &Timers,
     pass: &mut Pass,
     objects: &Objects,
     objects_pass: &mut RowPass<Object>,
-    id: u32,
     flags: u64,
     ns: u64,
     reading: Reading,
 ) -> Option<SettimeAnswer>
     requires passes { HasPasses timers.now objects.now pass.old objects_pass.old }
-    requires one { (id < length objects.now.decls) × HasSetting (decl_at objects.now id).kind × (timers.now.about.bases ≡ 1) }
+    requires one { (length objects.now.decls ≡ 1) × ((decl_at objects.now 0).kind ≡ kinds.Fd) × (timers.now.about.bases ≡ 1) }
     ensures keeps { KeepsPasses timers.now objects.now pass.old pass.new objects_pass.old objects_pass.new }
 {
     let (mut log, mut calls) = (Log::make(alloc), ObjectLog::make(alloc));
@@ -467,7 +416,7 @@ pub(super) fn set_object<R: Wait>(
         objects_pass,
         &mut log,
         &mut calls,
-        id,
+        FD,
         flags,
         ns,
         10,

@@ -1,14 +1,14 @@
 //! Reads of a descriptor that wait, by two threads: one reads, the other moves the clock and runs the functions that are due. A wake-up that got lost
 //! would leave the reader waiting, and the test would not end.
 use super::assert_equal;
-use super::awaited::{Write, awaited, read_beside, set_object};
+use super::awaited::{Write, awaited, read_beside, set_fd};
 use clock_cell::SharedClock;
 use ktime::{ClockId, Reading};
 use std::alloc::{AllocError, Global};
 use std::sync::Wait;
 use std::test::Fail;
 use std::thread::Threads;
-use timer_objects::{BlockingRead, Callback};
+use timer_objects::BlockingRead;
 
 /// Sets a descriptor of this clock, and reads it in one thread while the other writes the clock so many times: how many expiries were read, and the last
 /// answer.
@@ -28,14 +28,13 @@ fn read_in_all<R: Threads + Wait + Sync>(
         clock.close(clock_pass);
         return Err(AllocError);
     };
-    set_object(
+    set_fd(
         rt,
         alloc,
         &timers,
         &mut pass,
         &objects,
         &mut objects_pass,
-        reader.id(),
         flags,
         ns,
         Reading::at(0),
@@ -48,7 +47,6 @@ fn read_in_all<R: Threads + Wait + Sync>(
         &objects,
         &mut objects_pass,
         &mut reader,
-        &[Callback::Once],
         &clock,
         &mut clock_pass,
         write,

@@ -1,7 +1,7 @@
 use Rattle.std.proofs.Common.{◌≡◌}
 use Rattle.object_uses.specs.Callers.{KeepsPasses}
 use Rattle.object_uses.specs.Stands.{KeepsClock}
-use Rattle.object_uses.proofs.tests.awaited.read_wanted.Given as goal
+use Rattle.object_uses.proofs.tests.awaited.read_until.Given as goal
 
 abbrev pub invariant-loop-turn : goal.invariant-loop-turn
 invariant-loop-turn g l = record {
