@@ -11,6 +11,7 @@ mod of_hr_timers;
 mod of_ordered_clock;
 mod of_ordered_signals;
 mod of_rings;
+mod of_tries;
 mod threads;
 
 use hr_timers::{Log, Pass, Timers};

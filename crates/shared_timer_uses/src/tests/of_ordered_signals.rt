@@ -123,7 +123,34 @@ fn take<R: Wait>(
     unreachable!()
 }
 
-/// Both at once, on a thread each; how many came in order, and how far the ring's counts have come.
+/// Both at once, on a thread each: how many came in order.
+fn send_and_take<R: Threads + Wait + Sync>(
+    rt: &R,
+    timers: &Timers,
+    sender: &mut Pass,
+    taker: &mut Pass,
+    signals: &Signals,
+    sends: &mut SignalPass,
+    takes: &mut SignalPass,
+) -> u64
+    requires pass { IsPassOf timers.now sender.old × IsPassOf timers.now taker.old }
+    requires ring { HasSignalRing timers.now.about.rings signals.now.room }
+    requires queue { IsPassOfQueue signals.now sends.old × IsPassOfQueue signals.now takes.old }
+    ensures pass { IsPassOf timers.now sender.new × IsPassOf timers.now taker.new }
+    ensures id { (sender.new.known.id ≡ sender.old.known.id) × (taker.new.known.id ≡ taker.old.known.id) }
+    ensures unclaimed { (sender.new.known.claims ≡ sender.old.known.claims) × (taker.new.known.claims ≡ taker.old.known.claims) }
+    ensures queue { IsPassOfQueue signals.now sends.new × IsPassOfQueue signals.now takes.new }
+    ensures queue_id { (sends.new.knows.pass.id ≡ sends.old.knows.pass.id) × (takes.new.knows.pass.id ≡ takes.old.knows.pass.id) }
+{
+    let ((), in_order) = join_mut(
+        rt,
+        &mut || send(rt, timers, sender, signals, sends),
+        &mut || take(rt, timers, taker, signals, takes),
+    );
+    in_order
+}
+
+/// The same with passes that are split off, and taken in again; and how far the ring's counts have come.
 fn hand_over<R: Threads + Wait + Sync>(
     rt: &R,
     timers: &Timers,
@@ -131,22 +158,24 @@ fn hand_over<R: Threads + Wait + Sync>(
     signals: &Signals,
     queue: &mut SignalPass,
 ) -> (u64, u64, u64)
-    requires pass { IsPassOf timers.now pass.old }
+    requires pass { IsPassOf timers.now pass.old × IsLast pass.old.known.id }
     requires ring { HasSignalRing timers.now.about.rings signals.now.room }
     requires unclaimed { pass.old.known.claims ≡ [] }
-    requires queue { IsPassOfQueue signals.now queue.old }
-    ensures pass { IsPassOf timers.now pass.new }
-    ensures id { pass.new.known.id ≡ pass.old.known.id }
+    requires queue { IsPassOfQueue signals.now queue.old × IsLast queue.old.knows.pass.id }
+    ensures pass { IsPassOf timers.now pass.new × IsLast pass.new.known.id }
     ensures unclaimed { pass.new.known.claims ≡ [] }
-    ensures queue { IsPassOfQueue signals.now queue.new }
-    ensures queue_id { queue.new.knows.pass.id ≡ queue.old.knows.pass.id }
+    ensures queue { IsPassOfQueue signals.now queue.new × IsLast queue.new.knows.pass.id }
 {
     let mut other = timers.split(pass);
     let mut other_queue = signals.split(queue);
-    let ((), in_order) = join_mut(
+    let in_order = send_and_take(
         rt,
-        &mut || send(rt, timers, pass, signals, queue),
-        &mut || take(rt, timers, &mut other, signals, &mut other_queue),
+        timers,
+        pass,
+        &mut other,
+        signals,
+        queue,
+        &mut other_queue,
     );
     timers.retire(pass, other);
     signals.join(queue, other_queue);
