@@ -1,14 +1,16 @@
 -- The word of a number, and the number of a word.
-use Rattle.std.proofs.Common.{arith, ◌≡◌, ℕ, ◌^◌, ◌<◌, ◌≤◌, Bool, true, false, List, [], ◌∷◌, length, get_or, Some, None, Result, Ok, Err, refl, sym, ap, subst, ◌∙◌, inl, inr, nat_le, if◌then◌else◌, ◌&&◌}
-use Rattle.std.specs.Prelude.{bytes_eq, IsUtf8}
+use Rattle.std.proofs.Common.{arith, take, ◌-◌, ◌+◌, ◌*◌, ◌≡◌, ℕ, ◌^◌, ◌<◌, ◌≤◌, Bool, true, false, List, [], ◌∷◌, length, get_or, Some, None, refl, sym, ap, subst, ◌∙◌, inl, inr, nat_le, if◌then◌else◌, ◌&&◌}
+use Rattle.std.specs.Prelude.{bytes_eq}
 use Rattle.std.specs.Fmt.{decimal}
-use Rattle.std.specs.Result.{OkIff}
-use Rattle.std.specs.Str.Parse.{digits_value, AllDigits, ParsesUnsigned}
+use Rattle.std.specs.Str.Parse.{digits_value, AllDigits}
 use Rattle.std.proofs.lemmas.Bool.{and_parts, leb-true, le-leb, false_from_ne_true, cases_eq}
-use Rattle.std.proofs.lemmas.Fmt.{digits_value-decimal, decimal_nonempty, first_decimal, parse-decimal, decimal_digit, decimal-digits_value, IsAscii-decimal}
+use Rattle.std.proofs.lemmas.Fmt.{digits_value-decimal, decimal_is_IsNumeral, decimal_nonempty, first_decimal, length-decimal-le, decimal_digit, decimal-digits_value}
+use Rattle.std.proofs.lemmas.List.{length-take}
 use Rattle.std.proofs.lemmas.Option.{same_Some}
-use Rattle.std.proofs.lemmas.Str.{IsUtf8-from_ascii}
-use Rattle.std.proofs.lemmas.Str.Parse.{IsNumeralModel, numerals_by_value, tells_digits, parse_plain}
+use Rattle.std.proofs.lemmas.Str.{digit_value_digit}
+use Rattle.std.proofs.lemmas.Int.Digits.{digits_more, digits_value_more}
+use Rattle.std.specs.Int.{IsInRange}
+use Rattle.std.proofs.lemmas.Str.Parse.{IsNumeralModel, numerals_by_value, tells_digits, digits_value_short}
 use Rattle.std.proofs.lemmas.Slice.Eq.{bytes_eq-Decides}
 use Rattle.ktime.specs.Times.{last_time}
 use Rattle.script_text.specs.Reading.{number_in}
@@ -65,27 +67,36 @@ none_from_front word other front = number_none word (λ n small is.
       | inr some ↦ omega (arith, first_decimal n (omega arith) (omega arith), ap (λ (w : List ℕ). get_or w 0 0) is)
     ])
 
-pub none_from_utf8 : (word : List ℕ) → ¬ (IsUtf8 word) → None ≡ number_in word
-none_from_utf8 word other =
-    number_none word (λ n small is. other (subst (λ w. IsUtf8 w) (sym is) (IsUtf8-from_ascii (decimal n) (IsAscii-decimal n (omega arith)))))
+pub none_from_long : (word : List ℕ) → 19 < length word → None ≡ number_in word
+none_from_long word long =
+    number_none word (λ n small is. omega (arith, long, length-decimal-le 19 n (omega arith) (omega arith) (omega arith), ap (λ (w : List ℕ). length w) is))
 
-pub none_from_parse : {E : Type 0} (word : List ℕ) (r : Result ℕ E) (e : E) → ParsesUnsigned 64 10 word r → r ≡ Err e → None ≡ number_in word
-none_from_parse word r e parses failed =
-    number_none word (λ n small is. let read = parse-decimal 64 n word r (omega arith) (omega arith) is parses in absurd cc)
+pub none_from_other : (word : List ℕ) → (AllDigits 10 word → ⊥) → None ≡ number_in word
+none_from_other word other =
+    number_none word (λ n small is. other (subst (λ w. AllDigits 10 w) (sym is) (decimal_is_IsNumeral n (omega arith)).0.1))
 
-pub none_from_large : {E : Type 0} (word : List ℕ) (r : Result ℕ E) (m : ℕ) → ParsesUnsigned 64 10 word r → r ≡ Ok m → last_time < m
-    → None ≡ number_in word
-none_from_large word r m parses gave large =
-    number_none word (λ n small is. let read = parse-decimal 64 n word r (omega arith) (omega arith) is parses in let same : n ≡ m = cc in
-    omega (arith, same))
+pub none_from_large : (word : List ℕ) (m : ℕ) → m ≡ digits_value 10 word → last_time < m → None ≡ number_in word
+none_from_large word m value large =
+    number_none word (λ n small is. omega (arith, value, large, ap (λ w. digits_value 10 w) is, (decimal_is_IsNumeral n (omega arith)).1))
 
--- what `parse` reads of digits that do not begin with 0
-pub number_from_parse : {E : Type 0} (word : List ℕ) (r : Result ℕ E) (m : ℕ) → ParsesUnsigned 64 10 word r → r ≡ Ok m → 49 ≤ get_or word 0 0
+-- digits that do not begin with 0 are the word of the number that they write
+pub number_from_digits : (word : List ℕ) (m : ℕ) → AllDigits 10 word → m ≡ digits_value 10 word → 0 < length word → 49 ≤ get_or word 0 0
     → m ≤ last_time → Some m ≡ number_in word
-number_from_parse word r m parses gave front small =
-    let fact = parse_plain own 64 word r parses (λ plus. omega (arith, plus)) in
-    let read : (AllDigits 10 word × (0 < length word) × (digits_value 10 word < 2 ^ 64)) × (m ≡ digits_value 10 word) =
-    subst (λ x. OkIff x (AllDigits 10 word × (0 < length word) × (digits_value 10 word < 2 ^ 64)) (digits_value 10 word)) gave fact in
-    let spells : decimal (digits_value 10 word) ≡ word = decimal-digits_value own word read.0.0 read.0.1 (λ zero. omega (arith, zero)) read.0.2 in
-    let is : decimal m ≡ word = ap decimal read.1 ∙ spells in
+number_from_digits word m all value some front small =
+    let spells : decimal (digits_value 10 word) ≡ word = decimal-digits_value own word all some (λ zero. omega (arith, zero)) (omega (arith, value)) in
+    let is : decimal m ≡ word = ap decimal value ∙ spells in
     subst (λ w. Some m ≡ number_in w) is (sym (number_again m small))
+
+-- ---- digits one by one
+
+-- so many digits as the end of time has write a number that a word of the machine holds, with one more behind
+pub digits_fit : (word : List ℕ) (i : ℕ) → length word ≤ 19 → i < length word → AllDigits 10 (take i word) → digits_value 10 (take i word) < 10 ^ 18
+digits_fit word i short within all = digits_value_short own (take i word) 18 all (omega (arith, length-take i word))
+
+-- what stands behind one more digit
+pub one_more_digit : (word : List ℕ) (i n d : ℕ) → i < length word → AllDigits 10 (take i word) → n ≡ digits_value 10 (take i word)
+    → IsInRange 48 57 (get_or word i 0) → d ≡ get_or word i 0 - 48
+    → AllDigits 10 (take (i + 1) word) × (10 * n + d ≡ digits_value 10 (take (i + 1) word))
+one_more_digit word i n d within all value range is =
+    let digit = digit_value_digit (get_or word i 0) range in
+    (digits_more 10 word i within all (omega (arith, range.0, range.1, digit)), omega (arith, value, is, digit, digits_value_more 10 word i within))

@@ -9,6 +9,7 @@ use crate::item_list::ItemList;
 use crate::record::Answer;
 use crate::writing::sections::HasWords;
 use crate::writing::words::write_word;
+use itoa::Buffer;
 use std::alloc::AllocError;
 
 impl HasWords for Answer {
@@ -204,8 +205,10 @@ fn write_fired(out: &mut String, fired: &[u32]) -> Result<(), AllocError>
     ensures text { OnOk result (string_bytes out.new ≡ string_bytes out.old ++ spaced (map decimal fired.now)) }
     ensures numbers { OnOk result (AreMachineNumbers fired.now) }
 {
+    let mut digits = Buffer::new();
     for timer in fired {
-        write!(out, " {timer}")?;
+        out.push_str(" ")?;
+        out.push_str(digits.format(*timer))?;
     }
     Ok(())
 }

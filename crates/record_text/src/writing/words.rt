@@ -6,6 +6,7 @@ ghost use Rattle.record_text.specs.Text.{counted_word, restart_word, spaced, wri
 ghost use Rattle.record_text.specs.Words.{clock_word, mode_word, version_word};
 
 use crate::version::Version;
+use itoa::Buffer;
 use ktime::{ClockId, Mode, Write};
 use std::alloc::AllocError;
 
@@ -24,8 +25,10 @@ pub(crate) fn write_numbers(out: &mut String, numbers: &[u64]) -> Result<(), All
     ensures text { OnOk result (string_bytes out.new ≡ string_bytes out.old ++ spaced (map decimal numbers.now)) }
     ensures numbers { OnOk result (AreMachineNumbers numbers.now) }
 {
+    let mut digits = Buffer::new();
     for number in numbers {
-        write!(out, " {number}")?;
+        out.push_str(" ")?;
+        out.push_str(digits.format(*number))?;
     }
     Ok(())
 }

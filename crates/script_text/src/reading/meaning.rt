@@ -82,9 +82,14 @@ pub fn call(form: Form, values: &[Value]) -> Option<LaneCall>
         [Number(lane), Number(timer)] => form.timer_call(*lane, *timer),
         _ => None,
     };
-    on_timer
-        .or(plain_call(form, values))
-        .or(object_call(form, values))
+    if on_timer.is_some() {
+        return on_timer;
+    }
+    let plain = plain_call(form, values);
+    if plain.is_some() {
+        return plain;
+    }
+    object_call(form, values)
 }
 
 /// The call of a raw timer, of a base or of the clock that a line asks for.

@@ -1,5 +1,5 @@
 //! Reads a script, line after line.
-ghost use Rattle.std.specs.Prelude.{◌≡◌, ◌<◌, ◌^◌, IfOk, IfErr, Ok, Err, map, length};
+ghost use Rattle.std.specs.Prelude.{◌≡◌, ◌<◌, ◌^◌, IfOk, IfErr, OnOk, MatchResult, Ok, Err, map, length};
 ghost use Rattle.script_text.specs.Scripts.{Reads, without_empty_tail, is_skipped};
 ghost use Rattle.script_text.specs.Drafts.{IsWithinLimits, empty};
 ghost use Rattle.script_text.specs.Refusals.{Gives, IsReason, IsRefused, script_from, script_in, with_line_in};
@@ -71,15 +71,12 @@ fn read_lines(alloc: Global, lines: &[&[u8]]) -> Result<Result<Script, Refused>,
         if is_skipped(line) {
             continue;
         }
-        draft = match with_line(alloc, draft, line)? {
-            Ok(draft) => draft,
-            Err(cause) => {
-                return Ok(Err(Refused {
-                    line: number,
-                    cause,
-                }));
-            }
-        };
+        if let Err(cause) = add_line(alloc, &mut draft, line)? {
+            return Ok(Err(Refused {
+                line: number,
+                cause,
+            }));
+        }
     }
     if draft.headers < 4 {
         return Ok(Err(Refused {
@@ -100,24 +97,20 @@ fn is_skipped(line: &[u8]) -> bool
     }
 }
 
-/// What the lines have told after one more, or the first cause that refuses it.
+/// Adds what one more line tells, or says the first cause that refuses it.
 #[tactic(auto, unfolding(crate::specs::Refusals::with_line_in))]
-fn with_line(
-    alloc: Global,
-    mut draft: Draft,
-    line: &[u8],
-) -> Result<Result<Draft, Cause>, AllocError>
-    requires { IsWithinLimits draft }
-    ensures read { IfOk result (λ r. r ≡ with_line_in draft line.now) }
-    ensures room { IfOk result (λ r. IfOk r (λ d. IsWithinLimits d)) }
+fn add_line(alloc: Global, draft: &mut Draft, line: &[u8]) -> Result<Result<(), Cause>, AllocError>
+    requires { IsWithinLimits draft.old }
+    ensures added { IfOk result (λ r. MatchResult r (λ u. with_line_in draft.old line.now ≡ Ok draft.new) (λ cause. with_line_in draft.old line.now ≡ Err cause)) }
+    ensures room { IfOk result (λ r. OnOk r (IsWithinLimits draft.new)) }
 {
     let line = match read_line(alloc, draft.version, line)? {
         Ok(line) => line,
         Err(cause) => return Ok(Err(cause)),
     };
-    if let Some(cause) = check_line(&draft, &line) {
+    if let Some(cause) = check_line(draft, &line) {
         return Ok(Err(cause));
     }
     draft.add(alloc, &line)?;
-    Ok(Ok(draft))
+    Ok(Ok(()))
 }

@@ -1,10 +1,29 @@
 //! The clock, the mode or the number that a word spells.
-ghost use Rattle.std.specs.Prelude.{◌≡◌};
+ghost use Rattle.std.specs.Prelude.{◌≡◌, ◌≤◌, length, MatchOption};
+ghost use Rattle.std.specs.Str.Parse.{AllDigits, digits_value};
 ghost use Rattle.script_text.specs.Reading.{number_in, clock_in, mode_in, value_in};
 
 use crate::form::{Field, Value};
 use crate::refusal::Cause;
 use ktime::{ClockId, LAST_TIME, Mode};
+
+/// How many digits the end of time has.
+const MOST_DIGITS: usize = 19;
+
+/// The number that the bytes of a word write, if each of them is a digit.
+fn number_by_digits(word: &[u8]) -> Option<u64>
+    requires { length word.now ≤ 19 }
+    ensures { MatchOption result (AllDigits 10 word.now → ⊥) (λ n. AllDigits 10 word.now × (n ≡ digits_value 10 word.now)) }
+{
+    let mut n = 0;
+    for byte in word {
+        if !byte.is_ascii_digit() {
+            return None;
+        }
+        n = 10 * n + u64::from(*byte - b'0');
+    }
+    Some(n)
+}
 
 /// The number that this word spells, if it is at most the end of time.
 pub fn number(word: &[u8]) -> Option<u64>
@@ -16,15 +35,13 @@ pub fn number(word: &[u8]) -> Option<u64>
     if word.is_empty() {
         return None;
     }
+    if word.len() > MOST_DIGITS {
+        return None;
+    }
     if word[0] < b'1' {
         return None;
     }
-    let Ok(text) = str::from_utf8(word) else {
-        return None;
-    };
-    let Ok(n) = text.parse::<u64>() else {
-        return None;
-    };
+    let n = number_by_digits(word)?;
     if n > LAST_TIME {
         return None;
     }

@@ -1,9 +1,8 @@
-use Rattle.std.proofs.Common.{◌+◌, ℕ, Result, Ok, Err, sym, ap, subst, IfOk, ◌∙◌, arith}
+use Rattle.std.proofs.Common.{rules, ◌+◌, ℕ, Result, Ok, Err, sym, ap, ◌∙◌, arith}
 use Rattle.script_text.specs.declared.refusal.Cause.{Cause}
 use Rattle.script_text.specs.declared.refusal.Cause.TheVariants as causes
 use Rattle.script_text.specs.declared.refusal.Refused.{Refused}
 use Rattle.script_text.specs.declared.script.Script.{Script}
-use Rattle.script_text.specs.Drafts.{IsWithinLimits}
 use Rattle.script_text.proofs.Loop.{line_skipped, line_refused, line_taken, lines_end_early, lines_end}
 use Rattle.script_text.proofs.reading.parsing.read_lines.Goals as goal
 
@@ -24,15 +23,15 @@ returns-in-Err c =
     ap (refused_at c.in-Err.cause) c.loop-line.invariant.number
     ∙ line_refused (λ p. p.now) c.args.lines.now c.loop-line.line-index c.loop-line.draft _
     c.loop-line.invariant.so_far _ c.in-Err.cause c.loop-line-test.true
-    (sym c.is_skipped.ensures ∙ c.if-is_skipped.false) (sym c.in_ok-draft.ensures.read ∙ c.in-Err.is)
+    (sym c.is_skipped.ensures ∙ c.if-is_skipped.false) (search rules)
 
 pub loop-line-preserved : goal.loop-line-preserved
 loop-line-preserved c = record {
   number = omega (arith, c.loop-line.invariant.number);
   so_far = line_taken (λ p. p.now) c.args.lines.now c.loop-line.line-index c.loop-line.draft _
-      c.loop-line.invariant.so_far _ c.in-Ok.draft c.loop-line-test.true
-      (sym c.is_skipped.ensures ∙ c.if-is_skipped.false) (sym c.in_ok-draft.ensures.read ∙ c.in-Ok.is);
-  room = subst (λ r. IfOk r (λ d. IsWithinLimits d)) c.in-Ok.is c.in_ok-draft.ensures.room;
+      c.loop-line.invariant.so_far _ _ c.loop-line-test.true
+      (sym c.is_skipped.ensures ∙ c.if-is_skipped.false) (search rules);
+  room = search rules;
 }
 
 pub returns-then-draft-lt4 : goal.returns-then-draft-lt4
