@@ -1,4 +1,5 @@
 pub mod Checks
+pub mod Collecting
 pub mod Choosing
 pub mod Tails
 pub mod Filling

@@ -6,8 +6,9 @@ ghost use Rattle.script_text.specs.declared.form.Value.TheVariants as values;
 ghost use Rattle.script_text.specs.Forms.{field_at, has_form, part, comes_by, row, since, suits};
 
 use crate::script::{Call, Kind, LaneCall};
+use crate::value_list::ValueList;
 use ktime::{ClockId, Mode};
-use record_text::{ItemList, Version};
+use record_text::Version;
 
 /// A form of line: what a line's words are, and what it does. The forms are the rows of one table.
 #[derive(Clone, Copy, Debug, PartialEq, Eq)]
@@ -82,6 +83,13 @@ pub enum Value {
     Number(u64),
 }
 
+// What stands in a place of a list that isn't filled.
+impl Default for Value {
+    fn default() -> Self {
+        Value::Number(0)
+    }
+}
+
 /// The part of a script that a form of line belongs to.
 #[derive(Clone, Copy, Debug, PartialEq, Eq)]
 pub enum Part {
@@ -96,7 +104,7 @@ pub enum Part {
 #[derive(Drop)]
 pub struct Line {
     pub form: Form,
-    pub values: ItemList<Value>,
+    pub values: ValueList,
 }
 
 // The words that several forms' rows have: a key word, or a field.

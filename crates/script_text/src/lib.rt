@@ -11,6 +11,7 @@ pub use reading::words::number;
 pub use refusal::{Cause, ParseError, Refused};
 pub use script::{Call, Callback, Declaration, Kind, LaneCall, Round, Script, StartRequest};
 pub use summing::summary;
+pub use value_list::ValueList;
 
 mod form;
 mod generating;
@@ -18,3 +19,4 @@ mod reading;
 mod refusal;
 mod script;
 mod summing;
+mod value_list;

@@ -4,12 +4,13 @@ ghost use Rattle.std.specs.List.{list_any};
 ghost use Rattle.script_text.specs.Forms.{row};
 ghost use Rattle.script_text.specs.Reading.{line_of_form, is_bad_byte, is_empty_word, line_in, values_in};
 
-use crate::form::{Form, Line, Value};
-use crate::reading::cutting::split_at;
+use crate::form::{Form, Line};
+use crate::reading::cutting::words;
 use crate::reading::forms::form;
 use crate::reading::words::value;
 use crate::refusal::Cause;
-use record_text::{ItemList, Version};
+use crate::value_list::ValueList;
+use record_text::Version;
 use std::alloc::{AllocError, Global};
 
 /// What these words fill the fields of a form with.
@@ -17,10 +18,10 @@ fn values(
     alloc: Global,
     form: Form,
     words: &[&[u8]],
-) -> Result<Result<ItemList<Value>, Cause>, AllocError>
+) -> Result<Result<ValueList, Cause>, AllocError>
     ensures { IfOk result (λ r. r ≡ values_in (row form) (map (λ w. w.now) words.now)) }
 {
-    let mut values = ItemList::new(alloc);
+    let mut values = ValueList::new(alloc);
     for (field, word) in form.fields().iter().zip(words) {
         let Some(field) = field else {
             continue;
@@ -76,7 +77,7 @@ pub fn read_line(
     if has_bad_byte(line) {
         return Ok(Err(Cause::BadByte));
     }
-    let words = split_at(alloc, line, b' ')?;
+    let words = words(alloc, line)?;
     if has_empty_word(&words) {
         return Ok(Err(Cause::BadSpace));
     }

@@ -15,22 +15,22 @@ returns-then-has_bad_byte c = sym (line_in-byte c.args.version c.args.line.now (
 
 pub returns-then-has_empty_word : goal.returns-then-has_empty_word
 returns-then-has_empty_word c =
-    let empty = full_words c.in_ok-words.words.items _ (sym c.deref.ensures.value) (sym c.has_empty_word.ensures ∙ c.if-has_empty_word.true) in
+    let empty = full_words c.in_ok-words.words.items _ (sym c.deref.ensures) (sym c.has_empty_word.ensures ∙ c.if-has_empty_word.true) in
     sym (line_in-space c.args.version c.args.line.now _ c.in_ok-words.ensures (sym c.has_bad_byte.ensures ∙ c.if-has_bad_byte.false) empty)
 
 pub returns-in-Ok : goal.returns-in-Ok
 returns-in-Ok c =
     let good = sym c.has_bad_byte.ensures ∙ c.if-has_bad_byte.false in
-    let full = full_words c.in_ok-words.words.items _ (sym c.deref.ensures.value) (sym c.has_empty_word.ensures ∙ c.if-has_empty_word.false) in
-    let form = ap (λ (words : List (Bor (List ℕ))). form_in c.args.version (read words)) (sym c.deref-2.ensures.value) ∙ sym c.form.ensures
+    let full = full_words c.in_ok-words.words.items _ (sym c.deref.ensures) (sym c.has_empty_word.ensures ∙ c.if-has_empty_word.false) in
+    let form = ap (λ (words : List (Bor (List ℕ))). form_in c.args.version (read words)) (sym c.deref-2.ensures) ∙ sym c.form.ensures
     ∙ c.in-Ok.is in
     let line = line_in-words c.args.version c.args.line.now _ _ c.in_ok-words.ensures good full form in
-    let spelled = ap (λ (words : List (Bor (List ℕ))). line_of_form c.in-Ok.form (read words)) c.deref-in-Ok.ensures.value in
+    let spelled = ap (λ (words : List (Bor (List ℕ))). line_of_form c.in-Ok.form (read words)) c.deref-in-Ok.ensures in
     subst (λ l. IfOk c.line_of_form.result (λ r. r ≡ l)) (spelled ∙ sym line) c.line_of_form.ensures
 
 pub returns : goal.returns
 returns c =
-    let full = full_words c.in_ok-words.words.items _ (sym c.deref.ensures.value) (sym c.has_empty_word.ensures ∙ c.if-has_empty_word.false) in
-    let form = ap (λ (words : List (Bor (List ℕ))). form_in c.args.version (read words)) (sym c.deref-2.ensures.value) ∙ sym c.form.ensures
+    let full = full_words c.in_ok-words.words.items _ (sym c.deref.ensures) (sym c.has_empty_word.ensures ∙ c.if-has_empty_word.false) in
+    let form = ap (λ (words : List (Bor (List ℕ))). form_in c.args.version (read words)) (sym c.deref-2.ensures) ∙ sym c.form.ensures
     ∙ c.in-Err.is in
     sym (line_in-words c.args.version c.args.line.now _ _ c.in_ok-words.ensures (sym c.has_bad_byte.ensures ∙ c.if-has_bad_byte.false) full form)
