@@ -61,7 +61,7 @@ run_rust() {
         fault "the package of callers/rust is not built: $way"
         return
     fi
-    for caller in simulation claims check; do
+    for caller in simulation claims check threads; do
         words=()
         [ "$caller" != check ] || words=("${traces[@]}")
         same "rust_$caller.$way" "$caller" "$built/$caller" "${words[@]}"

@@ -169,9 +169,12 @@ pub enum Refusal {
     BadCount = -10,
     BadLimit = -11,
     NotRunning = -12,
+    Carries = -13,
+    HoldsClaim = -14,
+    NotClaimed = -15,
 }
 
-const REFUSALS: [(Refusal, &str); 12] = [
+const REFUSALS: [(Refusal, &str); 15] = [
     (Refusal::NoTimers, "the handle has no timers"),
     (Refusal::InUse, "the handle has timers already"),
     (Refusal::NoMemory, "out of memory"),
@@ -184,6 +187,9 @@ const REFUSALS: [(Refusal, &str); 12] = [
     (Refusal::BadCount, "more timers than there may be"),
     (Refusal::BadLimit, "a limit from 1 to 2^48 - 16"),
     (Refusal::NotRunning, "the timer's function isn't running"),
+    (Refusal::Carries, "the seat carries a timer"),
+    (Refusal::HoldsClaim, "the seat has a claim"),
+    (Refusal::NotClaimed, "the seat has no claim of this timer"),
 ];
 
 impl Refusal {

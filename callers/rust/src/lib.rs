@@ -1,4 +1,4 @@
-//! High-resolution timers of one thread, over the proved static library `libhulayban.a`. What is proved is proved of the calls of `hrt.h`; these types
+//! High-resolution timers of one thread ([`Timers`]), and timers that threads share ([`shared::Seat`]), over the proved static library `libhulayban.a`. What is proved is proved of the calls of `hrt.h`; these types
 //! keep what the header asks of its caller, so that every call here is safe: references are never null and never alias, a handle is never copied, and
 //! each other argument is tested by the call.
 //!
@@ -21,6 +21,7 @@
 mod answers;
 mod claim;
 pub mod raw;
+pub mod shared;
 #[cfg(feature = "trace")]
 pub mod trace;
 
@@ -31,6 +32,8 @@ use raw::{Answer, Handle};
 /// The most bases and timers of one `Timers`, and entries of a timer.
 pub const MAX_BASES: u32 = 64;
 pub const MAX_TIMERS: usize = 4_294_967_295;
+/// The most timers that threads share.
+pub const MAX_SHARED: usize = 16_777_216;
 pub const MAX_EVENTS: u64 = 281_474_976_710_640;
 
 /// A clock, by its number in clock_gettime(2) of Linux.
@@ -77,6 +80,17 @@ pub enum Expiry {
     Kept(u64),
 }
 
+impl Expiry {
+    /// The number of its mode in C, and its time.
+    fn numbers(self) -> (u32, u64) {
+        match self {
+            Expiry::At(ns) => (0, ns),
+            Expiry::In(ns) => (1, ns),
+            Expiry::Kept(ns) => (2, ns),
+        }
+    }
+}
+
 /// Timers of one thread, numbered from 0 in the order in which they were declared. It is neither `Send` nor `Sync`, and frees its timers when it is
 /// dropped.
 #[derive(Debug)]
@@ -112,11 +126,7 @@ impl Timers {
         base: u32,
         now: &Time,
     ) -> Result<Start, Refusal> {
-        let (mode, ns) = match at {
-            Expiry::At(ns) => (0, ns),
-            Expiry::In(ns) => (1, ns),
-            Expiry::Kept(ns) => (2, ns),
-        };
+        let (mode, ns) = at.numbers();
         let (code, it) = self.call(|handle, out| unsafe {
             raw::hrt_start(handle, timer, mode, ns, slack, base, now, out)
         })?;
