@@ -92,26 +92,30 @@ first_fault (d ∷ ds) = fault_or (fault_of d) (first_fault ds)
 abbrev pub timer_declared : Declares → Declared
 timer_declared d = record { clock = unwrap_or (clock_by_number d.clock) clocks.Monotonic; context = unwrap_or (context_by_number d.context) contexts.Hard }
 
--- the number for the first bad argument of a new handle
-abbrev pub fault_new : ℕ → List Declares → ℕ → Option ℤ
-fault_new bases declares max_events =
+-- the number for the first bad argument of new timers, where there may be so many
+abbrev pub fault_among : ℕ → ℕ → List Declares → ℕ → Option ℤ
+fault_among most bases declares max_events =
     if nat_lt 0 bases && nat_le bases 64 then (
-    if nat_lt (length declares) (2 ^ 32) then (
+    if nat_le (length declares) most then (
     if nat_lt 0 max_events && nat_le max_events greatest_limit then first_fault declares
     else Some BAD_LIMIT) else Some BAD_COUNT) else Some BAD_BASE
+
+-- the number for the first bad argument of a new handle
+abbrev pub fault_new : ℕ → List Declares → ℕ → Option ℤ
+fault_new bases declares max_events = fault_among 4294967295 bases declares max_events
 
 -- what a call tells: the number for its first bad argument, or its number and its answer
 abbrev pub Told : Type 0
 Told = Result (ℤ × Answer) ℤ
 
 -- what is told, as C sees it: the number that is returned, and the answer, which a bad argument leaves as it was
-abbrev pub IsReturned : ℤ → Answer → Answer → Told → Type 0
+abbrev pub IsReturned : {A : Type 0} → ℤ → A → A → Result (ℤ × A) ℤ → Type 0
 IsReturned returned before after (Ok told) = (returned ≡ told.0) × (after ≡ told.1)
 IsReturned returned before after (Err code) = (returned ≡ code) × (after ≡ before)
 
--- a call on the timers of a handle, by what it does: with none of them C is told so, and the handle has timers after it exactly where it had before
-abbrev pub OnTimers : (Kept → Told → Kept → Type 0) → Option Kept → Option Kept → ℤ → Answer → Answer → Type 0
-OnTimers Does (Some old) (Some new) returned before after = (told : Told) × Does old told new × IsReturned returned before after told
+-- a call on the timers of a handle or of a seat, by what it does: with none of them C is told so, and there are timers after it exactly where there were before
+abbrev pub OnTimers : {K A : Type 0} → (K → Result (ℤ × A) ℤ → K → Type 0) → Option K → Option K → ℤ → A → A → Type 0
+OnTimers {A = A} Does (Some old) (Some new) returned before after = (told : Result (ℤ × A) ℤ) × Does old told new × IsReturned returned before after told
 OnTimers Does None None returned before after = IsReturned returned before after (Err NO_TIMERS)
 OnTimers Does (Some old) None returned before after = ⊥
 OnTimers Does None (Some new) returned before after = ⊥

@@ -2,3 +2,8 @@
 pub mod Calls
 pub mod Handles
 pub mod Numbers
+pub mod SeatHandles
+pub mod Seats
+pub mod Shared
+pub mod SharedSeats
+pub mod SharedTells

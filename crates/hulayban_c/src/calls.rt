@@ -197,7 +197,7 @@ impl Home {
 }
 
 /// The reading of these times, if none is too late.
-fn reading_asked(now: &Time) -> Result<Reading, i32>
+pub fn reading_asked(now: &Time) -> Result<Reading, i32>
     ensures { result ≡ reading_asked (reading_by_times now.now) }
 {
     match reading_by_times(now) {

@@ -16,10 +16,16 @@ pub const CLAIMED: i32 = 5;
 pub const CANCELLED: i32 = 6;
 /// A finish armed the timer again.
 pub const AGAIN: i32 = 7;
+/// On a seat: another seat took a base's lock. Nothing has changed.
+pub const CONTENDED: i32 = 8;
+/// On a seat: the timer was on the move, or came to another base. Nothing has changed.
+pub const MOVING: i32 = 9;
+/// On a seat: a start has sent the timer to another base, and the seat carries it there.
+pub const CARRIED: i32 = 10;
 
-/// The handle has no timers.
+/// The handle or the seat has no timers.
 pub const NO_TIMERS: i32 = -1;
-/// The handle has timers already.
+/// The handle or the seat has timers already.
 pub const IN_USE: i32 = -2;
 /// Memory ran out.
 pub const NO_MEMORY: i32 = -3;
@@ -41,3 +47,9 @@ pub const BAD_COUNT: i32 = -10;
 pub const BAD_LIMIT: i32 = -11;
 /// The function of the timer isn't running.
 pub const NOT_RUNNING: i32 = -12;
+/// The seat carries a timer.
+pub const CARRIES: i32 = -13;
+/// The seat has a claim.
+pub const HOLDS_CLAIM: i32 = -14;
+/// The seat has no claim of the timer.
+pub const NOT_CLAIMED: i32 = -15;

@@ -1,4 +1,4 @@
-//! Timers for callers in C, on one thread at a time. `include/hrt.h` declares the exports for C.
+//! Timers for callers in C: on one thread at a time, and in `shared` on many. `include/hrt.h` declares the exports for C.
 #![tactic(auto)]
 
 ghost use Rattle.std.specs.Prelude.{◌≡◌, None};
@@ -18,6 +18,7 @@ mod crossing;
 mod handle;
 mod home;
 mod opening;
+mod shared;
 mod told;
 mod unboxed;
 

@@ -2,7 +2,7 @@
 ghost use Rattle.std.specs.Prelude.{◌≡◌, ◌+◌, ◌≤◌, ◌<◌, ◌^◌, IfOk, None, length, map};
 ghost use Rattle.seq_timer.specs.Steps.{greatest_limit, limited};
 ghost use Rattle.timer_core.specs.Kept.{opened};
-ghost use Rattle.hulayban_c.specs.Calls.{timer_declared, fault_new, fault_of, first_fault};
+ghost use Rattle.hulayban_c.specs.Calls.{timer_declared, fault_among, fault_new, fault_of, first_fault};
 
 use crate::codes::{BAD_BASE, BAD_CLOCK, BAD_CONTEXT, BAD_COUNT, BAD_LIMIT};
 use crate::crossing::{Declares, clock_by_number, context_by_number};
@@ -46,23 +46,38 @@ fn first_fault(declares: &[Declares]) -> Option<i32>
     None
 }
 
-/// Tests what new timers are asked for.
-pub fn fault_new(bases: u32, declares: &[Declares], max_events: u64) -> Option<i32>
-    ensures fault { result ≡ fault_new bases declares.now max_events }
+/// Tests what new timers are asked for, where there may be so many.
+pub fn fault_among(
+    most: usize,
+    bases: u32,
+    declares: &[Declares],
+    max_events: u64,
+) -> Option<i32>
+    ensures fault { result ≡ fault_among most bases declares.now max_events }
     ensures bases { result ≡ None → (1 ≤ bases) × (bases ≤ 64) }
-    ensures timers { result ≡ None → length declares.now < 2 ^ 32 }
+    ensures timers { result ≡ None → length declares.now ≤ most }
     ensures limit { result ≡ None → (0 < max_events) × (max_events ≤ greatest_limit) }
 {
     if bases == 0 || bases > MAX_BASES {
         return Some(BAD_BASE);
     }
-    if declares.len() > MAX_TIMERS {
+    if declares.len() > most {
         return Some(BAD_COUNT);
     }
     if max_events == 0 || max_events > MAX_EVENTS {
         return Some(BAD_LIMIT);
     }
     first_fault(declares)
+}
+
+/// Tests what a new handle is asked for.
+pub fn fault_new(bases: u32, declares: &[Declares], max_events: u64) -> Option<i32>
+    ensures fault { result ≡ fault_new bases declares.now max_events }
+    ensures bases { result ≡ None → (1 ≤ bases) × (bases ≤ 64) }
+    ensures timers { result ≡ None → length declares.now < 2 ^ 32 }
+    ensures limit { result ≡ None → (0 < max_events) × (max_events ≤ greatest_limit) }
+{
+    fault_among(MAX_TIMERS, bases, declares, max_events)
 }
 
 /// How a timer is declared.
@@ -76,7 +91,7 @@ fn timer_declared(declares: Declares) -> Declared
 }
 
 /// How timers are declared.
-fn timers_declared(alloc: Global, declares: &[Declares]) -> Result<Vec<Declared>, AllocError>
+pub fn timers_declared(alloc: Global, declares: &[Declares]) -> Result<Vec<Declared>, AllocError>
     ensures { IfOk result (λ v. v.items ≡ map timer_declared declares.now) }
 {
     let mut timers = Vec::with_capacity(alloc, declares.len())?;

@@ -9,7 +9,7 @@ use seq_timer::{CancelAnswer, Finished, ForwardAnswer, Rearmed, TimerState};
 use timer_core::StartAnswer;
 
 /// Of a timer with so many entries.
-fn of_count(timer: u32, stamp: u64) -> Answer
+pub fn of_count(timer: u32, stamp: u64) -> Answer
     ensures { result ≡ of_count timer stamp }
 {
     Answer {
@@ -152,7 +152,7 @@ pub fn peek_tells(timer: u32, state: &TimerState) -> Answer
 }
 
 /// Gives C what is told: an answer is written, and a number returned.
-pub fn give(out: &mut Answer, told: Result<(i32, Answer), i32>) -> i32
+pub fn give<A: Copy>(out: &mut A, told: Result<(i32, A), i32>) -> i32
     ensures { IsReturned result out.old out.new told }
 {
     match told {
