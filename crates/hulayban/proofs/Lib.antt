@@ -1,3 +1,4 @@
 pub mod Whole
 pub mod Hands
 pub mod Rooms
+pub mod Seats

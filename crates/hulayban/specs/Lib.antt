@@ -3,5 +3,7 @@ pub mod Calls
 pub mod Serving
 pub mod Places
 pub mod Lanes
+pub mod Seats
+pub mod Expiries
 pub mod Served
 pub mod Runs

@@ -6,7 +6,7 @@ use Rattle.ktime.specs.declared.clock_id.ClockId.{ClockId}
 use Rattle.pass_names.specs.declared.PassId.{PassId}
 use Rattle.pass_names.specs.Names.{IsLast, after_retire, after_split, child_of}
 use Rattle.pass_names.specs.Passes.{Retires}
-use Rattle.pass_names.specs.SharedHistory.{TakesIn, child_known, splitter_known}
+use Rattle.pass_names.specs.SharedHistory.{TakesIn, child_known, first_known, splitter_known}
 use Rattle.seq_timer.specs.declared.context.Context.TheVariants as contexts
 use Rattle.seq_timer.specs.declared.context.Declared.{Declared}
 use Rattle.seq_timer.specs.declared.context.Terms.{Terms}
@@ -14,15 +14,16 @@ use Rattle.seq_timer.specs.declared.system.SystemEntry.{SystemEntry}
 use Rattle.seq_timer.specs.Steps.{HasRoom}
 use Rattle.base_row.specs.Calls as rows
 use Rattle.hr_timers.specs.Known.{IsPassOf, PassOf}
-use Rattle.clock_cell.specs.Views.{IsPassOfClock, KnowsClock, PassOfClock, new_clock_view, split_clock_view}
-use Rattle.counted_row.specs.Views.{new_view, split_view}
-use Rattle.signal_queue.specs.Views.{PassOfQueue, new_queue_view, split_queue_view}
+use Rattle.clock_cell.specs.Views.{IsPassOfClock, KnowsClock, PassOfClock, first_clock_view, new_clock_view, split_clock_view}
+use Rattle.counted_row.specs.Views.{first_view, new_view, split_view}
+use Rattle.signal_queue.specs.Views.{PassOfQueue, first_queue_view, new_queue_view, split_queue_view}
 use Rattle.timer_setting.specs.Settimes.{most_object_entries}
 use Rattle.timer_objects.specs.declared.callback.Callback.{Callback}
 use Rattle.timer_objects.specs.declared.callback.Callback.TheVariants as callbacks
 use Rattle.timer_objects.specs.declared.object.Decl.{Decl}
 use Rattle.timer_objects.specs.declared.object.Kind.{Kind}
 use Rattle.timer_objects.specs.Known.{IsObjectsPass, ObjectsOf, ObjectsPass, Suits}
+use Rattle.timer_objects.specs.Meaning.{opened_objects}
 use Rattle.timer_objects.specs.Signals.{IsSignalPass}
 use Rattle.hulayban.specs.declared.declaration.Declaration.{Declaration}
 
@@ -105,6 +106,14 @@ pub record IsHandleOf (x : SystemOf) (h : HandleOf) : Type 0 where
 pub record IsOnly (x : SystemOf) (h : HandleOf) : Type 0 where
   pub is : IsHandleOf x h
   pub last : IsLast (handle_name h)
+
+-- the first handle before its first call: it has seen and made nothing, the clock is at its start, and 64 signals have room in the queue
+pub record IsFirstHandle (ds : List Declaration) (terms : Terms) (h : HandleOf) : Type 0 where
+  pub timers : h.timers.known ≡ first_known
+  pub objects : h.objects.knows ≡ first_view (opened_objects (map declared_as_object ds) terms.limit)
+  pub clock : h.clock.knows ≡ first_clock_view
+  pub signals : h.signals.knows.pass ≡ first_queue_view.pass
+  pub room : h.signals.knows.room ≡ 64
 
 -- a call has left the handle one of this system, and its name
 pub record KeepsHandle (x : SystemOf) (old new : HandleOf) : Type 0 where

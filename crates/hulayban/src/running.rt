@@ -1,6 +1,6 @@
 //! Lanes on threads.
-ghost use Rattle.std.specs.Prelude.{◌≡◌, Ok, OnOk};
-ghost use Rattle.hulayban.specs.Lanes.{HasHandle, RunsBoth, RunsHere};
+ghost use Rattle.std.specs.Prelude.{◌≡◌};
+ghost use Rattle.hulayban.specs.Lanes.{HasHandle, RunsBoth, RunsHere, joined_end};
 ghost use Rattle.hulayban.specs.Places.{IsHandleAt};
 ghost use Rattle.hulayban.specs.Systems.{IsHandleOf, IsOnly, KeepsHandle};
 
@@ -56,8 +56,8 @@ impl System {
 }
 
 /// How two lanes end: with the first one's fault, or the second one's.
-fn both(first: Done, second: Done) -> Done
-    ensures { OnOk result ((first ≡ Ok tt) × (second ≡ Ok tt)) }
+pub(crate) fn both(first: Done, second: Done) -> Done
+    ensures { result ≡ joined_end first second }
 {
     first?;
     second
@@ -82,7 +82,7 @@ fn run_at<R: Wait, P: Place, L: Lane>(
 }
 
 /// Runs a lane by the handle that is here, and puts it back.
-fn run_in<R: Wait, L: Lane>(
+pub(crate) fn run_in<R: Wait, L: Lane>(
     rt: &R,
     system: &System,
     slot: &mut Option<Handle>,

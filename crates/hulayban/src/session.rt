@@ -5,6 +5,7 @@ ghost use Rattle.seq_timer.specs.declared.answer.CancelAnswer.TheVariants as can
 ghost use Rattle.seq_timer.specs.declared.context.Context.TheVariants as contexts;
 ghost use Rattle.hr_timers.specs.Handlers.{CanServe};
 ghost use Rattle.hulayban.specs.Calls.{DoesCancel, DoesCancelNow, DoesNow, DoesPeek, DoesStart, DoesWrite};
+ghost use Rattle.hulayban.specs.Expiries.{DoesNextExpiry};
 ghost use Rattle.hulayban.specs.Places.{IsHandleAt};
 ghost use Rattle.hulayban.specs.Serving.{DoesExpire};
 ghost use Rattle.hulayban.specs.Systems.{KeepsHandle};
@@ -142,6 +143,14 @@ impl<'s, P: Place> Session<'s, P> {
         ensures { DoesPeek P.system self.old self.new timer result }
     {
         self.system.peek(&mut self.me, timer)
+    }
+
+    /// How many nanoseconds a base's first timer still has to its hard expiry: 0 where that has come, `None` where no timer is armed there.
+    pub fn next_expiry<R: Wait>(&mut self, rt: &R, base: u32) -> Option<u64>
+        requires base { base < P.system.timers.about.bases }
+        ensures { DoesNextExpiry P.system self.old self.new base result }
+    {
+        self.system.next_expiry(rt, &mut self.me, base)
     }
 
     /// Runs the functions of at most so many timers of the hard context that are due on a base.

@@ -4,7 +4,7 @@ ghost use Rattle.pass_names.specs.Names.{AnswersFor};
 ghost use Rattle.pass_names.specs.Passes.{HasEach};
 ghost use Rattle.clock_cell.specs.Views.{KnowsClock};
 ghost use Rattle.hr_timers.specs.Known.{HasEachPlace, HasEachShift};
-ghost use Rattle.hulayban.specs.Systems.{CanMake, IsHandleOf, IsOnly, IsSystemOf, RetiresHandle, SplitsHandle, callback_unused, handle_name, declared_as_object, declared_as_timer};
+ghost use Rattle.hulayban.specs.Systems.{CanMake, IsFirstHandle, IsHandleOf, IsOnly, IsSystemOf, RetiresHandle, SplitsHandle, callback_unused, handle_name, declared_as_object, declared_as_timer};
 
 use crate::declaration::Declaration;
 use crate::handle::{Handle, Logs};
@@ -54,6 +54,7 @@ impl System {
         requires range { CanMake bases declared.now terms }
         ensures made { IfOk result (λ r. IsSystemOf bases declared.now terms r.0) }
         ensures only { IfOk result (λ r. IsOnly r.0 r.1) }
+        ensures first { IfOk result (λ r. IsFirstHandle declared.now terms r.1) }
     {
         let timers = timers_of(alloc, declared)?;
         let decls = objects_of(alloc, declared)?;
