@@ -1,8 +1,8 @@
 -- What a thread's seat has at timers that threads share, and what is true of it.
-use Rattle.std.specs.Prelude.{ℕ, ◌≡◌, ◌<◌, Option, Some, None, List, [], ◌∷◌, length}
+use Rattle.std.specs.Prelude.{◌≡◌, ◌<◌, Option, Some, None, List, [], ◌∷◌, length}
 use Rattle.base_row.specs.Calls.{BaseRowOf}
 use Rattle.base_row.specs.declared.view.Claimed.{Claimed}
-use Rattle.hr_timers.specs.Carriers.{CarrierOf, IsCarrierOf}
+use Rattle.hr_timers.specs.Carriers.{IsCarrierOf}
 use Rattle.hr_timers.specs.Known.{IsPassOf, PassOf, claimed_as}
 use Rattle.hr_timers.specs.declared.numbers.ClaimNumbers.{ClaimNumbers}
 use Rattle.hulayban_c.specs.declared.shared.held.Held.{Held}

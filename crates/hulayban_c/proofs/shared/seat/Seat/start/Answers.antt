@@ -1,4 +1,4 @@
-use Rattle.std.proofs.Common.{◌≡◌, sym, subst}
+use Rattle.std.proofs.Common.{sym, subst}
 use Rattle.std.specs.Arc.{arc_value}
 use Rattle.base_row.specs.Calls.{BaseRowOf}
 use Rattle.hulayban_c.specs.Seats.{IsHeld, claims_of_seat}
