@@ -43,7 +43,7 @@ make_traces() {
 run_all_c() {
     local way=$1 caller words
     shift
-    for caller in simulation refusals pool idle threads check; do
+    for caller in simulation refusals seats pool idle threads check; do
         words=()
         [ "$caller" != check ] || words=("${traces[@]}")
         if "$@" "callers/c/$caller.c" "${libraries_by[@]}" -o "$folder/$caller.$way"; then

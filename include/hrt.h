@@ -185,11 +185,7 @@ static inline int hrt_again(int32_t number) {
 
 /* A pause before the next try, longer from try to try: 1 to 1,024 turns of the processor's own pause. */
 static inline void hrt_pause(uint32_t tries) {
-    for (volatile uint32_t turns = 1u << (tries < 10 ? tries : 10); turns; turns--) {
-#if defined(__x86_64__) || defined(__i386__)
-        __asm__ __volatile__("pause");
-#endif
-    }
+    for (uint32_t turns = 1u << (tries < 10 ? tries : 10); turns; turns--) __asm__ __volatile__("pause");
 }
 
 /* Makes timers that threads share, and the first seat at them, as hrt_new does, but with at most HRT_MAX_SHARED timers. It takes memory for all of

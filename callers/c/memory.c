@@ -1,4 +1,4 @@
-/* Where memory is taken: each allocation of hrt_new and of hrt_check fails once, and the calls between hrt_new and hrt_free make none. The linker sends malloc,
+/* Where memory is taken: each allocation of hrt_new, hrt_shared_open, hrt_shared_split and hrt_check fails once, and the calls between make none. The linker sends malloc,
  * realloc and free of the library here: -Wl,--wrap=malloc,--wrap=realloc,--wrap=free. And declarations that are too many aren't read. */
 #define _DEFAULT_SOURCE
 #include "hrt.h"
@@ -66,6 +66,58 @@ static void call_all(uint64_t ns) {
     hrt_finish(&timers, timer, below(2), &a);
 }
 
+static hrt_seat seats[2];
+
+static int32_t share_all(int fail_at) {
+    calls = 0;
+    failing = fail_at;
+    int32_t code = hrt_shared_open(&seats[0], 8, declared, COUNT, 1000);
+    failing = 0;
+    return code;
+}
+
+static int32_t split(int fail_at) {
+    calls = 0;
+    failing = fail_at;
+    int32_t code = hrt_shared_split(&seats[0], &seats[1]);
+    failing = 0;
+    return code;
+}
+
+static void call_shared(hrt_seat *seat, uint64_t ns) {
+    hrt_shared_answer a;
+    hrt_time now = {ns, ns, ns};
+    hrt_shared_start(seat, below(COUNT), below(3), ns + below(100), below(20), below(8), &now, &a);
+    hrt_shared_cancel(seat, below(COUNT), &a);
+    hrt_shared_peek(seat, below(COUNT), &a);
+    hrt_shared_next(seat, below(8), &now, &a);
+    if (hrt_shared_claim(seat, below(2), below(8), &now, &a) != HRT_CLAIMED) return;
+    uint32_t timer = a.timer;
+    hrt_shared_forward(seat, timer, &now, 5, &a);
+    hrt_shared_finish(seat, timer, below(2), &a);
+}
+
+/* The same of two seats: a split without memory leaves the first as it was. */
+static void share(void) {
+    int32_t code;
+    int failed = 0, left = 0, before;
+    while ((code = share_all(failed + 1)) == HRT_NO_MEMORY) {
+        failed++;
+        left += held + (seats[0].at != NULL);
+    }
+    printf("shared open = %" PRId32 ", each allocation failed once: %s, left behind: %d\n", code, failed > 0 ? "yes" : "no", left);
+    failed = left = 0;
+    for (before = held; (code = split(failed + 1)) == HRT_NO_MEMORY; failed++) left += held - before + (seats[1].at != NULL);
+    printf("split = %" PRId32 ", each allocation failed once: %s, left behind: %d\n", code, failed > 0 ? "yes" : "no", left);
+    calls = 0;
+    for (uint64_t ns = 0; ns < 100000; ns++) call_shared(&seats[ns % 2], ns);
+    printf("allocations of the other calls: %d\n", calls);
+    code = hrt_shared_leave(&seats[0]);
+    printf("leave = %" PRId32, code);
+    printf(" %" PRId32, hrt_shared_leave(&seats[1]));
+    printf(", left behind: %d\n", held);
+}
+
 /* A timer more than a handle may have. None of these declarations may be read. */
 static void too_many(void) {
     size_t count = (size_t)HRT_MAX_TIMERS + 1, size = count * sizeof(hrt_declared);
@@ -121,6 +173,7 @@ int main(void) {
     printf("allocations of the other calls: %d\n", calls);
     code = hrt_free(&timers);
     printf("free = %" PRId32 ", left behind: %d\n", code, held);
+    share();
     too_many();
     check_all();
     return 0;

@@ -232,7 +232,9 @@ int main(int argc, char **argv) {
     }
     free(all);
     printf("each start was claimed, cancelled or started over once, or is armed\n");
-    fprintf(stderr, argc > 1 ? "starts %zu, with a move %zu, cancels %zu, claims %zu, restarts %zu\n" : "", kinds[START], kinds[MOVED_START], kinds[CANCEL],
-            kinds[CLAIM], kinds[FINISH_AGAIN]);
+    if (argc > 1) {
+        fprintf(stderr, "starts %zu, with a move %zu, cancels %zu, claims %zu, restarts %zu\n", kinds[START], kinds[MOVED_START], kinds[CANCEL], kinds[CLAIM],
+                kinds[FINISH_AGAIN]);
+    }
     return 0;
 }

@@ -13,7 +13,7 @@ use Rattle.base_row.specs.declared.view.Opening.{Opening}
 use Rattle.hr_timers.specs.Known.{PassOf}
 use Rattle.hr_timers.specs.declared.once_answer.NextAnswer.{NextAnswer}
 use Rattle.timer_core.specs.Waits.{sooner}
-use Rattle.hulayban_c.specs.Seats.{SeatOf, with_pass}
+use Rattle.hulayban_c.specs.Seats.{SeatAt, with_pass}
 use Rattle.hulayban_c.specs.Shared.{DoesWith, IsLeastWait, LooksBy, LooksIn, LooksOnce, LooksWithin, SharedNext, WasContended, shared_next_asks, wait_by}
 use Rattle.hulayban_c.specs.SharedTells.{looking_tells}
 use Rattle.hulayban_c.specs.declared.crossing.Time.{Time}
@@ -65,8 +65,7 @@ module _ (o : Opening) where
         | clocks.Monotonic ↦ within p p a q x base clocks.Monotonic mono.0 (shared.looks_refl p.known) aq mono.1
         | clocks.Realtime ↦ within p a b q x base clocks.Realtime real.0 pa bq real.1
         | clocks.Boottime ↦ within p b q q x base clocks.Boottime boot.0 pb (shared.looks_refl q.known) boot.1
-      ] in
-      (
+      ] in (
         shared.looks_trans p.known a.known q.known pa aq,
         record {
           told = answer;
@@ -93,18 +92,17 @@ module _ (o : Opening) where
   )
 
 -- law: what a call tells of looks by the pass of its seat
-pub looks_by : (old new : SeatOf) (base : ℕ) (now : Time) (reading : ClockReading) (timers : BaseRowOf) (p q : PassOf) (r : Option (Option ℕ)) (told : ℤ × SharedAnswer)
+pub looks_by : (old new : SeatAt) (base : ℕ) (now : Time) (reading : ClockReading) (timers : BaseRowOf) (p q : PassOf) (r : Option (Option ℕ)) (told : ℤ × SharedAnswer)
     → Ok reading ≡ shared_next_asks old base now → old.held ≡ holds.Rests p → timers ≡ old.timers
     → MatchOption r (WasContended p q base) (λ wait. LooksOn p.known q.known × IsLeastWait timers.about p q base reading wait)
     → told ≡ looking_tells base r → new ≡ with_pass old q → SharedNext old base now (Ok told) new
 looks_by old new base now reading timers p q r told asks held of looks tells stays =
     subst (λ (a : Result ClockReading ℤ). DoesWith a old.held (LooksBy old base) old (Ok told) new) asks
-    (subst (λ (h : Held). DoesWith (Ok reading) h (LooksBy old base) old (Ok told) new) (sym held)
-    (
+    (subst (λ (h : Held). DoesWith (Ok reading) h (LooksBy old base) old (Ok told) new) (sym held) (
       q,
       r,
       subst
-      (λ (k : BaseRowOf). MatchOption r (WasContended p q base) (λ wait. LooksOn p.known q.known × IsLeastWait k.about p q base reading wait)) of looks,
+          (λ (k : BaseRowOf). MatchOption r (WasContended p q base) (λ wait. LooksOn p.known q.known × IsLeastWait k.about p q base reading wait)) of looks,
       ap Ok tells,
       stays,
     ))

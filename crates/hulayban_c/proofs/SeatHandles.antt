@@ -25,7 +25,7 @@ use Rattle.std.specs.Ptr.{points_to}
 use Rattle.std.specs.Global.{Global}
 use Rattle.std.specs.declared.option.Option.{Option}
 use Rattle.std.specs.declared.option.Option.TheVariants.{None, Some}
-use Rattle.hulayban_c.specs.Seats.{SeatOf}
+use Rattle.hulayban_c.specs.Seats.{SeatAt}
 use Rattle.hulayban_c.specs.SeatHandles.{seat_handle_owns}
 use Rattle.hulayban_c.specs.contracts.shared.handle.SeatHandle as handle
 use Rattle.hulayban_c.specs.contracts.shared.seat.Seat as Seat
@@ -55,7 +55,7 @@ module _ {M : Type 1} {𝓤 : Ura M} {𝓛 : Logic 𝓤} {K : Type 0} {Γ : List
       nothing t $ move t (2 ∷ 0 ∷ []) $ fjoin t $ feq_i t (List Val) (ptr_val d.at ∷ []) (ptr_val d.at ∷ []) refl $ fjoin t $ feq_i t (List Val) (v ∷ []) (v ∷ []) refl $ fjoin t $
       fpack t (Valss (RawPtr ∷ Z ∷ [])) (within (shape handle.the_type) (to handle.the_type d) (v ∷ [])) (ptr_val d.at ∷ [], (h ∷ [], tt)) $ fjoin t $ s)
 
-  pub unboxed_in : K → (b o : ℕ) (h : Val) (a : Z.Denot) (x : SeatOf)
+  pub unboxed_in : K → (b o : ℕ) (h : Val) (a : Z.Denot) (x : SeatAt)
       → Step K 𝓛 (‵ (Unboxed.own_val (record { at = block_ptr b o; heap = a; value = x }) (both (vptr b o) h ∷ [])) ∷ Γ) G (‵ (seat_handle_owns a (block_ptr b o) (Some x)) ∷ ‵ (Z.own_val a (h ∷ [])) ∷ Γ) G
   unboxed_in t b o h a x = step (λ s. let v : Val = both (vptr b o) h in
       nothing t $ move t (2 ∷ 0 ∷ []) $ fjoin t $ feq_i t (List Val) (vptr b o ∷ []) (vptr b o ∷ []) refl $ fjoin t $ feq_i t (List Val) (v ∷ []) (v ∷ []) refl $ fjoin t $
@@ -65,9 +65,9 @@ module _ {M : Type 1} {𝓤 : Ura M} {𝓛 : Logic 𝓤} {K : Type 0} {Γ : List
   nothing_there t = use1 𝓛 (given ⊥ (‵ ftrue)) (never_e 𝓤 _) $ learn t (λ z. absurd z)
 
   -- by the pointer's form: at null nothing is owned and nothing is kept, and at a block the box of what is kept, whose pointer may be compared with null
-  pub box_or_null : K → Unit {0} → (a : Global) (p : Ptr) (k : Option SeatOf)
+  pub box_or_null : K → Unit {0} → (a : Global) (p : Ptr) (k : Option SeatAt)
       → (p ≡ null_ptr → k ≡ None → Seq K 𝓛 (‵ ftrue ∷ Γ) G)
-      → ((b o : ℕ) (x : SeatOf) → p ≡ block_ptr b o → k ≡ Some x → Testable (block_ptr b o) → Seq K 𝓛 (‵ (seat_handle_owns a (block_ptr b o) (Some x)) ∷ Γ) G)
+      → ((b o : ℕ) (x : SeatAt) → p ≡ block_ptr b o → k ≡ Some x → Testable (block_ptr b o) → Seq K 𝓛 (‵ (seat_handle_owns a (block_ptr b o) (Some x)) ∷ Γ) G)
       → Seq K 𝓛 (‵ (seat_handle_owns a p k) ∷ Γ) G
   box_or_null t u a null_ptr None none one = none refl refl
   box_or_null t u a null_ptr (Some x) none one = nothing_there t

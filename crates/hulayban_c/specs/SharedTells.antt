@@ -1,5 +1,5 @@
 -- What calls on a seat tell C.
-use Rattle.std.specs.Prelude.{ℕ, ℤ, ◌≡◌, Bool, not, nat_eq, Option, Some, None, Result, Ok, Err}
+use Rattle.std.specs.Prelude.{ℕ, ℤ, Bool, not, nat_eq, Option, Some, None, Result, Ok, Err}
 use Rattle.seq_timer.specs.declared.observation.Peek.{Peek}
 use Rattle.seq_timer.specs.declared.event.Placement.{Placement}
 use Rattle.seq_timer.specs.declared.answer.Finished.{Finished}

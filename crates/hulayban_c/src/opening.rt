@@ -47,12 +47,7 @@ fn first_fault(declares: &[Declares]) -> Option<i32>
 }
 
 /// Tests what new timers are asked for, where there may be so many.
-pub fn fault_among(
-    most: usize,
-    bases: u32,
-    declares: &[Declares],
-    max_events: u64,
-) -> Option<i32>
+pub fn fault_among(most: usize, bases: u32, declares: &[Declares], max_events: u64) -> Option<i32>
     ensures fault { result ≡ fault_among most bases declares.now max_events }
     ensures bases { result ≡ None → (1 ≤ bases) × (bases ≤ 64) }
     ensures timers { result ≡ None → length declares.now ≤ most }

@@ -7,7 +7,9 @@ use crate::crossing::{NOTHING, Time};
 use crate::shared::answer::{SharedAnswer, as_shared};
 use crate::shared::held::{Held, keep};
 use crate::shared::seat::Seat;
-use crate::shared::told::{busy_tells, claim_tells, contended_tells, looking_tells, now_tells, peek_shared};
+use crate::shared::told::{
+    busy_tells, claim_tells, contended_tells, looking_tells, now_tells, peek_shared,
+};
 use crate::shared::waiting::least_wait;
 use crate::told::{finish_tells, forward_tells};
 use hr_timers::ClaimAnswer;
@@ -39,12 +41,7 @@ impl Seat {
     }
 
     /// Claims the timer of a context that is the next to expire on a base. The seat keeps the claim.
-    pub fn claim(
-        &mut self,
-        context: u32,
-        base: u32,
-        now: &Time,
-    ) -> Result<(i32, SharedAnswer), i32>
+    pub fn claim(&mut self, context: u32, base: u32, now: &Time) -> Result<(i32, SharedAnswer), i32>
         ensures { SharedClaim self.old context base now.now result self.new }
     {
         let (context, reading) = self.claim_asks(context, base, now)?;

@@ -1,6 +1,6 @@
 //! A seat's handle of C: null, or the pointer of a box. It is `Handle` again, of seats: a type with parameters can't cross to C.
 ghost use Rattle.std.specs.Prelude.{◌≡◌, Option, Some, None, MatchOption};
-ghost use Rattle.hulayban_c.specs.Seats.{SeatOf};
+ghost use Rattle.hulayban_c.specs.Seats.{SeatAt};
 ghost use Rattle.hulayban_c.specs.SeatHandles.{seat_coded};
 
 use crate::shared::seat::Seat;
@@ -15,7 +15,7 @@ use std::ptr::null_mut;
 pub struct SeatHandle {
     at: *mut u8,
     alloc: Global,
-    pub ghost kept: { Option SeatOf } by { seat_coded },
+    pub ghost kept: { Option SeatAt } by { seat_coded },
 }
 
 impl Model for SeatHandle {

@@ -21,9 +21,7 @@ pub fn hold(place: &mut Held, held: Held)
     ensures { place.new ≡ held }
 {
     let before = mem::replace(place, held);
-    let Held::Taken = before else {
-        unreachable!()
-    };
+    let Held::Taken = before else { unreachable!() };
 }
 
 /// Keeps a claim where there is none.
@@ -32,7 +30,5 @@ pub fn keep(place: &mut Option<Claim>, claim: Claim)
     ensures { place.new ≡ Some claim }
 {
     let before = mem::replace(place, Some(claim));
-    let None = before else {
-        unreachable!()
-    };
+    let None = before else { unreachable!() };
 }

@@ -62,7 +62,8 @@ pub fn open_shared(
 impl Seat {
     /// Another seat of the same timers, whose pass is split off this one's. Without memory that pass is taken in again.
     pub fn split(&mut self, alloc: Global) -> Result<Box<Seat>, i32>
-        ensures { MatchResult result (λ b. SplitsHeld self.old.held self.old (Ok b.value) self.new) (λ code. SplitsHeld self.old.held self.old (Err code) self.new) }
+        ensures { MatchResult result (λ b. SplitsHeld self.old.held self.old (Ok b.value) self.new)
+            (λ code. SplitsHeld self.old.held self.old (Err code) self.new) }
     {
         let Held::Rests(pass) = &mut self.held else {
             return Err(CARRIES);

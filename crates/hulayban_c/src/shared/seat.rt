@@ -1,7 +1,7 @@
 //! A thread's seat at timers that threads share.
 ghost use Rattle.std.specs.Prelude.{◌≡◌};
 ghost use Rattle.hr_timers.specs.Known.{IsPassOf};
-ghost use Rattle.hulayban_c.specs.Seats.{IsFree};
+ghost use Rattle.hulayban_c.specs.Seats.{IsFreeSeat};
 ghost use Rattle.hulayban_c.specs.declared.shared.held.Held.TheVariants as holds;
 
 use crate::shared::held::Held;
@@ -24,9 +24,9 @@ pub struct Seat {
 impl Model for Seat {
     ghost use Rattle.std.specs.Arc.{arc_value};
     ghost use Rattle.std.specs.Prelude.{◌≡◌, length};
-    ghost use Rattle.hulayban_c.specs.Seats.{SeatOf, IsSeat};
+    ghost use Rattle.hulayban_c.specs.Seats.{SeatAt, IsSeat};
 
-    ghost Value = { SeatOf };
+    ghost Value = { SeatAt };
 
     ghost view = { λ s. record { timers = arc_value s.timers; held = s.held; claim = s.claim } };
 
@@ -37,7 +37,7 @@ impl Model for Seat {
 impl Seat {
     /// The pass of a seat that has nothing else.
     pub fn into_pass(self) -> Pass
-        requires free { IsFree self }
+        requires free { IsFreeSeat self }
         ensures pass { self.held ≡ holds.Rests result }
         ensures of_timers { IsPassOf self.timers result }
     {
@@ -48,9 +48,7 @@ impl Seat {
             count: _,
             bases: _,
         } = self;
-        let None = claim else {
-            unreachable!()
-        };
+        let None = claim else { unreachable!() };
         let Held::Rests(pass) = held else {
             unreachable!()
         };

@@ -4,7 +4,7 @@ ghost use Rattle.base_row.specs.declared.view.Claimed.{Claimed};
 ghost use Rattle.hr_timers.specs.Carriers.{IsCarrierOf};
 ghost use Rattle.hr_timers.specs.Known.{IsPassOf};
 ghost use Rattle.hulayban_c.specs.Seats.{IsHeld};
-ghost use Rattle.hulayban_c.specs.Shared.{ArrivesBy, SendsBy, SharedStart, StartsBy, StartsHeld};
+ghost use Rattle.hulayban_c.specs.Shared.{ArrivesBy, SendsBy, SharedStart, StartsOnce, StartsHeld};
 
 use crate::codes::CARRIES;
 use crate::crossing::Time;
@@ -67,16 +67,11 @@ fn start_held(
 }
 
 /// A start by a pass that carries no timer.
-fn start(
-    timers: &Timers,
-    pass: Pass,
-    timer: u32,
-    asked: &Asked,
-) -> (Held, (i32, SharedAnswer))
+fn start(timers: &Timers, pass: Pass, timer: u32, asked: &Asked) -> (Held, (i32, SharedAnswer))
     requires pass { IsPassOf timers.now pass }
     requires timer { timer < length timers.now.about.timers }
     requires base { asked.now.base < timers.now.about.bases }
-    ensures starts { StartsBy timers.now pass timer asked.now result.1 result.0 }
+    ensures starts { StartsOnce timers.now pass timer asked.now result.1 result.0 }
     ensures held { IsHeld timers.now pass.known.claims result.0 }
 {
     let mut pass = pass;
@@ -90,12 +85,7 @@ fn start(
 }
 
 /// Sends a timer to the base that is asked for, and tries to start it there.
-fn send(
-    timers: &Timers,
-    pass: Pass,
-    timer: u32,
-    asked: &Asked,
-) -> (Held, (i32, SharedAnswer))
+fn send(timers: &Timers, pass: Pass, timer: u32, asked: &Asked) -> (Held, (i32, SharedAnswer))
     requires pass { IsPassOf timers.now pass }
     requires timer { timer < length timers.now.about.timers }
     requires base { asked.now.base < timers.now.about.bases }

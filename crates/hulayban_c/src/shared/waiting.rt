@@ -19,7 +19,8 @@ pub fn least_wait(
     requires pass { IsPassOf timers.now pass.old }
     requires base { base < timers.now.about.bases }
     ensures pass { IsPassOf timers.now pass.new }
-    ensures looks { MatchOption result (WasContended pass.old pass.new base) (λ wait. LooksOn pass.old.known pass.new.known × IsLeastWait timers.now.about pass.old pass.new base reading wait) }
+    ensures looks { MatchOption result (WasContended pass.old pass.new base)
+        (λ wait. LooksOn pass.old.known pass.new.known × IsLeastWait timers.now.about pass.old pass.new base reading wait) }
 {
     let hard = least_in(timers, pass, Context::Hard, base, reading)?;
     let soft = least_in(timers, pass, Context::Soft, base, reading)?;
@@ -37,7 +38,8 @@ fn least_in(
     requires pass { IsPassOf timers.now pass.old }
     requires base { base < timers.now.about.bases }
     ensures pass { IsPassOf timers.now pass.new }
-    ensures looks { MatchOption result (WasContended pass.old pass.new base) (λ wait. LooksOn pass.old.known pass.new.known × LooksIn timers.now.about pass.old pass.new context base reading wait) }
+    ensures looks { MatchOption result (WasContended pass.old pass.new base)
+        (λ wait. LooksOn pass.old.known pass.new.known × LooksIn timers.now.about pass.old pass.new context base reading wait) }
 {
     let mono = wait_on(timers, pass, context, base, ClockId::Monotonic, reading)?;
     let real = wait_on(timers, pass, context, base, ClockId::Realtime, reading)?;
@@ -57,7 +59,8 @@ fn wait_on(
     requires pass { IsPassOf timers.now pass.old }
     requires base { base < timers.now.about.bases }
     ensures pass { IsPassOf timers.now pass.new }
-    ensures looks { MatchOption result (WasContended pass.old pass.new base) (λ wait. LooksOn pass.old.known pass.new.known × LooksOnce timers.now.about pass.old pass.new context base clock reading wait) }
+    ensures looks { MatchOption result (WasContended pass.old pass.new base)
+        (λ wait. LooksOn pass.old.known pass.new.known × LooksOnce timers.now.about pass.old pass.new context base clock reading wait) }
 {
     match timers.try_next(pass, context, base, clock) {
         NextAnswer::Contended => None,

@@ -12,13 +12,13 @@ use Rattle.std_heap.proofs.Global.TheSendSync as global
 use Rattle.std.specs.Global.{Global}
 use Rattle.std.specs.declared.option.Option.{Option}
 use Rattle.std.specs.declared.option.Option.TheVariants.{None, Some}
-use Rattle.hulayban_c.specs.Seats.{SeatOf}
+use Rattle.hulayban_c.specs.Seats.{SeatAt}
 use Rattle.hulayban_c.specs.SeatHandles.{seat_handle_owns}
 use Rattle.hulayban_c.specs.contracts.shared.seat.Seat as Seat
 use Rattle.hulayban_c.proofs.shared.seat.Seat.TheSendSync.{the_send as seat}
 use Rattle.hulayban_c.specs.contracts.shared.handle.SeatHandle.{the_row, the_type}
 
-owns_keyless : (a : Global) (p : Ptr) (k : Option SeatOf) → Keyless (seat_handle_owns a p k)
+owns_keyless : (a : Global) (p : Ptr) (k : Option SeatAt) → Keyless (seat_handle_owns a p k)
 owns_keyless a null_ptr None = tt
 owns_keyless a null_ptr (Some x) = tt
 owns_keyless a (block_ptr b o) None = tt
