@@ -1,16 +1,16 @@
 -- Seats of lanes: they get their handles one after another, and give them back.
 use Rattle.std.proofs.Common.{◌≡◌, ◌<◌, ◌-◌, ℕ, zero, suc, List, [], ◌∷◌, ◌++◌, length, map, reverse, get_or, refl, sym, ap, ◌∙◌, subst, arith}
-use Rattle.std.specs.Prelude.{Option, Some, None, Ok, Err, All}
+use Rattle.std.specs.Prelude.{Option, Some, None, Ok, Err}
 use Rattle.std.specs.List.{AllByRecursion}
 use Rattle.std.proofs.lemmas.List.{append-nil, append_assoc, get_or-reverse, length-reverse, map-append}
 use Rattle.pass_names.specs.declared.PassId.{PassId}
 use Rattle.pass_names.specs.Counts.{one_if}
-use Rattle.pass_names.specs.Names.{AnswersFor, Covers, after_retire, after_split, child_of, next_name, occurrences, same}
+use Rattle.pass_names.specs.Names.{AnswersFor, Covers, after_split, child_of, next_name, occurrences, same}
 use Rattle.pass_names.proofs.Covering.{covers_answers, covers_last, covers_none, covers_retire}
 use Rattle.pass_names.proofs.Names.{occurrences_push}
 use Rattle.hulayban.specs.Lanes.{HasHandle, LaneEnd, LaneRun, LaneRuns, RetiresEach, RunsHere, RunsLanes, SplitsEach, joined_end, joined_ends}
 use Rattle.hulayban.specs.Seats.{HasLeaf, LeadsSeats, SeatRuns, SeatsEach, TakesEach, name_here}
-use Rattle.hulayban.specs.Systems.{HandleOf, IsHandleOf, IsOnly, KeepsHandle, RetiresHandle, SplitsHandle, SystemOf, handle_name}
+use Rattle.hulayban.specs.Systems.{HandleOf, IsHandleOf, IsOnly, RetiresHandle, SplitsHandle, SystemOf, handle_name}
 use Rattle.hulayban.specs.declared.lanes.Seat.{Seat}
 
 -- the pass that has split one off covers it too, before the others

@@ -1,7 +1,7 @@
 use Rattle.std.proofs.Common.{◌∷◌, [], ◌∙◌, ap, arith, refl, reverse, subst, sym}
 use Rattle.std.specs.Prelude.{Ok, Some}
 use Rattle.std.proofs.lemmas.List.{reverse-append}
-use Rattle.hulayban.proofs.Seats.{Seating, seating_more, seating_none}
+use Rattle.hulayban.proofs.Seats.{Seating, seating_more}
 use Rattle.hulayban.specs.declared.lanes.Seat.{Seat}
 use Rattle.hulayban.proofs.lanes.seat_all.Goals as goal
 

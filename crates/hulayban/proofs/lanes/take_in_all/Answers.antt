@@ -1,7 +1,7 @@
 use Rattle.std.proofs.Common.{◌≡◌, ◌∷◌, [], ◌∙◌, ap, arith, reverse, subst}
 use Rattle.std.proofs.lemmas.Grind.{common_steps}
 use Rattle.std.proofs.lemmas.List.{reverse-append}
-use Rattle.hulayban.proofs.Seats.{Taking, answers_next, taking_all, taking_more, taking_none}
+use Rattle.hulayban.proofs.Seats.{Taking, answers_next, taking_all, taking_more}
 use Rattle.hulayban.specs.Seats.{LeadsSeats}
 use Rattle.hulayban.proofs.lanes.take_in_all.Goals as goal
 
