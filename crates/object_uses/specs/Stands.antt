@@ -1,9 +1,7 @@
 -- Timers and objects with the passes of a thread that is their only one.
 use Rattle.std.specs.Prelude.{ℕ, ◌≡◌, [], length}
 use Rattle.pass_names.specs.Names.{IsLast}
-use Rattle.atomic_table.specs.Seated.{TableId}
 use Rattle.base_row.specs.Calls as rows
-use Rattle.clock_cell.specs.Views.{IsPassOfClock, PassOfClock}
 use Rattle.hr_timers.specs.Known.{IsPassOf, PassOf}
 use Rattle.signal_queue.specs.Views.{PassOfQueue}
 use Rattle.timer_objects.specs.Signals.{IsSignalPass}
@@ -25,15 +23,3 @@ pub record IsStand (timers : rows.BaseRowOf) (pass : PassOf) (objects : ObjectsO
   pub queued : (decl_at objects 0).kind ≡ kinds.Queued
   pub descriptor : (decl_at objects 1).kind ≡ kinds.Fd
   pub sleeper : (decl_at objects 2).kind ≡ kinds.Sleeper
-
--- a descriptor on the one base, and its reader
-pub record IsAwaited (timers : rows.BaseRowOf) (objects : ObjectsOf) (reader : ℕ) : Type 0 where
-  pub bases : timers.about.bases ≡ 1
-  pub one : length objects.decls ≡ 1
-  pub descriptor : (decl_at objects 0).kind ≡ kinds.Fd
-  pub reads : reader ≡ 0
-
--- a pass of the clock is still one of it, with its name
-pub record KeepsClock (clock : TableId) (old new : PassOfClock) : Type 0 where
-  pub of_clock : IsPassOfClock clock new
-  pub id : new.knows.pass.id ≡ old.knows.pass.id

@@ -1,12 +1,13 @@
 //! The callers, run; and the calls of objects by one thread and by two.
-mod awaited;
 mod beside;
 mod blocking;
 mod calls;
 mod greatest;
+mod lanes;
 mod of_logs;
 mod passes;
 mod queued;
+mod side;
 mod stand;
 mod waiting;
 

@@ -1,5 +1,4 @@
 pub mod Claims
 pub mod Counting
 pub mod Knowing
-pub mod Near
 pub mod Turning

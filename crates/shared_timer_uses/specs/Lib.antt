@@ -1,4 +1,3 @@
 pub mod Counting
 pub mod Handlers
 pub mod Callers
-pub mod Rows

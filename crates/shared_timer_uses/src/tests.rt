@@ -5,7 +5,6 @@ ghost use Rattle.hr_timers.specs.Known.{IsPassOf};
 
 mod callers;
 mod greatest;
-mod of_base_row;
 mod of_clock_cell;
 mod of_hr_timers;
 mod of_ordered_clock;

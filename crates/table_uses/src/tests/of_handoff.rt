@@ -3,7 +3,7 @@ ghost use Rattle.std.specs.Prelude.{◌≡◌, IfSome};
 ghost use Rattle.handoff.specs.Seated.{MayGive, AwaitsWork};
 
 use super::assert_equal;
-use crate::handing::adding::{add, give_all, work};
+use crate::handing::adding::{add, give_all};
 use crate::{Addend, Load};
 use handoff::{HandSeat, Handoff};
 use std::sync::Wait;
@@ -51,25 +51,6 @@ fn a_value_is_given_worked_on_and_taken_back(rt: HostRuntime) -> Result<(), Fail
 }
 
 #[test]
-fn a_thousand_values_go_through_one_handoff(rt: HostRuntime) -> Result<(), Fail> {
-    let key = Addend { by: 3 };
-    let (handoff, mut giver, mut worker) = Handoff::make(rt.alloc(), &key)?;
-    let mut in_order = 0u64;
-    for number in 0..1000u32 {
-        let Some(sum) = through(&rt, &handoff, &mut giver, &mut worker, key, number) else {
-            break;
-        };
-        if sum == number as u64 + 3 {
-            in_order = in_order.saturating_add(1);
-        }
-    }
-    assert_equal(&rt, in_order, 1000);
-    handoff.end(&mut giver);
-    handoff.close(giver);
-    Ok(())
-}
-
-#[test]
 fn a_giver_without_a_worker_does_the_work(rt: HostRuntime) -> Result<(), Fail> {
     let key = Addend { by: 7 };
     let mut sums = Vec::with_capacity(rt.alloc(), 2)?;
@@ -88,16 +69,6 @@ fn a_worker_that_comes_late_is_seen(rt: HostRuntime) -> Result<(), Fail> {
     handoff.come();
     assert_equal(&rt, handoff.has_worker(&rt), true);
     handoff.end(&mut giver);
-    handoff.close(giver);
-    Ok(())
-}
-
-#[test]
-fn a_worker_that_comes_after_the_end_gets_nothing(rt: HostRuntime) -> Result<(), Fail> {
-    let key = Addend { by: 7 };
-    let (handoff, mut giver, mut worker) = Handoff::make(rt.alloc(), &key)?;
-    handoff.end(&mut giver);
-    work(&rt, &handoff, &mut worker, key);
     handoff.close(giver);
     Ok(())
 }

@@ -1,0 +1,14 @@
+use Rattle.object_uses.proofs.Sides.{keeps_same, retires_answers, retires_keeps}
+use Rattle.object_uses.proofs.tests.blocking.read_and_run.Goals as goal
+
+pub retire-requires-clause-answers : goal.retire-requires-clause-answers
+retire-requires-clause-answers g c =
+    let told = c.read_beside-told.ensures in
+    let split = c.split-other.ensures in
+    retires_answers _ _ _ _ _ split.splitter split.new told.same.0 (keeps_same _ _ told.same.1)
+
+pub returns : goal.returns
+returns g c =
+    let told = c.read_beside-told.ensures in
+    let split = c.split-other.ensures in
+    record { keeps = retires_keeps _ _ _ _ _ split.splitter split.new told.same.0 (keeps_same _ _ told.same.1) _ c.retire.ensures }
