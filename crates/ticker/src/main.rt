@@ -14,7 +14,7 @@ use std::sync::Wait;
 #[derive(Clone, Copy)]
 struct Passing;
 
-/// Reads the descriptor 50 times, and counts its ticks.
+/// Runs the function if it is due, reads the descriptor 50 times, and counts its ticks.
 #[derive(Clone, Copy)]
 struct Reading {
     ticks: u64,
@@ -37,6 +37,7 @@ impl Lane for Reading {
     ghost suits = { λ x. HasFd x 0 0 };
 
     fn run<R: Wait, P: Place>(&mut self, rt: &R, me: &mut Session<'_, P>) -> Done {
+        me.expire(rt, 0, 1, &mut NoFunctions)?;
         for _ in 0..50 {
             if let ReadAnswer::Count { total } = me.read(rt, 0)? {
                 self.ticks = self.ticks.saturating_add(total);
