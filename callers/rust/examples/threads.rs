@@ -52,7 +52,7 @@ fn live(mut seat: Seat, base: u32, begun: Instant) -> Result<Counts, Refusal> {
         let timer = pick(&mut state, TIMERS);
         if pick(&mut state, 3) > 0 {
             let (ns, to) = (pick(&mut state, 200_000), pick(&mut state, THREADS));
-            let started = seat.start(timer, Expiry::In(ns.into()), 1_000, to, &now(begun))?;
+            let started = seat.start(timer, Expiry::In(ns.into()), 0, to, &now(begun))?;
             if let Start::Armed { was_armed, .. } = started {
                 counts.made += 1;
                 counts.ended += u64::from(was_armed);
