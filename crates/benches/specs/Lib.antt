@@ -1,4 +1,5 @@
 pub mod Alone
+pub mod Rows
 pub mod Stands
 pub mod Turns
 pub mod WorkingBases

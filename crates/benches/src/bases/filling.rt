@@ -1,7 +1,7 @@
 //! A row whose timers stand where the threads need them.
 ghost use Rattle.std.specs.Prelude.{◌≡◌, ◌*◌, ◌^◌, ◌<◌, ◌≤◌, length, Some, None, true, []};
 ghost use Rattle.base_row.specs.Calls.{IsBasePassOf, timer_seen};
-ghost use Rattle.shared_timer_uses.specs.Rows.{HasNoReach};
+ghost use Rattle.benches.specs.Rows.{HasNoReach};
 ghost use Rattle.benches.specs.WorkingBases.{IsReady};
 
 use crate::bases::turns::{start, start_and_cancel, start_event};

@@ -3,7 +3,7 @@ use Rattle.std.specs.Prelude.{IfSome}
 use Rattle.seq_timer.specs.Tables.{timer_at}
 use Rattle.seq_timer.specs.declared.standing.Standing.{Standing}
 use Rattle.base_row.proofs.Holding.{knows_about}
-use Rattle.shared_timer_uses.proofs.Near.{on_line}
+use Rattle.benches.proofs.Near.{on_line}
 use Rattle.seq_timer.specs.Events.{Event}
 use Rattle.seq_timer.specs.Steps.{Timer}
 use Rattle.seq_timer.specs.Systems.{BaseContent}

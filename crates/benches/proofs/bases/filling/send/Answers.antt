@@ -2,7 +2,7 @@ use Rattle.std.proofs.Common.{◌≡◌, ◌<◌, ap, sym, subst, ◌∙◌, rul
 use Rattle.std.specs.Prelude.{IsNone}
 use Rattle.seq_timer.specs.Steps.{Timer}
 use Rattle.base_row.specs.Calls.{timer_seen}
-use Rattle.shared_timer_uses.proofs.Near.{may_leave}
+use Rattle.benches.proofs.Near.{may_leave}
 use Rattle.seq_timer.specs.Systems.{BaseContent, IsOn}
 use Rattle.base_row.specs.declared.view.BaseView.{BaseView}
 use Rattle.base_row.proofs.Calling.{seen_same}

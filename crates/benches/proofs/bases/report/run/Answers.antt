@@ -1,8 +1,8 @@
 use Rattle.std.proofs.Common.{ap, sym, subst}
 use Rattle.seq_timer.specs.declared.context.Terms.{Terms}
 use Rattle.base_row.specs.declared.view.Opening.{Opening}
-use Rattle.shared_timer_uses.specs.Rows.{HasNoReach}
-use Rattle.shared_timer_uses.proofs.Near.{near_on}
+use Rattle.benches.specs.Rows.{HasNoReach}
+use Rattle.benches.proofs.Near.{near_on}
 use Rattle.benches.proofs.bases.report.run.Goals as goal
 
 pub fill-requires-clause-near : goal.fill-requires-clause-near
