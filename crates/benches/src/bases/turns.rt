@@ -33,7 +33,7 @@ pub fn start_event(base: u32, ns: u64) -> Event
 }
 
 /// Starts a timer of a held base, and answers how many entries that made.
-#[tactic(auto, using(shared_timer_uses::proofs::Near::may_start_here))]
+#[tactic(auto, using(crate::proofs::Near::may_start_here))]
 pub fn start(row: &BaseRow, pass: &mut Pass, held: &mut HeldBase, timer: u32, ns: u64) -> u64
     requires holds { HoldsOneBase row.now pass.old held.old }
     requires within { timer < length row.now.about.timers }
