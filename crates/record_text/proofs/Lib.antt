@@ -1,5 +1,6 @@
 pub mod Lists
 pub mod Cutting
+pub mod Digits
 pub mod EntriesAndAnswers
 pub mod Lines
 pub mod RecordTexts

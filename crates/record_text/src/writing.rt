@@ -8,5 +8,6 @@ mod entries;
 mod lines;
 mod object_entries;
 mod sections;
+mod text_buffer;
 mod unique;
 mod words;

@@ -1,5 +1,5 @@
 //! The words of answers.
-ghost use Rattle.std.specs.Prelude.{◌≡◌, ◌++◌, ◌∷◌, OnOk, string_bytes, codes, length, map};
+ghost use Rattle.std.specs.Prelude.{◌≡◌, ◌++◌, ◌∷◌, OnOk, codes, length, map};
 ghost use Rattle.std.specs.Fmt.{decimal};
 ghost use Rattle.record_text.specs.Numbers.{AreMachineNumbers};
 ghost use Rattle.record_text.specs.Answers.{answer_numbers, object_answer_numbers, shift_answer_numbers, signal_answer_numbers, sleeper_answer_numbers, answer_words, object_answer_words, shift_answer_words, signal_answer_words, sleeper_answer_words};
@@ -8,8 +8,8 @@ ghost use Rattle.record_text.specs.Text.{spaced};
 use crate::item_list::ItemList;
 use crate::record::Answer;
 use crate::writing::sections::HasWords;
+use crate::writing::text_buffer::TextBuffer;
 use crate::writing::words::write_word;
-use itoa::Buffer;
 use std::alloc::AllocError;
 
 impl HasWords for Answer {
@@ -17,7 +17,7 @@ impl HasWords for Answer {
 
     ghost numbers = { answer_numbers };
 
-    fn write_words(&self, out: &mut String) -> Result<(), AllocError> {
+    fn write_words(&self, out: &mut TextBuffer) -> Result<(), AllocError> {
         match *self {
             Answer::ClockSpent => write_word(out, "clockspent", &[])?,
             Answer::Started {
@@ -58,7 +58,10 @@ impl HasWords for Answer {
                 generation,
             } => write_busy(out, reading, timer, generation, fired)?,
             Answer::Clock { stamp } => write_word(out, "clock", &[stamp])?,
-            Answer::Range { would_be } => write!(out, " range {would_be}")?,
+            Answer::Range { would_be } => {
+                write_word(out, "range", &[])?;
+                out.write_wide(would_be)?;
+            }
             _ => write_shift_answer(out, self)?,
         }
         Ok(())
@@ -66,8 +69,8 @@ impl HasWords for Answer {
 }
 
 /// Writes the words of an answer to a call that takes a base off line or on line again, or to an object's call.
-fn write_shift_answer(out: &mut String, answer: &Answer) -> Result<(), AllocError>
-    ensures text { OnOk result (string_bytes out.new ≡ string_bytes out.old ++ spaced (shift_answer_words answer.now)) }
+fn write_shift_answer(out: &mut TextBuffer, answer: &Answer) -> Result<(), AllocError>
+    ensures text { OnOk result (out.new ≡ out.old ++ spaced (shift_answer_words answer.now)) }
     ensures numbers { OnOk result (AreMachineNumbers (shift_answer_numbers answer.now)) }
 {
     match *answer {
@@ -93,8 +96,8 @@ fn write_shift_answer(out: &mut String, answer: &Answer) -> Result<(), AllocErro
 }
 
 /// Writes the words of what a call of a POSIX timer or a descriptor alone is answered, or of a sleeper's call.
-fn write_object_answer(out: &mut String, answer: &Answer) -> Result<(), AllocError>
-    ensures text { OnOk result (string_bytes out.new ≡ string_bytes out.old ++ spaced (object_answer_words answer.now)) }
+fn write_object_answer(out: &mut TextBuffer, answer: &Answer) -> Result<(), AllocError>
+    ensures text { OnOk result (out.new ≡ out.old ++ spaced (object_answer_words answer.now)) }
     ensures numbers { OnOk result (AreMachineNumbers (object_answer_numbers answer.now)) }
 {
     match *answer {
@@ -125,8 +128,8 @@ fn write_object_answer(out: &mut String, answer: &Answer) -> Result<(), AllocErr
 }
 
 /// Writes the words of what a sleeper's call alone is answered, or a call that takes a signal of the queue.
-fn write_sleeper_answer(out: &mut String, answer: &Answer) -> Result<(), AllocError>
-    ensures text { OnOk result (string_bytes out.new ≡ string_bytes out.old ++ spaced (sleeper_answer_words answer.now)) }
+fn write_sleeper_answer(out: &mut TextBuffer, answer: &Answer) -> Result<(), AllocError>
+    ensures text { OnOk result (out.new ≡ out.old ++ spaced (sleeper_answer_words answer.now)) }
     ensures numbers { OnOk result (AreMachineNumbers (sleeper_answer_numbers answer.now)) }
 {
     match *answer {
@@ -144,8 +147,8 @@ fn write_sleeper_answer(out: &mut String, answer: &Answer) -> Result<(), AllocEr
 }
 
 /// Writes the words of what a call that takes a signal of the queue is answered. It writes nothing for another answer.
-fn write_signal_answer(out: &mut String, answer: &Answer) -> Result<(), AllocError>
-    ensures text { OnOk result (string_bytes out.new ≡ string_bytes out.old ++ spaced (signal_answer_words answer.now)) }
+fn write_signal_answer(out: &mut TextBuffer, answer: &Answer) -> Result<(), AllocError>
+    ensures text { OnOk result (out.new ≡ out.old ++ spaced (signal_answer_words answer.now)) }
     ensures numbers { OnOk result (AreMachineNumbers (signal_answer_numbers answer.now)) }
 {
     match *answer {
@@ -168,12 +171,12 @@ fn write_signal_answer(out: &mut String, answer: &Answer) -> Result<(), AllocErr
 
 /// Writes what an expiry run did that met no running timer: this word, its reading, and the timers that fired.
 fn write_run(
-    out: &mut String,
+    out: &mut TextBuffer,
     word: &str,
     reading: u64,
     fired: &ItemList<u32>,
 ) -> Result<(), AllocError>
-    ensures text { OnOk result (string_bytes out.new ≡ string_bytes out.old ++ spaced (word.now ∷ decimal (length fired.now) ∷ decimal reading ∷ map decimal fired.now)) }
+    ensures text { OnOk result (out.new ≡ out.old ++ spaced (word.now ∷ decimal (length fired.now) ∷ decimal reading ∷ map decimal fired.now)) }
     ensures numbers { OnOk result (AreMachineNumbers (length fired.now ∷ reading ∷ fired.now)) }
 {
     let fired = fired.as_slice();
@@ -184,13 +187,13 @@ fn write_run(
 
 /// Writes what an expiry run did that met this running timer.
 fn write_busy(
-    out: &mut String,
+    out: &mut TextBuffer,
     reading: u64,
     timer: u32,
     generation: u64,
     fired: &ItemList<u32>,
 ) -> Result<(), AllocError>
-    ensures text { OnOk result (string_bytes out.new ≡ string_bytes out.old ++ spaced (codes "busy" ∷ decimal (length fired.now) ∷ decimal reading ∷ decimal timer ∷ decimal generation ∷ map decimal fired.now)) }
+    ensures text { OnOk result (out.new ≡ out.old ++ spaced (codes "busy" ∷ decimal (length fired.now) ∷ decimal reading ∷ decimal timer ∷ decimal generation ∷ map decimal fired.now)) }
     ensures numbers { OnOk result (AreMachineNumbers (length fired.now ∷ reading ∷ timer ∷ generation ∷ fired.now)) }
 {
     let fired = fired.as_slice();
@@ -201,14 +204,12 @@ fn write_busy(
 }
 
 /// Writes the timers that fired, each after a space.
-fn write_fired(out: &mut String, fired: &[u32]) -> Result<(), AllocError>
-    ensures text { OnOk result (string_bytes out.new ≡ string_bytes out.old ++ spaced (map decimal fired.now)) }
+fn write_fired(out: &mut TextBuffer, fired: &[u32]) -> Result<(), AllocError>
+    ensures text { OnOk result (out.new ≡ out.old ++ spaced (map decimal fired.now)) }
     ensures numbers { OnOk result (AreMachineNumbers fired.now) }
 {
-    let mut digits = Buffer::new();
     for timer in fired {
-        out.push_str(" ")?;
-        out.push_str(digits.format(*timer))?;
+        out.write_number((*timer).into())?;
     }
     Ok(())
 }

@@ -1,5 +1,5 @@
 //! The words of a base's and of a timer's entries, and of what callbacks were told in place of one.
-ghost use Rattle.std.specs.Prelude.{◌≡◌, ◌++◌, ◌∷◌, [], OnOk, string_bytes};
+ghost use Rattle.std.specs.Prelude.{◌≡◌, ◌++◌, ◌∷◌, [], OnOk};
 ghost use Rattle.seq_timer.specs.declared.event.EventBy.TheVariants as events;
 ghost use Rattle.seq_timer.specs.declared.event.Reply.TheVariants as replies;
 ghost use Rattle.record_text.specs.Numbers.{AreMachineNumbers, shift_numbers, told_numbers};
@@ -8,6 +8,7 @@ ghost use Rattle.record_text.specs.Text.{entry_numbers, entry_words, event_parts
 use crate::record::{CallbackReply, Entry};
 use crate::version::Version;
 use crate::writing::sections::HasWords;
+use crate::writing::text_buffer::TextBuffer;
 use crate::writing::words::{clock_word, mode_word, restart_word, write_numbers, write_word};
 use seq_timer::{AskedBy, BaseEvent, EventBy, Moved, Placement, Reply, Restarted};
 use std::alloc::AllocError;
@@ -17,7 +18,7 @@ impl HasWords for BaseEvent {
 
     ghost numbers = { shift_numbers };
 
-    fn write_words(&self, out: &mut String) -> Result<(), AllocError> {
+    fn write_words(&self, out: &mut TextBuffer) -> Result<(), AllocError> {
         match *self {
             BaseEvent::Offline { heir } => write_word(out, "offline", &[heir.into()])?,
             BaseEvent::Online => write_word(out, "online", &[])?,
@@ -26,32 +27,31 @@ impl HasWords for BaseEvent {
     }
 }
 
-/// An entry as a record of this version shows it.
-#[derive(Clone, Copy)]
-pub(crate) struct EntryIn {
-    pub version: Version,
-    pub entry: Entry,
-}
-
-impl HasWords for EntryIn {
-    ghost words = { λ e. entry_words e.version e.entry };
-
-    ghost numbers = { λ e. entry_numbers e.entry };
-
-    #[tactic(auto, using(crate::proofs::RecordTexts::spaced_both, crate::proofs::RecordTexts::machine_numbers_both))]
-    fn write_words(&self, out: &mut String) -> Result<(), AllocError> {
-        write_event(out, self.version, self.entry.event)?;
-        write_reply(out, self.version, self.entry.reply)?;
-        Ok(())
-    }
+/// Writes an entry as a record of this version shows it.
+#[tactic(auto, using(crate::proofs::RecordTexts::spaced_both, crate::proofs::RecordTexts::machine_numbers_both))]
+pub(crate) fn write_entry(
+    out: &mut TextBuffer,
+    version: Version,
+    entry: &Entry,
+) -> Result<(), AllocError>
+    ensures text { OnOk result (out.new ≡ out.old ++ spaced (entry_words version entry.now)) }
+    ensures numbers { OnOk result (AreMachineNumbers (entry_numbers entry.now)) }
+{
+    write_event(out, version, &entry.event)?;
+    write_reply(out, version, &entry.reply)?;
+    Ok(())
 }
 
 /// Writes what happened.
-fn write_event(out: &mut String, version: Version, event: EventBy<u64>) -> Result<(), AllocError>
-    ensures text { OnOk result (string_bytes out.new ≡ string_bytes out.old ++ spaced (words_of version (event_parts event))) }
-    ensures numbers { OnOk result (AreMachineNumbers (numbers_in (event_parts event))) }
+fn write_event(
+    out: &mut TextBuffer,
+    version: Version,
+    event: &EventBy<u64>,
+) -> Result<(), AllocError>
+    ensures text { OnOk result (out.new ≡ out.old ++ spaced (words_of version (event_parts event.now))) }
+    ensures numbers { OnOk result (AreMachineNumbers (numbers_in (event_parts event.now))) }
 {
-    match event {
+    match *event {
         EventBy::Out { base } => write_word(out, "out", &[base.into()])?,
         EventBy::Start(asked) => write_asked(out, version, asked)?,
         EventBy::Cancel => write_word(out, "cancel", &[])?,
@@ -66,8 +66,12 @@ fn write_event(out: &mut String, version: Version, event: EventBy<u64>) -> Resul
 }
 
 /// Writes what a start was asked for.
-fn write_asked(out: &mut String, version: Version, asked: AskedBy<u64>) -> Result<(), AllocError>
-    ensures text { OnOk result (string_bytes out.new ≡ string_bytes out.old ++ spaced (words_of version (event_parts (events.Start asked)))) }
+fn write_asked(
+    out: &mut TextBuffer,
+    version: Version,
+    asked: AskedBy<u64>,
+) -> Result<(), AllocError>
+    ensures text { OnOk result (out.new ≡ out.old ++ spaced (words_of version (event_parts (events.Start asked)))) }
     ensures numbers { OnOk result (AreMachineNumbers (numbers_in (event_parts (events.Start asked)))) }
 {
     let AskedBy {
@@ -87,11 +91,11 @@ fn write_asked(out: &mut String, version: Version, asked: AskedBy<u64>) -> Resul
 }
 
 /// Writes what an event came to.
-fn write_reply(out: &mut String, version: Version, reply: Reply) -> Result<(), AllocError>
-    ensures text { OnOk result (string_bytes out.new ≡ string_bytes out.old ++ spaced (words_of version (reply_parts reply))) }
-    ensures numbers { OnOk result (AreMachineNumbers (numbers_in (reply_parts reply))) }
+fn write_reply(out: &mut TextBuffer, version: Version, reply: &Reply) -> Result<(), AllocError>
+    ensures text { OnOk result (out.new ≡ out.old ++ spaced (words_of version (reply_parts reply.now))) }
+    ensures numbers { OnOk result (AreMachineNumbers (numbers_in (reply_parts reply.now))) }
 {
-    match reply {
+    match *reply {
         Reply::Out { was_armed } => write_numbers(out, &[was_armed.into()])?,
         Reply::Start {
             placement,
@@ -111,12 +115,12 @@ fn write_reply(out: &mut String, version: Version, reply: Reply) -> Result<(), A
 
 /// Writes what a start came to.
 fn write_placement(
-    out: &mut String,
+    out: &mut TextBuffer,
     version: Version,
     placement: Placement,
     was_armed: bool,
 ) -> Result<(), AllocError>
-    ensures text { OnOk result (string_bytes out.new ≡ string_bytes out.old ++ spaced (words_of version (reply_parts (replies.Start placement was_armed)))) }
+    ensures text { OnOk result (out.new ≡ out.old ++ spaced (words_of version (reply_parts (replies.Start placement was_armed)))) }
     ensures numbers { OnOk result (AreMachineNumbers (numbers_in (reply_parts (replies.Start placement was_armed)))) }
 {
     let Placement {
@@ -135,8 +139,8 @@ fn write_placement(
 }
 
 /// Writes what a forward came to.
-fn write_moved(out: &mut String, version: Version, moved: Moved) -> Result<(), AllocError>
-    ensures text { OnOk result (string_bytes out.new ≡ string_bytes out.old ++ spaced (words_of version (reply_parts (replies.Forward moved)))) }
+fn write_moved(out: &mut TextBuffer, version: Version, moved: Moved) -> Result<(), AllocError>
+    ensures text { OnOk result (out.new ≡ out.old ++ spaced (words_of version (reply_parts (replies.Forward moved)))) }
     ensures numbers { OnOk result (AreMachineNumbers (numbers_in (reply_parts (replies.Forward moved)))) }
 {
     let Moved {
@@ -153,12 +157,12 @@ fn write_moved(out: &mut String, version: Version, moved: Moved) -> Result<(), A
 
 /// Writes what a finish came to.
 fn write_finished(
-    out: &mut String,
+    out: &mut TextBuffer,
     version: Version,
     generation: u64,
     restarted: Restarted,
 ) -> Result<(), AllocError>
-    ensures text { OnOk result (string_bytes out.new ≡ string_bytes out.old ++ spaced (words_of version (reply_parts (replies.Finish generation restarted)))) }
+    ensures text { OnOk result (out.new ≡ out.old ++ spaced (words_of version (reply_parts (replies.Finish generation restarted)))) }
     ensures numbers { OnOk result (AreMachineNumbers (numbers_in (reply_parts (replies.Finish generation restarted)))) }
 {
     write_numbers(out, &[generation])?;
@@ -175,7 +179,7 @@ impl HasWords for CallbackReply {
 
     ghost numbers = { told_numbers };
 
-    fn write_words(&self, out: &mut String) -> Result<(), AllocError> {
+    fn write_words(&self, out: &mut TextBuffer) -> Result<(), AllocError> {
         match *self {
             CallbackReply::Running { generation } => write_word(out, "running", &[generation])?,
             CallbackReply::Armed { generation } => write_word(out, "armed", &[generation])?,

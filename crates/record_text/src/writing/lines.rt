@@ -1,78 +1,101 @@
 //! The lines of a record, each with what it tells, and its whole text.
-ghost use Rattle.std.specs.Prelude.{◌≡◌, ◌++◌, ◌∷◌, [], OnOk, string_bytes, IfOk};
+ghost use Rattle.std.specs.Prelude.{◌≡◌, ◌++◌, ◌∷◌, [], OnOk, IfOk, map};
 ghost use Rattle.std.specs.Fmt.{decimal};
 ghost use Rattle.record_text.specs.Numbers.{AreMachineNumbers, HasMachineNumbers, HaveMachineNumbers};
-ghost use Rattle.record_text.specs.Text.{entry_and_looks, lines_from_timers, lines_text, object_entry_and_skips, spaced, text_of, OfBase, OfCall, OfClock, OfLook, OfSkip};
+ghost use Rattle.record_text.specs.Text.{entry_and_looks, lines_from_timers, line_text, lines_text, object_entry_and_skips, spaced, text_of, Heading, OfBase, OfCall, OfClock, OfLook, OfSkip};
 
 use crate::record::{
     Answer, BaseLine, ClockLine, Label, Look, ObjectLine, RunRecord, Skip, TimerLine,
 };
 use crate::version::Version;
-use crate::writing::entries::EntryIn;
+use crate::writing::entries::write_entry;
 use crate::writing::sections::{
     HasLineBelow, HasLines, HasWords, write_below, write_list, write_lists,
 };
+use crate::writing::text_buffer::TextBuffer;
 use crate::writing::words::{version_word, write_name, write_ns, write_numbers, write_word};
 use std::alloc::{AllocError, Global};
 
 /// The text of a record, by its version: a line for each write of the clock, then for each entry of each base, then for each
 /// entry of each timer with what callbacks were told there, then for each entry of each object with the expiries that were
 /// refused there, then for each answer of each lane.
-#[tactic(auto, using(crate::proofs::RecordTexts::lines_text_both, crate::proofs::RecordTexts::numbers_both))]
 pub fn text(alloc: Global, run: &RunRecord) -> Result<Vec<u8>, AllocError>
     ensures text { IfOk result (λ bytes. bytes.items ≡ text_of run.now) }
     ensures numbers { OnOk result (HasMachineNumbers run.now) }
 {
-    let mut out = String::new(alloc);
+    let mut out = TextBuffer::new(alloc);
+    write_record(&mut out, run)?;
+    out.into_bytes()
+}
+
+/// Writes the text of a record.
+#[tactic(auto, using(crate::proofs::RecordTexts::lines_text_both, crate::proofs::RecordTexts::numbers_both))]
+fn write_record(out: &mut TextBuffer, run: &RunRecord) -> Result<(), AllocError>
+    ensures text { OnOk result (out.new ≡ out.old ++ text_of run.now) }
+    ensures numbers { OnOk result (HasMachineNumbers run.now) }
+{
     let version = run.version;
-    let number = version_word(version);
-    writeln!(out, "record {number}")?;
-    write_list(&mut out, version, 0, 1, run.clock.as_slice())?;
-    write_lists(&mut out, version, 1, run.bases.as_slice())?;
-    write_from_timers(&mut out, run)?;
-    Ok(out.into_bytes())
+    write_heading(out, version)?;
+    write_list(out, version, 0, 1, run.clock.as_slice())?;
+    write_lists(out, version, 1, run.bases.as_slice())?;
+    write_from_timers(out, run)
+}
+
+/// Writes the line that a record of this version begins with.
+fn write_heading(out: &mut TextBuffer, version: Version) -> Result<(), AllocError>
+    ensures { OnOk result (out.new ≡ out.old ++ line_text version Heading) }
+{
+    out.write_bytes(b"record")?;
+    write_word(out, version_word(version), &[])?;
+    out.write_bytes(b"\n")
 }
 
 /// Writes the lines of the timers, and all that stand behind them.
 #[tactic(auto, using(crate::proofs::RecordTexts::lines_text_both, crate::proofs::RecordTexts::numbers_both))]
-fn write_from_timers(out: &mut String, run: &RunRecord) -> Result<(), AllocError>
-    ensures text { OnOk result (string_bytes out.new ≡ string_bytes out.old ++ lines_text run.now.version (lines_from_timers run.now)) }
+fn write_from_timers(out: &mut TextBuffer, run: &RunRecord) -> Result<(), AllocError>
+    ensures text { OnOk result (out.new ≡ out.old ++ lines_text run.now.version (lines_from_timers run.now)) }
     ensures numbers { OnOk result (HaveMachineNumbers (lines_from_timers run.now)) }
 {
     let version = run.version;
     write_lists(out, version, 1, run.timers.as_slice())?;
     write_lists(out, version, 1, run.objects.as_slice())?;
     write_lists(out, version, 0, run.answers.as_slice())?;
-    out.push_str("end\n")?;
-    Ok(())
+    out.write_bytes(b"end\n")
 }
 
-/// Writes a line: its kind, the numbers of its list and its item, the call that made it, and its words.
+/// Writes what a line begins with: its kind, the numbers of its list and its item, and the call that made it.
+fn write_head(
+    out: &mut TextBuffer,
+    kind: &str,
+    list: usize,
+    number: usize,
+    label: Label,
+) -> Result<(), AllocError>
+    ensures text { OnOk result (out.new ≡ out.old ++ (kind.now ++ spaced (map decimal (list ∷ number ∷ label.lane ∷ label.call ∷ [])))) }
+    ensures numbers { OnOk result (AreMachineNumbers (list ∷ number ∷ label.lane ∷ label.call ∷ [])) }
+{
+    let Label { lane, call } = label;
+    out.write_bytes(kind.as_bytes())?;
+    let numbers = [list as u64, number as u64, lane.into(), call.into()];
+    write_numbers(out, &numbers)
+}
+
+/// Writes a line: what it begins with, and its words.
 fn write_line_of<W: HasWords>(
-    out: &mut String,
+    out: &mut TextBuffer,
     kind: &str,
     list: usize,
     number: usize,
     label: Label,
     what: &W,
 ) -> Result<(), AllocError>
-    ensures text { OnOk result (string_bytes out.new ≡ string_bytes out.old
+    ensures text { OnOk result (out.new ≡ out.old
         ++ ((kind.now ++ spaced (decimal list ∷ decimal number ∷ decimal label.lane ∷ decimal label.call ∷ W.words what.now)) ++ 10 ∷ [])) }
     ensures numbers { OnOk result (AreMachineNumbers (list ∷ number ∷ label.lane ∷ label.call ∷ W.numbers what.now)) }
 {
-    out.push_str(kind)?;
-    write_numbers(
-        out,
-        &[
-            list as u64,
-            number as u64,
-            label.lane.into(),
-            label.call.into(),
-        ],
-    )?;
+    write_head(out, kind, list, number, label)?;
     what.write_words(out)?;
-    out.push_str("\n")?;
-    Ok(())
+    out.write_bytes(b"\n")
 }
 
 impl HasLines for ClockLine {
@@ -80,22 +103,21 @@ impl HasLines for ClockLine {
 
     fn write_lines(
         &self,
-        out: &mut String,
+        out: &mut TextBuffer,
         _version: Version,
         _list: usize,
         number: usize,
     ) -> Result<(), AllocError> {
         let Label { lane, call } = self.label;
         let (ns, changes) = (write_ns(self.write), self.changes);
-        out.push_str("clock")?;
+        out.write_bytes(b"clock")?;
         write_numbers(out, &[number as u64, lane.into(), call.into()])?;
         write_word(
             out,
             write_name(self.write),
             &[ns, self.mono, self.real, self.boot, changes],
         )?;
-        out.push_str("\n")?;
-        Ok(())
+        out.write_bytes(b"\n")
     }
 }
 
@@ -104,7 +126,7 @@ impl HasLines for BaseLine {
 
     fn write_lines(
         &self,
-        out: &mut String,
+        out: &mut TextBuffer,
         _version: Version,
         base: usize,
         number: usize,
@@ -118,16 +140,14 @@ impl HasLines for TimerLine {
 
     fn write_lines(
         &self,
-        out: &mut String,
+        out: &mut TextBuffer,
         version: Version,
         timer: usize,
         number: usize,
     ) -> Result<(), AllocError> {
-        let entry = EntryIn {
-            version,
-            entry: self.entry,
-        };
-        write_line_of(out, "timer", timer, number, self.label, &entry)?;
+        write_head(out, "timer", timer, number, self.label)?;
+        write_entry(out, version, &self.entry)?;
+        out.write_bytes(b"\n")?;
         write_below(out, version, timer, number, self.looks.as_slice())
     }
 }
@@ -137,7 +157,7 @@ impl HasLines for ObjectLine {
 
     fn write_lines(
         &self,
-        out: &mut String,
+        out: &mut TextBuffer,
         version: Version,
         object: usize,
         number: usize,
@@ -152,16 +172,15 @@ impl HasLines for Answer {
 
     fn write_lines(
         &self,
-        out: &mut String,
+        out: &mut TextBuffer,
         _version: Version,
         lane: usize,
         call: usize,
     ) -> Result<(), AllocError> {
-        out.push_str("call")?;
+        out.write_bytes(b"call")?;
         write_numbers(out, &[lane as u64, call as u64])?;
         self.write_words(out)?;
-        out.push_str("\n")?;
-        Ok(())
+        out.write_bytes(b"\n")
     }
 }
 
@@ -170,7 +189,7 @@ impl HasLineBelow for Look {
 
     fn write_line(
         &self,
-        out: &mut String,
+        out: &mut TextBuffer,
         _version: Version,
         timer: usize,
         number: usize,
@@ -184,7 +203,7 @@ impl HasLineBelow for Skip {
 
     fn write_line(
         &self,
-        out: &mut String,
+        out: &mut TextBuffer,
         _version: Version,
         object: usize,
         number: usize,
@@ -198,7 +217,7 @@ impl HasWords for Skip {
 
     ghost numbers = { λ skip. skip.generation ∷ [] };
 
-    fn write_words(&self, out: &mut String) -> Result<(), AllocError> {
+    fn write_words(&self, out: &mut TextBuffer) -> Result<(), AllocError> {
         write_numbers(out, &[self.generation])
     }
 }

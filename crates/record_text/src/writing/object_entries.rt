@@ -1,5 +1,5 @@
 //! The words of an object's entries.
-ghost use Rattle.std.specs.Prelude.{◌≡◌, ◌<◌, ◌^◌, ◌++◌, ◌∷◌, [], OnOk, string_bytes};
+ghost use Rattle.std.specs.Prelude.{◌≡◌, ◌<◌, ◌^◌, ◌++◌, ◌∷◌, [], OnOk};
 ghost use Rattle.std.specs.Fmt.{decimal};
 ghost use Rattle.record_text.specs.Numbers.{armed_number, rearming_numbers, object_entry_numbers, sleeping_numbers, AreMachineNumbers};
 ghost use Rattle.record_text.specs.Answers.{answer_numbers, answer_words};
@@ -7,6 +7,7 @@ ghost use Rattle.record_text.specs.Text.{armed_word, rearming_words, sleeping_wo
 
 use crate::record::{Answer, Armed, ObjectEntry};
 use crate::writing::sections::HasWords;
+use crate::writing::text_buffer::TextBuffer;
 use crate::writing::words::{counted_word, write_numbers, write_word};
 use std::alloc::AllocError;
 
@@ -15,7 +16,7 @@ impl HasWords for ObjectEntry {
 
     ghost numbers = { object_entry_numbers };
 
-    fn write_words(&self, out: &mut String) -> Result<(), AllocError> {
+    fn write_words(&self, out: &mut TextBuffer) -> Result<(), AllocError> {
         match *self {
             ObjectEntry::Settime {
                 flags,
@@ -43,18 +44,18 @@ impl HasWords for ObjectEntry {
                 write_word(out, "trigger", &[generation, reading])?;
                 write_word(out, "full", &[])?;
             }
-            rearming => write_rearming(out, rearming)?,
+            _ => write_rearming(out, self)?,
         }
         Ok(())
     }
 }
 
 /// Writes the words of an entry of a call that arms an expired timer again, or of a sleeper's call.
-fn write_rearming(out: &mut String, entry: ObjectEntry) -> Result<(), AllocError>
-    ensures text { OnOk result (string_bytes out.new ≡ string_bytes out.old ++ spaced (rearming_words entry)) }
-    ensures numbers { OnOk result (AreMachineNumbers (rearming_numbers entry)) }
+fn write_rearming(out: &mut TextBuffer, entry: &ObjectEntry) -> Result<(), AllocError>
+    ensures text { OnOk result (out.new ≡ out.old ++ spaced (rearming_words entry.now)) }
+    ensures numbers { OnOk result (AreMachineNumbers (rearming_numbers entry.now)) }
 {
-    match entry {
+    match *entry {
         ObjectEntry::Accept {
             reading,
             arm,
@@ -81,17 +82,17 @@ fn write_rearming(out: &mut String, entry: ObjectEntry) -> Result<(), AllocError
             write_armed(out, arm)?;
             write_numbers(out, &[left, interval])?;
         }
-        sleeping => write_sleeping(out, sleeping)?,
+        _ => write_sleeping(out, entry)?,
     }
     Ok(())
 }
 
 /// Writes the words of an entry of a sleeper's call. It writes nothing for another entry.
-fn write_sleeping(out: &mut String, entry: ObjectEntry) -> Result<(), AllocError>
-    ensures text { OnOk result (string_bytes out.new ≡ string_bytes out.old ++ spaced (sleeping_words entry)) }
-    ensures numbers { OnOk result (AreMachineNumbers (sleeping_numbers entry)) }
+fn write_sleeping(out: &mut TextBuffer, entry: &ObjectEntry) -> Result<(), AllocError>
+    ensures text { OnOk result (out.new ≡ out.old ++ spaced (sleeping_words entry.now)) }
+    ensures numbers { OnOk result (AreMachineNumbers (sleeping_numbers entry.now)) }
 {
-    match entry {
+    match *entry {
         ObjectEntry::Sleep {
             flags,
             time,
@@ -113,12 +114,12 @@ fn write_sleeping(out: &mut String, entry: ObjectEntry) -> Result<(), AllocError
 
 /// Writes what came of a call: its reading, what it made of the object's timer, and its answer.
 fn write_outcome(
-    out: &mut String,
+    out: &mut TextBuffer,
     reading: u64,
     arm: Armed,
     answer: &Answer,
 ) -> Result<(), AllocError>
-    ensures text { OnOk result (string_bytes out.new ≡ string_bytes out.old ++ spaced (decimal reading ∷ armed_word arm ∷ answer_words answer.now)) }
+    ensures text { OnOk result (out.new ≡ out.old ++ spaced (decimal reading ∷ armed_word arm ∷ answer_words answer.now)) }
     ensures numbers { OnOk result (AreMachineNumbers (reading ∷ armed_number arm ∷ answer_numbers answer.now)) }
 {
     write_numbers(out, &[reading])?;
@@ -127,8 +128,8 @@ fn write_outcome(
     Ok(())
 }
 
-fn write_armed(out: &mut String, arm: Armed) -> Result<(), AllocError>
-    ensures text { OnOk result (string_bytes out.new ≡ string_bytes out.old ++ spaced (armed_word arm ∷ [])) }
+fn write_armed(out: &mut TextBuffer, arm: Armed) -> Result<(), AllocError>
+    ensures text { OnOk result (out.new ≡ out.old ++ spaced (armed_word arm ∷ [])) }
     ensures numbers { OnOk result (armed_number arm < 2 ^ 128) }
 {
     match arm {

@@ -1,34 +1,38 @@
 //! Words and numbers in a record's text, and the names of versions, clocks, modes, writes and outcomes.
-ghost use Rattle.std.specs.Prelude.{◌≡◌, ◌++◌, ◌∷◌, OnOk, string_bytes, map};
+ghost use Rattle.std.specs.Prelude.{◌≡◌, ◌++◌, ◌∷◌, OnOk, map};
 ghost use Rattle.std.specs.Fmt.{decimal};
 ghost use Rattle.record_text.specs.Numbers.{AreMachineNumbers};
 ghost use Rattle.record_text.specs.Text.{counted_word, restart_word, spaced, write_ns, write_name};
 ghost use Rattle.record_text.specs.Words.{clock_word, mode_word, version_word};
 
 use crate::version::Version;
-use itoa::Buffer;
+use crate::writing::text_buffer::TextBuffer;
 use ktime::{ClockId, Mode, Write};
 use std::alloc::AllocError;
 
 /// Writes a word and numbers behind it, each after a space.
-pub(crate) fn write_word(out: &mut String, word: &str, numbers: &[u64]) -> Result<(), AllocError>
-    ensures text { OnOk result (string_bytes out.new ≡ string_bytes out.old ++ spaced (word.now ∷ map decimal numbers.now)) }
+#[inline(always)]
+pub(crate) fn write_word(
+    out: &mut TextBuffer,
+    word: &str,
+    numbers: &[u64],
+) -> Result<(), AllocError>
+    ensures text { OnOk result (out.new ≡ out.old ++ spaced (word.now ∷ map decimal numbers.now)) }
     ensures numbers { OnOk result (AreMachineNumbers numbers.now) }
 {
-    out.push_str(" ")?;
-    out.push_str(word)?;
+    out.write_bytes(b" ")?;
+    out.write_bytes(word.as_bytes())?;
     write_numbers(out, numbers)
 }
 
 /// Writes numbers, each after a space.
-pub(crate) fn write_numbers(out: &mut String, numbers: &[u64]) -> Result<(), AllocError>
-    ensures text { OnOk result (string_bytes out.new ≡ string_bytes out.old ++ spaced (map decimal numbers.now)) }
+#[inline(always)]
+pub(crate) fn write_numbers(out: &mut TextBuffer, numbers: &[u64]) -> Result<(), AllocError>
+    ensures text { OnOk result (out.new ≡ out.old ++ spaced (map decimal numbers.now)) }
     ensures numbers { OnOk result (AreMachineNumbers numbers.now) }
 {
-    let mut digits = Buffer::new();
     for number in numbers {
-        out.push_str(" ")?;
-        out.push_str(digits.format(*number))?;
+        out.write_number(*number)?;
     }
     Ok(())
 }
