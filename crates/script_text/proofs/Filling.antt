@@ -1,5 +1,5 @@
 -- What words fill the fields of a row with, as a loop over them finds it.
-use Rattle.std.proofs.Common.{arith, length, ◌==◌, ◌||◌, Bool, true, false, ◌≡◌, ℕ, List, [], ◌∷◌, ◌++◌, map, refl, sym, ap, ◌∙◌, append_assoc, Bor, Option, Some, None, Result, Ok, Err, ◌⊎◌, inl, inr}
+use Rattle.std.proofs.Common.{arith, length, ◌==◌, ◌||◌, Bool, true, false, ◌≡◌, ℕ, List, [], ◌∷◌, ◌++◌, map, refl, sym, ap, ◌∙◌, append_assoc, Bor, Option, Some, None, Result, Ok, Err, IfOk, MatchResult, ◌⊎◌, inl, inr}
 use Rattle.std.specs.List.{list_any}
 use Rattle.std.proofs.lemmas.Bool.{eq-eqb, ne_eqb}
 use Rattle.std.proofs.lemmas.List.{append-nil, length-map}
@@ -99,6 +99,14 @@ line_of_form-values form words fields is same =
     let counts : (length (map (λ w. w.now) words) == length (row form)) ≡ true =
     eq-eqb _ _ (length-map words (λ w. w.now) ∙ same ∙ ap (λ (ps : List (Option Field)). length ps) is ∙ length-map (row form) field_at) in
     rw counts refl
+
+pub line_filled : {U E : Type 0} (r : Result (Result U Cause) E) (form : Form) (found : Result (List Value) Cause) (line : Result Line Cause)
+    (filled : List Value) → line ≡ line_with form found
+    → IfOk r (λ q. MatchResult q (λ u. found ≡ Ok filled) (λ cause. found ≡ Err cause))
+    → IfOk r (λ q. MatchResult q (λ u. line ≡ Ok (record { form = form; values = filled })) (λ cause. line ≡ Err cause))
+line_filled (Err e) form found line filled is h = h
+line_filled (Ok (Ok u)) form found line filled is h = is ∙ ap (line_with form) h
+line_filled (Ok (Err cause)) form found line filled is h = is ∙ ap (line_with form) h
 
 -- ---- a line by itself
 

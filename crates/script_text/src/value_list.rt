@@ -38,6 +38,13 @@ impl ValueList {
         Ok(())
     }
 
+    /// Takes all out.
+    pub fn clear(&mut self)
+        ensures { self.new ≡ [] }
+    {
+        self.items.clear();
+    }
+
     pub fn as_slice(&self) -> &[Value]
         ensures { result.now ≡ self.now }
     {

@@ -1,5 +1,5 @@
 //! Reads one line by itself.
-ghost use Rattle.std.specs.Prelude.{◌≡◌, IfOk, map};
+ghost use Rattle.std.specs.Prelude.{◌≡◌, IfOk, MatchResult, Ok, Err, map};
 ghost use Rattle.std.specs.List.{list_any};
 ghost use Rattle.script_text.specs.Forms.{row};
 ghost use Rattle.script_text.specs.Reading.{line_of_form, is_bad_byte, is_empty_word, line_in, values_in};
@@ -13,15 +13,16 @@ use crate::value_list::ValueList;
 use record_text::Version;
 use std::alloc::{AllocError, Global};
 
-/// What these words fill the fields of a form with.
-fn values(
-    alloc: Global,
+/// Puts what these words fill the fields of a form with in place of what is in a list.
+fn fill(
     form: Form,
     words: &[&[u8]],
-) -> Result<Result<ValueList, Cause>, AllocError>
-    ensures { IfOk result (λ r. r ≡ values_in (row form) (map (λ w. w.now) words.now)) }
+    values: &mut ValueList,
+) -> Result<Result<(), Cause>, AllocError>
+    ensures { IfOk result (λ r. MatchResult r (λ u. values_in (row form) (map (λ w. w.now) words.now) ≡ Ok values.new)
+        (λ cause. values_in (row form) (map (λ w. w.now) words.now) ≡ Err cause)) }
 {
-    let mut values = ValueList::new(alloc);
+    values.clear();
     for (field, word) in form.fields().iter().zip(words) {
         let Some(field) = field else {
             continue;
@@ -31,24 +32,19 @@ fn values(
             Err(cause) => return Ok(Err(cause)),
         }
     }
-    Ok(Ok(values))
+    Ok(Ok(()))
 }
 
-/// The line of a form that these words spell.
-fn line_of_form(
-    alloc: Global,
-    form: Form,
-    words: &[&[u8]],
-) -> Result<Result<Line, Cause>, AllocError>
-    ensures { IfOk result (λ r. r ≡ line_of_form form (map (λ w. w.now) words.now)) }
+/// Puts the line of a form that these words spell in place of another.
+fn fill_line(form: Form, words: &[&[u8]], line: &mut Line) -> Result<Result<(), Cause>, AllocError>
+    ensures { IfOk result (λ r. MatchResult r (λ u. line_of_form form (map (λ w. w.now) words.now) ≡ Ok line.new)
+        (λ cause. line_of_form form (map (λ w. w.now) words.now) ≡ Err cause)) }
 {
     if words.len() != form.fields().len() {
         return Ok(Err(Cause::WordCount));
     }
-    match values(alloc, form, words)? {
-        Ok(values) => Ok(Ok(Line { form, values })),
-        Err(cause) => Ok(Err(cause)),
-    }
+    line.form = form;
+    fill(form, words, &mut line.values)
 }
 
 /// Whether a byte among these is no letter, digit, sign or space.
@@ -65,24 +61,25 @@ fn has_empty_word(words: &[&[u8]]) -> bool
     words.iter().any(|word| word.is_empty())
 }
 
-/// The line that these bytes spell in this version, or the first cause that refuses them and needs
+/// Puts the line that these bytes spell in this version in place of another, or says the first cause that refuses them and needs
 /// no line before them.
 pub fn read_line(
     alloc: Global,
     version: Version,
-    line: &[u8],
-) -> Result<Result<Line, Cause>, AllocError>
-    ensures { IfOk result (λ r. r ≡ line_in version line.now) }
+    bytes: &[u8],
+    line: &mut Line,
+) -> Result<Result<(), Cause>, AllocError>
+    ensures { IfOk result (λ r. MatchResult r (λ u. line_in version bytes.now ≡ Ok line.new) (λ cause. line_in version bytes.now ≡ Err cause)) }
 {
-    if has_bad_byte(line) {
+    if has_bad_byte(bytes) {
         return Ok(Err(Cause::BadByte));
     }
-    let words = words(alloc, line)?;
+    let words = words(alloc, bytes)?;
     if has_empty_word(&words) {
         return Ok(Err(Cause::BadSpace));
     }
     match form(version, &words) {
-        Ok(form) => line_of_form(alloc, form, &words),
+        Ok(form) => fill_line(form, &words, line),
         Err(cause) => Ok(Err(cause)),
     }
 }

@@ -6,12 +6,14 @@ ghost use Rattle.script_text.specs.Refusals.{Gives, IsReason, IsRefused, script_
 ghost use Rattle.script_text.specs.declared.refusal.Refused.{Refused};
 ghost use Rattle.script_text.specs.declared.script.Script.{Script};
 
+use crate::form::{Form, Line};
 use crate::reading::cutting::split_at;
 use crate::reading::drafts::Draft;
 use crate::reading::lines::read_line;
 use crate::reading::placing::check_line;
 use crate::refusal::{Cause, ParseError, Refused};
 use crate::script::Script;
+use crate::value_list::ValueList;
 use std::alloc::{AllocError, Global};
 
 /// How many bytes a script may have.
@@ -65,13 +67,17 @@ fn read_lines(alloc: Global, lines: &[&[u8]]) -> Result<Result<Script, Refused>,
     ensures { IfOk result (λ r. r ≡ script_from 1 empty (map (λ l. l.now) lines.now)) }
 {
     let mut draft = Draft::new(alloc);
+    let mut place = Line {
+        form: Form::Round,
+        values: ValueList::new(alloc),
+    };
     let mut number = 0;
     for line in lines {
         number += 1;
         if is_skipped(line) {
             continue;
         }
-        if let Err(cause) = add_line(alloc, &mut draft, line)? {
+        if let Err(cause) = add_line(alloc, &mut draft, line, &mut place)? {
             return Ok(Err(Refused {
                 line: number,
                 cause,
@@ -97,20 +103,24 @@ fn is_skipped(line: &[u8]) -> bool
     }
 }
 
-/// Adds what one more line tells, or says the first cause that refuses it.
+/// Adds what one more line tells, or says the first cause that refuses it. What the line was read as stays in its place.
 #[tactic(auto, unfolding(crate::specs::Refusals::with_line_in))]
-fn add_line(alloc: Global, draft: &mut Draft, line: &[u8]) -> Result<Result<(), Cause>, AllocError>
+fn add_line(
+    alloc: Global,
+    draft: &mut Draft,
+    bytes: &[u8],
+    line: &mut Line,
+) -> Result<Result<(), Cause>, AllocError>
     requires { IsWithinLimits draft.old }
-    ensures added { IfOk result (λ r. MatchResult r (λ u. with_line_in draft.old line.now ≡ Ok draft.new) (λ cause. with_line_in draft.old line.now ≡ Err cause)) }
+    ensures added { IfOk result (λ r. MatchResult r (λ u. with_line_in draft.old bytes.now ≡ Ok draft.new) (λ cause. with_line_in draft.old bytes.now ≡ Err cause)) }
     ensures room { IfOk result (λ r. OnOk r (IsWithinLimits draft.new)) }
 {
-    let line = match read_line(alloc, draft.version, line)? {
-        Ok(line) => line,
-        Err(cause) => return Ok(Err(cause)),
-    };
-    if let Some(cause) = check_line(draft, &line) {
+    if let Err(cause) = read_line(alloc, draft.version, bytes, line)? {
         return Ok(Err(cause));
     }
-    draft.add(alloc, &line)?;
+    if let Some(cause) = check_line(draft, line) {
+        return Ok(Err(cause));
+    }
+    draft.add(alloc, line)?;
     Ok(Ok(()))
 }

@@ -1,12 +1,12 @@
 use Rattle.std.proofs.Common.{sym, ◌∙◌, ap, ◌∷◌, inl, inr}
 use Rattle.script_text.specs.Forms.{row}
 use Rattle.script_text.proofs.Filling.{with_front, values_from-start, values_from-key, values_from-field, values_from-bad, values_from-end}
-use Rattle.script_text.proofs.reading.lines.values.Goals as goal
+use Rattle.script_text.proofs.reading.lines.fill.Goals as goal
 
 pub loop-field-init : goal.loop-field-init
 loop-field-init c =
     rw (
-      c.new-values.ensures,
+      c.clear.ensures,
       c.into_iter-field-iterator.ensures.into_iter_gives,
       c.zip-field-items.ensures.first,
       c.zip-field-items.ensures.second.0,
@@ -18,8 +18,8 @@ loop-field-init c =
 pub returns-in-Err : goal.returns-in-Err
 returns-in-Err c =
     let steps = c.in-Some.ensures.steps in
-    sym (values_from-bad _ _ _ _ _ c.in-Some-field.field c.in-Some.word.now c.in-Err.cause (steps.0
-    ∙ ap (λ p. p ∷ c.next.new.self.a.rest.now) c.in-Some-field.is) steps.1 (sym c.value.ensures ∙ c.in-Err.is)) ∙ c.loop-field.invariant
+    sym c.loop-field.invariant ∙ values_from-bad _ _ _ _ _ c.in-Some-field.field c.in-Some.word.now c.in-Err.cause (steps.0
+    ∙ ap (λ p. p ∷ c.next.new.self.a.rest.now) c.in-Some-field.is) steps.1 (sym c.value.ensures ∙ c.in-Err.is)
 
 pub loop-field-preserved-in_default : goal.loop-field-preserved-in_default
 loop-field-preserved-in_default c =
@@ -35,7 +35,7 @@ loop-field-preserved c =
     rw c.in_ok-push-in-Ok.ensures.ok (sym more ∙ c.loop-field.invariant)
 
 pub returns : goal.returns
-returns c = sym (values_from-end c.loop-field.values _ _ (elim c.in-None.ensures.steps [
+returns c = sym c.loop-field.invariant ∙ values_from-end c.loop-field.values _ _ (elim c.in-None.ensures.steps [
   | inl fields ↦ inl fields.1.0
   | inr words ↦ inr words.1.0
-])) ∙ c.loop-field.invariant
+])
