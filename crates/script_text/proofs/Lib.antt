@@ -16,6 +16,7 @@ pub mod Room
 pub mod Rows
 pub mod Scripts
 pub mod Steps
+pub mod Cuts
 pub mod DraftsRead
 pub mod Generated
 pub mod GeneratedReads

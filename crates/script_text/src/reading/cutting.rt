@@ -1,5 +1,5 @@
 //! Bytes cut at one of them: a script into its lines, a line into its words.
-ghost use Rattle.std.specs.Prelude.{◌≡◌, ◌==◌, IfOk, map};
+ghost use Rattle.std.specs.Prelude.{◌≡◌, ◌==◌, ◌++◌, IfOk, OnOk, map};
 ghost use Rattle.std.specs.List.{slice_split};
 ghost use Rattle.script_text.specs.Reading.{words_in};
 
@@ -16,9 +16,18 @@ pub fn split_at(alloc: Global, bytes: &[u8], at: u8) -> Result<Vec<&[u8]>, Alloc
     bytes.split(|b| *b == at).collect(alloc)
 }
 
-/// The words of a line, which is cut at its spaces.
-pub fn words(alloc: Global, line: &[u8]) -> Result<Words<'_>, AllocError>
-    ensures { IfOk result (λ v. map (λ x. x.now) v.items ≡ words_in line.now) }
+/// Puts the words of a line, which is cut at its spaces, behind those that are there.
+pub fn cut<'a>(line: &'a [u8], words: &mut Words<'a>) -> Result<(), AllocError>
+    ensures { OnOk result (map (λ x. x.now) words.new.items ≡ map (λ x. x.now) words.old.items ++ words_in line.now) }
 {
-    line.split(|b| *b == b' ').collect(alloc)
+    let mut start = 0;
+    for (at, byte) in line.iter().enumerate() {
+        if *byte != b' ' {
+            continue;
+        }
+        words.push(&line[start..at])?;
+        start = at + 1;
+    }
+    words.push(&line[start..])?;
+    Ok(())
 }

@@ -5,7 +5,7 @@ ghost use Rattle.script_text.specs.Forms.{row};
 ghost use Rattle.script_text.specs.Reading.{line_of_form, is_bad_byte, is_empty_word, line_in, values_in};
 
 use crate::form::{Form, Line};
-use crate::reading::cutting::words;
+use crate::reading::cutting::{Words, cut};
 use crate::reading::forms::form;
 use crate::reading::words::value;
 use crate::refusal::Cause;
@@ -74,7 +74,8 @@ pub fn read_line(
     if has_bad_byte(bytes) {
         return Ok(Err(Cause::BadByte));
     }
-    let words = words(alloc, bytes)?;
+    let mut words = Words::new(alloc);
+    cut(bytes, &mut words)?;
     if has_empty_word(&words) {
         return Ok(Err(Cause::BadSpace));
     }
