@@ -5,4 +5,5 @@ pub mod Looking
 pub mod Returned
 pub mod SeatBoxes
 pub mod SeatHandles
+pub mod SeatLaws
 pub mod Words

@@ -18,6 +18,7 @@ mod asking;
 mod calls;
 mod handle;
 mod held;
+mod laws;
 mod opening;
 mod seat;
 mod starting;
