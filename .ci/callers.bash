@@ -71,7 +71,7 @@ run_rust() {
 # run_python WAY FOLDER: over the shared objects of this folder.
 run_python() {
     local way=$1 folder_of=$2 caller
-    for caller in simulation refusals; do
+    for caller in simulation refusals seats threads; do
         same "python_$caller.$way" "$caller" python3 -B "callers/python/$caller.py" "$folder_of/libhulayban.so.0"
     done
     same "python_check.$way" check python3 -B callers/python/check.py "$folder_of/libhulayban_trace.so.0" "${traces[@]}"

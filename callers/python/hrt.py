@@ -1,11 +1,12 @@
 """The declarations of hrt.h, by ctypes, over the shared object libhulayban.so.0."""
 from ctypes import CDLL, POINTER, Structure, byref, c_int32, c_size_t, c_uint32, c_uint64, c_void_p
+from time import sleep
 
-ARMED, CLAIMED = 2, 5
+DONE, ARMED, CLAIMED, CANCELLED, FINISHED_AGAIN, CONTENDED = 0, 2, 5, 6, 7, 8
 ABS, REL, KEEP = 0, 1, 2
 REALTIME, MONOTONIC, BOOTTIME = 0, 1, 7
 HARD, SOFT = 0, 1
-MAX_BASES, MAX_EVENTS = 64, 2**48 - 16
+MAX_BASES, MAX_SHARED, MAX_EVENTS = 64, 2**24, 2**48 - 16
 
 
 class Handle(Structure):
@@ -22,6 +23,12 @@ class Time(Structure):
 
 class Answer(Structure):
     _fields_ = [(name, c_uint32) for name in ("timer", "base", "clock", "armed", "running", "moved")] + [
+        (name, c_uint64) for name in ("generation", "number", "soft", "expires", "count", "wait")
+    ]
+
+
+class SharedAnswer(Structure):
+    _fields_ = [(name, c_uint32) for name in ("timer", "base", "clock", "armed", "running", "moving", "moved", "first")] + [
         (name, c_uint64) for name in ("generation", "number", "soft", "expires", "count", "wait")
     ]
 
@@ -75,3 +82,66 @@ class Timers:
 
     def peek(self, timer, out):
         return self.hrt.hrt_peek(byref(self.handle), timer, byref(out))
+
+
+class Seat:
+    """A seat of one thread at timers that threads share. Each call answers its number and, but for open, split and leave, writes into a SharedAnswer. One
+    that is to be made again, by hrt_again, is made again, after a pause that grows. One thread at a time on a seat; calls of two seats run beside each other,
+    since ctypes lets go of the interpreter's lock during a call."""
+
+    def __init__(self, library):
+        hrt, u32, u64, seat, now, out = CDLL(library), c_uint32, c_uint64, POINTER(Handle), POINTER(Time), POINTER(SharedAnswer)
+        kinds = {
+            "open": [u32, POINTER(Declared), c_size_t, u64],
+            "split": [seat],
+            "leave": [],
+            "start": [u32, u32, u64, u64, u32, now, out],
+            "cancel": [u32, out],
+            "claim": [u32, u32, now, out],
+            "forward": [u32, now, u64, out],
+            "finish": [u32, u32, out],
+            "next": [u32, now, out],
+            "peek": [u32, out],
+        }
+        for name, kind in kinds.items():
+            call = getattr(hrt, "hrt_shared_" + name)
+            call.argtypes, call.restype = [seat] + kind, c_int32
+        self.hrt, self.handle = hrt, Handle()
+
+    def _until_done(self, call, *arguments):
+        tries = 0
+        while (code := call(byref(self.handle), *arguments)) >= CONTENDED:
+            sleep(min(tries, 100) * 1e-6)
+            tries += 1
+        return code
+
+    def open(self, bases, declared, max_events):
+        array = (Declared * max(len(declared), 1))(*declared)
+        return self.hrt.hrt_shared_open(byref(self.handle), bases, array, len(declared), max_events)
+
+    def split(self, new_seat):
+        return self.hrt.hrt_shared_split(byref(self.handle), byref(new_seat.handle))
+
+    def leave(self):
+        return self.hrt.hrt_shared_leave(byref(self.handle))
+
+    def start(self, timer, mode, ns, slack, base, now, out):
+        return self._until_done(self.hrt.hrt_shared_start, timer, mode, ns, slack, base, byref(now), byref(out))
+
+    def cancel(self, timer, out):
+        return self._until_done(self.hrt.hrt_shared_cancel, timer, byref(out))
+
+    def claim(self, context, base, now, out):
+        return self._until_done(self.hrt.hrt_shared_claim, context, base, byref(now), byref(out))
+
+    def forward(self, timer, now, interval, out):
+        return self._until_done(self.hrt.hrt_shared_forward, timer, byref(now), interval, byref(out))
+
+    def finish(self, timer, restart, out):
+        return self._until_done(self.hrt.hrt_shared_finish, timer, int(restart), byref(out))
+
+    def next(self, base, now, out):
+        return self._until_done(self.hrt.hrt_shared_next, base, byref(now), byref(out))
+
+    def peek(self, timer, out):
+        return self._until_done(self.hrt.hrt_shared_peek, timer, byref(out))
