@@ -2,7 +2,7 @@
 from ctypes import CDLL, POINTER, Structure, byref, c_int32, c_size_t, c_uint32, c_uint64, c_void_p
 from time import sleep
 
-DONE, ARMED, CLAIMED, CANCELLED, FINISHED_AGAIN, CONTENDED = 0, 2, 5, 6, 7, 8
+DONE, ARMED, CLAIMED, CANCELLED, AGAIN, CONTENDED = 0, 2, 5, 6, 7, 8
 ABS, REL, KEEP = 0, 1, 2
 REALTIME, MONOTONIC, BOOTTIME = 0, 1, 7
 HARD, SOFT = 0, 1

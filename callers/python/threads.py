@@ -6,7 +6,7 @@ import sys
 import time
 from concurrent.futures import ThreadPoolExecutor
 
-from hrt import CANCELLED, CLAIMED, DONE, FINISHED_AGAIN, HARD, MAX_EVENTS, MONOTONIC, REL, Declared, Seat, SharedAnswer, Time
+from hrt import AGAIN, CANCELLED, CLAIMED, DONE, HARD, MAX_EVENTS, MONOTONIC, REL, Declared, Seat, SharedAnswer, Time
 
 THREADS, TIMERS, ROUNDS = 4, 16, 2000
 
@@ -49,8 +49,8 @@ def expire(seat, base):
             if again:
                 notes.append(note("forward", a))
         code = seat.finish(timer, again, a)
-        need(code in (DONE, FINISHED_AGAIN), "a finish")
-        notes.append(note("restart" if code == FINISHED_AGAIN else "finish", a))
+        need(code in (DONE, AGAIN), "a finish")
+        notes.append(note("restart" if code == AGAIN else "finish", a))
     return notes
 
 
