@@ -19,6 +19,7 @@ use Rattle.hr_timers.specs.Known.{KnownOfTimers, timer_then}
 use Rattle.hr_timers.specs.declared.handler.Restart.{Restart}
 use Rattle.signal_queue.specs.Rules.{turns}
 use Rattle.signal_queue.specs.Turns.{waiting_after}
+use Rattle.signal_queue.specs.declared.signal.Signal.{Signal}
 use Rattle.signal_queue.specs.declared.signal.Turn.TheVariants.{Pushed}
 use Rattle.signal_queue.specs.declared.view.QueueView.{QueueView}
 use Rattle.timer_objects.specs.declared.callback.Callback.{Callback}
@@ -55,7 +56,7 @@ module _ (x : ObjectsOf) (p q q' : ObjectsPass) (log l l' : List ObjectReceipt) 
         c.receipt ∙ (ap (λ z. log ++ entry_of id z call (object_answer c.commits.state call) ∷ []) e
             ∙ (ap (λ s. log ++ entry_of id d.commits.adds.before call (object_answer s call) ∷ []) same.0 ∙ sym d.receipt)),
         same.2,
-        looked_once _ _ _ _ begun c.turn.ends.looks d.turn.ends.looks,
+        looked_once _ _ _ _ (looked_once _ _ _ _ begun c.looks d.looks) c.turn.ends.looks d.turn.ends.looks,
         same.1,
       )
 
@@ -91,9 +92,12 @@ overflows (objects.Fd t) g r may = absurd may
 overflows (objects.Sleeper s) g r may = absurd may
 overflows (objects.Queued t) g r may = may.1
 
-module _ (x : ObjectsOf) (p q q' : ObjectsPass) (log l l' : List ObjectReceipt) (v w w' : KnownOfTimers) (s t t' : QueueView) (id : ℕ) where
-  sent_once : (b b' : Bool) (n n' : ℕ) → b ≡ b' → n ≡ n' → (c : IsPushedBy b s t id n) (d : IsPushedBy b' s t' id n')
-      → sent_at x p q log l v w b s t id n c ≡ sent_at x p q' log l' v w' b' s t' id n' d → (turns t ≡ turns t') × SamePlaces t.pass t'.pass
+module _ (o : Opening) (v w v' w' : KnownOfTimers) (s t t' : QueueView) (id : ℕ) where
+  abbrev signal : ℕ → Signal
+  signal n = record { timer = id; number = n }
+
+  sent_once : (b b' : Bool) (n n' : ℕ) → b ≡ b' → n ≡ n' → (c : IsPushedBy o v w b s t (signal n)) (d : IsPushedBy o v' w' b' s t' (signal n'))
+      → sent_at o v w b s t (signal n) c ≡ sent_at o v' w' b' s t' (signal n') d → (turns t ≡ turns t') × SamePlaces t.pass t'.pass
   sent_once true true n n' e f c d at =
       adds_once s.pass t.pass s.pass t'.pass 0 _ _ (places_same s.pass) c.0 d.0 at (ap (λ k. Pushed (record { timer = id; number = k }) ∷ []) f)
   sent_once true false n n' e f c d at = absurd (true≢false e)
@@ -104,51 +108,52 @@ module _ (x : ObjectsOf) (p q q' : ObjectsPass) (log l l' : List ObjectReceipt) 
         (subst (λ z. SamePlaces s.pass z.pass) (sym d) (places_same s.pass)),
   )
 
-not_full : (x : ObjectsOf) (p q : ObjectsPass) (log l : List ObjectReceipt) (v w : KnownOfTimers) (s t t' : QueueView) (id n : ℕ) (b : Bool) → t.room ≡ s.room
-    → b ≡ true → (c : IsPushedBy b s t id n) → HasNoRoom s t' → sent_at x p q log l v w b s t id n c ≡ turns t' → ⊥
-not_full x p q log l v w s t t' id n true room e c full at = no_room c.0.before (turns t) _ s.room c.0.last
-    (subst (λ k. length (waiting_after [] (turns t)) ≤ k) room c.1) (ap (λ z. length (waiting_after [] z)) at ∙ full.0.full)
-not_full x p q log l v w s t t' id n false room e c full at = absurd (true≢false (sym e))
+not_full : (o : Opening) (v w v' w' : KnownOfTimers) (s t t' : QueueView) (k : Signal) (b : Bool) → b ≡ true
+    → (c : IsPushedBy o v w b s t k) → HasNoRoom o v' w' s t' → sent_at o v w b s t k c ≡ turns t' → ⊥
+not_full o v w v' w' s t t' k true e c full at = no_room c.0.before (turns t) _ s.room c.0.last
+    (subst (λ n. length (waiting_after [] (turns t)) ≤ n) c.4 c.1) (ap (λ z. length (waiting_after [] z)) at ∙ full.0.full)
+not_full o v w v' w' s t t' k false e c full at = absurd (true≢false (sym e))
 
-module _ (x : ObjectsOf) (p : ObjectsPass) (log : List ObjectReceipt) (v : KnownOfTimers) (s : QueueView) (id g : ℕ) (r : ClockReading) where
+module _ (o : Opening) (x : ObjectsOf) (p : ObjectsPass) (log : List ObjectReceipt) (v : KnownOfTimers) (s : QueueView) (id g : ℕ) (r : ClockReading) where
   -- at one moment a signal isn't both sent and without room
-  both : (q q' : ObjectsPass) (l l' : List ObjectReceipt) (w w' : KnownOfTimers) (t t' : QueueView) → t.room ≡ s.room
-      → (c : EntersTrigger x p q log l v w id (calls.Trigger g r)) (k : IsPushedBy (object_sends c.commits.state g r) s t id (length c.commits.adds.before + 1))
-      (d : EntersTrigger x p q' log l' v w' id (calls.Overflow g r)) → HasNoRoom s t' → c.commits.adds.before ≡ d.commits.adds.before
-      → sent_at x p q log l v w (object_sends c.commits.state g r) s t id (length c.commits.adds.before + 1) k ≡ turns t' → ⊥
-  both q q' l l' w w' t t' room c k d full e at =
+  both : (q q' : ObjectsPass) (l l' : List ObjectReceipt) (w w' : KnownOfTimers) (t t' : QueueView)
+      → (c : EntersTrigger x p q log l v w id (calls.Trigger g r))
+      (k : IsPushedBy o c.begun c.worked (object_sends c.commits.state g r) s t (record { timer = id; number = length c.commits.adds.before + 1 }))
+      (d : EntersTrigger x p q' log l' v w' id (calls.Overflow g r)) → HasNoRoom o d.begun d.worked s t' → c.commits.adds.before ≡ d.commits.adds.before
+      → sent_at o c.begun c.worked (object_sends c.commits.state g r) s t (record { timer = id; number = length c.commits.adds.before + 1 }) k ≡ turns t' → ⊥
+  both q q' l l' w w' t t' c k d full e at =
       let state = state_once object_meaning _ _ id _ _ _ _ refl e c.commits.at d.commits.at in
-      not_full x p q log l v w s t t' id _ (object_sends c.commits.state g r) room
+      not_full o c.begun c.worked d.begun d.worked s t t' _ (object_sends c.commits.state g r)
       (ap (λ z. object_sends z g r) state ∙ overflows d.commits.state g r d.may) k full at
 
   module _ (q q' : ObjectsPass) (l l' : List ObjectReceipt) (w w' : KnownOfTimers) (t t' : QueueView) where
-    pub queued_once : (c : FiresQueued x p q log l v w s t id g r) (d : FiresQueued x p q' log l' v w' s t' id g r) → t.room ≡ s.room → t'.room ≡ s.room
-        → queued_at x p q log l v w s t id g r c ≡ queued_at x p q' log l' v w' s t' id g r d
+    pub queued_once : (c : FiresQueued o x p q log l v w s t id g r) (d : FiresQueued o x p q' log l' v w' s t' id g r)
+        → queued_at x p q log l v w o s t id g r c ≡ queued_at x p q' log l' v w' o s t' id g r d
         → Alike x p q q' log l l' v w w' id × (turns t ≡ turns t') × SamePlaces t.pass t'.pass
-    queued_once (inl c) (inl d) room room' e =
+    queued_once (inl c) (inl d) e =
         let seen = ap (λ (m : ExpiryMoment). m.seen) e in
         let state = state_once object_meaning _ _ id _ _ _ _ refl seen c.enters.commits.at d.enters.commits.at in
-        let sent = sent_once x p q q' log l l' v w w' s t t' id _ _ _ _ (ap (λ z. object_sends z g r) state)
+        let sent = sent_once o c.enters.begun c.enters.worked d.enters.begun d.enters.worked s t t' id _ _ _ _ (ap (λ z. object_sends z g r) state)
         (ap (λ (z : List (Entry ObjectCall ObjectReply)). length z + 1) seen) c.sent d.sent (ap (λ (m : ExpiryMoment). m.pushed) e) in
         (entered x p q q' log l l' v w w' id (calls.Trigger g r) c.enters d.enters seen, sent.0, sent.1)
-    queued_once (inl c) (inr (inl d)) room room' e = absurd (both q q' l l' w w' t t' room c.enters c.sent d.enters d.full
+    queued_once (inl c) (inr (inl d)) e = absurd (both q q' l l' w w' t t' c.enters c.sent d.enters d.full
         (ap (λ (m : ExpiryMoment). m.seen) e) (ap (λ (m : ExpiryMoment). m.pushed) e))
-    queued_once (inl c) (inr (inr d)) room room' e =
+    queued_once (inl c) (inr (inr d)) e =
         absurd (no_skip x p q q' log l l' log v w w' id _ _ c.enters d.skips (ap (λ (m : ExpiryMoment). m.seen) e))
-    queued_once (inr (inl c)) (inl d) room room' e = absurd (both q' q l' l w' w t' t room' d.enters d.sent c.enters c.full
+    queued_once (inr (inl c)) (inl d) e = absurd (both q' q l' l w' w t' t d.enters d.sent c.enters c.full
         (sym (ap (λ (m : ExpiryMoment). m.seen) e)) (sym (ap (λ (m : ExpiryMoment). m.pushed) e)))
-    queued_once (inr (inl c)) (inr (inl d)) room room' e = (
+    queued_once (inr (inl c)) (inr (inl d)) e = (
       entered x p q q' log l l' v w w' id (calls.Overflow g r) c.enters d.enters (ap (λ (m : ExpiryMoment). m.seen) e),
       ap (λ (m : ExpiryMoment). m.pushed) e,
       looks_once _ _ _ c.full.0.looks d.full.0.looks,
     )
-    queued_once (inr (inl c)) (inr (inr d)) room room' e =
+    queued_once (inr (inl c)) (inr (inr d)) e =
         absurd (no_skip x p q q' log l l' log v w w' id _ _ c.enters d.skips (ap (λ (m : ExpiryMoment). m.seen) e))
-    queued_once (inr (inr c)) (inl d) room room' e =
+    queued_once (inr (inr c)) (inl d) e =
         absurd (no_skip x p q' q log l' l log v w' w id _ _ d.enters c.skips (sym (ap (λ (m : ExpiryMoment). m.seen) e)))
-    queued_once (inr (inr c)) (inr (inl d)) room room' e =
+    queued_once (inr (inr c)) (inr (inl d)) e =
         absurd (no_skip x p q' q log l' l log v w' w id _ _ d.enters c.skips (sym (ap (λ (m : ExpiryMoment). m.seen) e)))
-    queued_once (inr (inr c)) (inr (inr d)) room room' e = (
+    queued_once (inr (inr c)) (inr (inr d)) e = (
       skipped x p q q' log l l' v w w' id (calls.Trigger g r) c.skips d.skips (ap (λ (m : ExpiryMoment). m.seen) e),
       ap (λ (m : ExpiryMoment). m.pushed) e,
       subst (λ z. SamePlaces z.pass t'.pass) (sym c.none) (subst (λ z. SamePlaces s.pass z.pass) (sym d.none) (places_same s.pass)),

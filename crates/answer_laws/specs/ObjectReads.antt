@@ -11,6 +11,7 @@ use Rattle.hr_timers.specs.declared.numbers.ClaimNumbers.{ClaimNumbers}
 use Rattle.hr_timers.specs.Known.{KnownOfTimers}
 use Rattle.hr_timers.specs.declared.handler.Restart.{Restart}
 use Rattle.signal_queue.specs.Rules.{turns}
+use Rattle.signal_queue.specs.declared.signal.Signal.{Signal}
 use Rattle.signal_queue.specs.declared.signal.Turn.{Turn}
 use Rattle.signal_queue.specs.declared.view.QueueView.{QueueView}
 use Rattle.timer_objects.specs.declared.answers.BlockingRead.{BlockingRead}
@@ -63,10 +64,16 @@ module _ (x : ObjectsOf) (o : Opening) (old new : Caller) where
   taken_at timer number reading a (inl f) = NoMoment
   taken_at timer number reading a (inr q) = signal_at timer number reading a q.1
 
-  -- of a call for the next signal: the turns of the queue before it, and the moment of the signal's timer
-  abbrev pub next_at : (s t : QueueView) (reading : ClockReading) (a : NextSignal) → TakesNext x o old new s t reading a → NextMoment
-  next_at s t reading nexts.NoneQueued n = record { popped = turns t; object = NoMoment }
-  next_at s t reading a n = record { popped = n.2.pops.before; object = taken_at n.0 n.1 reading a n.3 }
+-- of a call for the next signal: the turns of the queue before it, and the moment of the signal's timer
+abbrev pub next_at : (x : ObjectsOf) (o : Opening) (old new : Caller) (s t : QueueView) (reading : ClockReading) (a : NextSignal)
+    → TakesNext x o old new s t reading a → NextMoment
+next_at x o old new s t reading nexts.NoneQueued n = record { popped = turns t; object = NoMoment }
+next_at x o old new s t reading a n = record { popped = n.2.pops.before; object = taken_at x o n.3 new n.0 n.1 reading a n.5 }
+
+-- the turns of the queue behind which an expiry's signal was sent; where none was, all that was seen
+abbrev pub sent_at : (o : Opening) (v w : KnownOfTimers) (b : Bool) (s t : QueueView) (signal : Signal) → IsPushedBy o v w b s t signal → List Turn
+sent_at o v w true s t signal k = k.0.before
+sent_at o v w false s t signal k = turns t
 
 module _ (x : ObjectsOf) (p q : ObjectsPass) (log log' : List ObjectReceipt) (v w : KnownOfTimers) where
   -- the history of an object behind which a trigger was entered, or that was found full
@@ -74,18 +81,15 @@ module _ (x : ObjectsOf) (p q : ObjectsPass) (log log' : List ObjectReceipt) (v 
   trigger_at c call (inl e) = e.commits.adds.before
   trigger_at c call (inr s) = seen_of q c.timer
 
-  -- the turns of the queue behind which an expiry's signal was sent; where none was, all that was seen
-  abbrev pub sent_at : (b : Bool) (s t : QueueView) (id number : ℕ) → IsPushedBy b s t id number → List Turn
-  sent_at true s t id number k = k.0.before
-  sent_at false s t id number k = turns t
-
   -- of the expiry of a queued timer
-  abbrev pub queued_at : (s t : QueueView) (id generation : ℕ) (reading : ClockReading) → FiresQueued x p q log log' v w s t id generation reading
-      → ExpiryMoment
-  queued_at s t id generation reading (inl f) =
-      record { seen = f.enters.commits.adds.before; pushed = sent_at (object_sends f.enters.commits.state generation reading) s t id _ f.sent }
-  queued_at s t id generation reading (inr (inl f)) = record { seen = f.enters.commits.adds.before; pushed = turns t }
-  queued_at s t id generation reading (inr (inr f)) = record { seen = seen_of q id; pushed = turns t }
+  abbrev pub queued_at : (o : Opening) (s t : QueueView) (id generation : ℕ) (reading : ClockReading)
+      → FiresQueued o x p q log log' v w s t id generation reading → ExpiryMoment
+  queued_at o s t id generation reading (inl f) = record {
+    seen = f.enters.commits.adds.before;
+    pushed = sent_at o f.enters.begun f.enters.worked (object_sends f.enters.commits.state generation reading) s t _ f.sent;
+  }
+  queued_at o s t id generation reading (inr (inl f)) = record { seen = f.enters.commits.adds.before; pushed = turns t }
+  queued_at o s t id generation reading (inr (inr f)) = record { seen = seen_of q id; pushed = turns t }
 
 -- of a callback
 abbrev pub callback_moment : (o : Opening) (v w : KnownOfTimers) (c : ClaimNumbers) (reading : ClockReading) (log log' : List Receipt) (k : Callback)

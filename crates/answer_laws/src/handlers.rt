@@ -27,11 +27,12 @@ pub fn a_trigger_is_fixed()
         → (l ≡ l') × SameOfRow q q' × SameOwn w w' × (seen_of q n.timer ≡ seen_of q' n.timer) }
 {}
 
-/// After one history of a queued timer, and the same turns of the queue, its expiry sends a signal, or finds no room, or is refused. The room is the queue's.
+/// After one history of a queued timer, and the same turns of the queue, its expiry sends a signal, or finds no room, or is refused.
 pub fn a_queued_expiry_is_fixed()
-    ensures { (x : ObjectsOf) (p q q' : ObjectsPass) (log l l' : List noted.ObjectReceipt) (v w w' : KnownOfTimers) (s t t' : queue.QueueView) (id g : ℕ)
-        (reading : ClockReading) (c : FiresQueued x p q log l v w s t id g reading) (d : FiresQueued x p q' log l' v w' s t' id g reading)
-        → t.room ≡ s.room → t'.room ≡ s.room → queued_at x p q log l v w s t id g reading c ≡ queued_at x p q' log l' v w' s t' id g reading d
+    ensures { (o : Opening) (x : ObjectsOf) (p q q' : ObjectsPass) (log l l' : List noted.ObjectReceipt) (v w w' : KnownOfTimers)
+        (s t t' : queue.QueueView) (id g : ℕ) (reading : ClockReading) (c : FiresQueued o x p q log l v w s t id g reading)
+        (d : FiresQueued o x p q' log l' v w' s t' id g reading)
+        → queued_at x p q log l v w o s t id g reading c ≡ queued_at x p q' log l' v w' o s t' id g reading d
         → ((l ≡ l') × SameOfRow q q' × SameOwn w w' × (seen_of q id ≡ seen_of q' id)) × (turns t ≡ turns t') × SamePlaces t.pass t'.pass }
 {}
 

@@ -11,6 +11,10 @@ use Rattle.clock_cell.specs.Views.{writes}
 use Rattle.posix_timer.specs.Queued.{is_fresh}
 use Rattle.posix_timer.specs.declared.queued_state.QueuedState.{QueuedState}
 use Rattle.signal_queue.specs.Rules.{turns}
+use Rattle.base_row.specs.declared.view.Opening.{Opening}
+use Rattle.signal_queue.specs.declared.signal.Signal.{Signal}
+use Rattle.signal_queue.specs.declared.view.QueueView.{QueueView}
+use Rattle.std.specs.Prelude.{Option}
 use Rattle.signal_queue.specs.declared.signal.Turn.{Turn}
 use Rattle.signal_queue.specs.declared.signal.Turn.TheVariants.{Popped}
 use Rattle.signal_queue.specs.Calls.{FindsEmpty, TakesTurn}
@@ -21,7 +25,9 @@ use Rattle.timer_objects.specs.Calls.{Caller, FindsHistoryFull}
 use Rattle.timer_objects.specs.Known.{seen_of}
 use Rattle.timer_objects.specs.Meaning.{object_meaning, opened_objects}
 use Rattle.timer_objects.specs.Signals as signals
-use Rattle.timer_objects.specs.Signals.{AcceptsSignal, FindsStale, TakesNext}
+use Rattle.timer_objects.specs.Signals.{AcceptsSignal, FindsStale, TakesNext, TakesSignal, TriesQueue}
+use Rattle.timer_objects.proofs.QueuedSignals.{signal_after}
+use Rattle.timer_objects.proofs.Retrying.{timers_waited}
 use Rattle.timer_objects.specs.declared.object.Kind.TheVariants as over
 use Rattle.timer_objects.specs.declared.object.Object.TheVariants as objects
 use Rattle.timer_objects.specs.declared.object.Object.{Object}
@@ -124,16 +130,17 @@ module _ {s : Script} {x : WorldOf} {l m : LaneOf} {a : Answer} (next : IsNextCa
     pub log : c.log ≡ []
     pub object_log : c.object_log ≡ []
 
-  -- nothing at all
-  looks_none : lane_caller m.pass c.log c.object_log ≡ lane_caller l.pass [] [] → LooksBy
-  looks_none same = record {
-    timers = begins_same (ap (λ (k : Caller). k.timers.seen) same);
-    timers_mine = ap (λ (k : Caller). k.timers.mine) same;
-    objects = λ i. begins_same (ap (λ (k : Caller). seen_of k.objects i) same);
-    objects_mine = ap (λ (k : Caller). k.objects.knows.pass.mine) same;
-    opening = ap (λ (k : Caller). k.objects.knows.opening) same;
-    log = ap (λ (k : Caller). k.log) same;
-    object_log = ap (λ (k : Caller). k.object_log) same;
+  -- a try of the queue
+  looks_tried : {o : Opening} {s t : QueueView} {taken : Option Signal}
+      → TriesQueue o (lane_caller l.pass [] []) (lane_caller m.pass c.log c.object_log) s t taken → LooksBy
+  looks_tried tries = record {
+    timers = tries.looks.seen;
+    timers_mine = tries.looks.mine;
+    objects = λ i. begins_same (ap (λ (k : Caller). seen_of k.objects i) tries.same);
+    objects_mine = ap (λ (k : Caller). k.objects.knows.pass.mine) tries.same;
+    opening = ap (λ (k : Caller). k.objects.knows.opening) tries.same;
+    log = ap (λ (k : Caller). k.log) tries.same;
+    object_log = ap (λ (k : Caller). k.object_log) tries.same;
   }
 
   -- a call that only looked at timers and objects is kept, where it fits
@@ -149,11 +156,10 @@ module _ {s : Script} {x : WorldOf} {l m : LaneOf} {a : Answer} (next : IsNextCa
       (subst (λ ts. TurnsPart s l.pass.signals.knows m.pass.signals.knows ts made) (sym (append-nil (popped_by b))) turned) fits
 
   -- none waited
-  keeps_empty : lane_caller m.pass c.log c.object_log ≡ lane_caller l.pass [] [] → FindsEmpty l.pass.signals.knows m.pass.signals.knows
-      → KeepsCall s l calls.Sigwait answers.NoneQueued m
-  keeps_empty same found =
+  keeps_empty : LooksBy → FindsEmpty l.pass.signals.knows m.pass.signals.knows → KeepsCall s l calls.Sigwait answers.NoneQueued m
+  keeps_empty by found =
       let last = length m.pass.timers.known.seen in
-      keeps_looks (looks_none same) answers.NoneQueued last [] (turns_looked found.looks)
+      keeps_looks by answers.NoneQueued last [] (turns_looked found.looks)
       (λ e follows joined has kept low. quiet_made kept refl (record {
         number = length (turns m.pass.signals.knows);
         within = kept.hears (length (turns m.pass.signals.knows))
@@ -246,25 +252,34 @@ module _ {s : Script} {x : WorldOf} {l m : LaneOf} {a : Answer} (next : IsNextCa
 
   -- ---- by what the next signal is
 
+  -- what a signal came to behind a try of the queue it came to behind all that the lane had seen
+  behind : {tried : Caller} {taken : Option Signal} (timer number : ℕ) (n : NextSignal)
+      → TriesQueue x.timers.about (lane_caller l.pass [] []) tried l.pass.signals.knows m.pass.signals.knows taken
+      → TakesSignal x.objects x.timers.about tried (lane_caller m.pass c.log c.object_log) timer number c.reading n
+      → TakesSignal x.objects x.timers.about (lane_caller l.pass [] []) (lane_caller m.pass c.log c.object_log) timer number c.reading n
+  behind {tried} timer number n tries its =
+      signal_after x.objects x.timers.about (lane_caller l.pass [] []) tried (lane_caller m.pass c.log c.object_log) timer number c.reading n
+      (timers_waited (lane_caller l.pass [] []) tried tries.looks tries.same) its
+
   by_next : (n : NextSignal)
       → TakesNext x.objects x.timers.about (lane_caller l.pass [] [])
       (lane_caller m.pass c.log c.object_log) l.pass.signals.knows m.pass.signals.knows c.reading n
       → KeepsCall s l calls.Sigwait (next_told n) m
-  by_next nexts.NoneQueued takes = keeps_empty takes.1 takes.0
+  by_next nexts.NoneQueued takes = keeps_empty (looks_tried takes.1) takes.0
   by_next (nexts.Accepted i k overrun) takes =
       ⊎_elim (λ foreign. absurd (cc))
       (λ its.
       subst (λ n. KeepsCall s l calls.Sigwait (answers.Signal n k overrun) m) (sym its.1.0)
       (subst (λ n. KeepsCall s l calls.Sigwait (answers.Signal takes.0 n overrun) m) (sym its.1.1)
-      (keeps_signal takes.0 takes.1 takes.2.pops overrun its.0 its.1.2)))
-      takes.3
+      (keeps_signal takes.0 takes.1 takes.2.pops overrun its.0 (behind takes.0 takes.1 (nexts.Accepted i k overrun) takes.4 its.1).2)))
+      takes.5
   by_next (nexts.Spent i k n) takes =
       ⊎_elim (λ foreign. absurd (cc))
       (λ its.
       subst (λ j. KeepsCall s l calls.Sigwait (answers.SpentSignal j k) m) (sym its.1.0)
       (subst (λ j. KeepsCall s l calls.Sigwait (answers.SpentSignal takes.0 j) m) (sym its.1.1)
-      (keeps_spent takes.0 takes.1 takes.2.pops its.0 its.1.2 its.1.3)))
-      takes.3
+      (keeps_spent takes.0 takes.1 takes.2.pops its.0 (behind takes.0 takes.1 (nexts.Spent i k n) takes.4 its.1).2 its.1.3)))
+      takes.5
   by_next (nexts.Stale i k) takes =
       ⊎_elim
       (λ foreign.
@@ -272,12 +287,13 @@ module _ {s : Script} {x : WorldOf} {l m : LaneOf} {a : Answer} (next : IsNextCa
       let number : k ≡ takes.1 = cc in
       subst (λ j. KeepsCall s l calls.Sigwait (answers.StaleSignal j k) m) (sym timer)
       (subst (λ j. KeepsCall s l calls.Sigwait (answers.StaleSignal takes.0 j) m) (sym number)
-      (keeps_foreign takes.0 takes.1 takes.2.pops foreign.0 (looks_none foreign.2))))
+      (keeps_foreign takes.0 takes.1 takes.2.pops foreign.0 (looks_tried (subst (λ (y : Caller). TriesQueue x.timers.about (lane_caller l.pass [] []) y
+      l.pass.signals.knows m.pass.signals.knows (Some (record { timer = takes.0; number = takes.1 }))) (sym foreign.2) takes.4)))))
       (λ its.
       subst (λ j. KeepsCall s l calls.Sigwait (answers.StaleSignal j k) m) (sym its.1.0)
       (subst (λ j. KeepsCall s l calls.Sigwait (answers.StaleSignal takes.0 j) m) (sym its.1.1)
-      (keeps_stale takes.0 takes.1 takes.2.pops its.0 its.1.2)))
-      takes.3
+      (keeps_stale takes.0 takes.1 takes.2.pops its.0 (behind takes.0 takes.1 (nexts.Stale i k) takes.4 its.1).2)))
+      takes.5
 
   -- law: a lane keeps the call
   pub keeps_sigwait : KeepsCall s l calls.Sigwait a m

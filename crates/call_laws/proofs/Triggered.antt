@@ -9,6 +9,7 @@ use Rattle.timer_setting.specs.Phases.{is_expiry_of}
 use Rattle.timer_setting.specs.declared.trigger_answer.TriggerAnswer.TheVariants as triggers
 use Rattle.timer_setting.specs.declared.object_call.ObjectCall.TheVariants as object_calls
 use Rattle.timer_setting.specs.declared.object_call.ObjectReply.TheVariants as replies
+use Rattle.base_row.specs.declared.view.Opening.{Opening}
 use Rattle.hr_timers.specs.Known.{KnownOfTimers}
 use Rattle.hr_timers.specs.declared.numbers.ClaimNumbers.{ClaimNumbers}
 use Rattle.hr_timers.specs.Handlers.{asks}
@@ -17,6 +18,7 @@ use Rattle.hr_timers.specs.declared.handler.Restart.{Restart}
 use Rattle.timer_objects.specs.Known.{ObjectsOf, ObjectsPass, seen_of}
 use Rattle.timer_objects.specs.Steps.{object_answer, ObjectAllows, object_timer}
 use Rattle.timer_objects.proofs.AsKind.{objects_are_a_kind}
+use Rattle.timer_objects.proofs.Retrying.{turn_alone}
 use Rattle.timer_objects.specs.Triggers.{EntersTrigger, trigger_refused, SkipsTrigger, Triggers}
 use Rattle.timer_objects.specs.declared.log.ObjectReceipt.{ObjectReceipt}
 use Rattle.timer_objects.specs.declared.object.Object.{Object}
@@ -129,8 +131,9 @@ module _ (s : Script) (x : ObjectsOf) (limit : x.limit ≡ s.limit) (some : 1 �
       let many = length adds.before in
       let step : ObjectMove = record { call = made; reply = object_answer t.commits.state made } in
       let r : ObjectReceipt = record { object = c.timer; number = many + 1; call = step.call; reply = step.reply } in
-      let opens = enters_turn t.turn s (ClockHas reading) in
-      let closes = enters_entry t.turn s (ClockHas reading) in
+      let alone = turn_alone t.turn t.looks in
+      let opens = enters_turn alone s (ClockHas reading) in
+      let closes = enters_entry alone s (ClockHas reading) in
       let part : IsPart s (ClockHas reading) label v p w q (turn_with many entry) (opens.0 ∷ closes.0 ∷ []) (notes_of label [] (r ∷ [])) =
       part_then (part_began c.timer many opens) (part_made {step = step} adds t.commits.opening noted closes) in
       record {
@@ -209,27 +212,29 @@ module _ (s : Script) (x : ObjectsOf) (limit : x.limit ≡ s.limit) (some : 1 �
     is_queued sight f is = subst (λ k. IsBody sight s.limit k reading.stamp f) (sym kind) is
 
     -- the signal of an expiry, where it counts
-    sent_turns : (number : ℕ) (counted : Bool) → IsPushedBy counted h.signal_pass.now.knows h'.signal_pass.now.knows c.timer number
+    sent_turns : (o : Opening) (begun worked : KnownOfTimers) (number : ℕ) (counted : Bool)
+        → IsPushedBy o begun worked counted h.signal_pass.now.knows h'.signal_pass.now.knows (record { timer = c.timer; number = number })
         → (turned : List (ℕ × Turn)) × TurnsPart s h.signal_pass.now.knows h'.signal_pass.now.knows
         (pushed_with (kinds.Queued asked) c.timer number (object_entries.Trigger c.generation reading.stamp counted) ++ []) turned
-    sent_turns number true sent = (_, turns_one _ sent.0 (subst SendsSignals (sym kind) tt))
-    sent_turns number false same = ([], turns_none same)
+    sent_turns o begun worked number true sent = (_, turns_one _ sent.0 (subst SendsSignals (sym kind) tt))
+    sent_turns o begun worked number false same = ([], turns_none same)
 
-    sends_kept : Sends x p q h.object_log.receipts h'.object_log.receipts v w h.signal_pass.now.knows h'.signal_pass.now.knows c.timer c.generation reading
+    sends_kept : {o : Opening} → Sends o x p q h.object_log.receipts h'.object_log.receipts v w h.signal_pass.now.knows h'.signal_pass.now.knows c.timer c.generation reading
         → BodyKept s label claim restart w h h'
-    sends_kept its =
+    sends_kept {o} its =
         let t = its.enters in
         let n = object_triggered t.commits.state c.generation reading t.may in
         let many = length t.commits.adds.before in
         let entry = object_entries.Trigger c.generation reading.stamp n.counted in
-        let sent = sent_turns (many + 1) n.counted (subst (λ b. IsPushedBy b h.signal_pass.now.knows h'.signal_pass.now.knows c.timer (many + 1))
+        let sent = sent_turns o t.begun t.worked (many + 1) n.counted (subst (λ b. IsPushedBy o t.begun t.worked b h.signal_pass.now.knows h'.signal_pass.now.knows
+        (record { timer = c.timer; number = many + 1 }))
         (sends_as t.commits.state c.generation reading (sym t.declared.kind ∙ declared) ∙ n.is) its.sent) in
         entered_body t entry n.noted sent.0
         (subst (λ k. TurnsPart s h.signal_pass.now.knows h'.signal_pass.now.knows (pushed_with k c.timer (many + 1) entry ++ []) sent.0) (sym kind) sent.1)
         (λ e joined goes heard finish rearmed.
         (is_queued _ (fired_of c (turn_with many entry) finish (asks restart) rearmed) (inl (inl (many, n.counted, refl), ap asks stops)), tt))
 
-    overflows_kept : Overflows x p q h.object_log.receipts h'.object_log.receipts v w h.signal_pass.now.knows h'.signal_pass.now.knows c.timer c.generation
+    overflows_kept : {o : Opening} → Overflows o x p q h.object_log.receipts h'.object_log.receipts v w h.signal_pass.now.knows h'.signal_pass.now.knows c.timer c.generation
         reading → BodyKept s label claim restart w h h'
     overflows_kept its =
         let t = its.enters in
@@ -250,8 +255,8 @@ module _ (s : Script) (x : ObjectsOf) (limit : x.limit ≡ s.limit) (some : 1 �
         ))
 
     -- law: what the claim of a queued timer does
-    pub queued_kept : FiresQueued x p q h.object_log.receipts h'.object_log.receipts v w h.signal_pass.now.knows h'.signal_pass.now.knows c.timer c.generation
+    pub queued_kept : {o : Opening} → FiresQueued o x p q h.object_log.receipts h'.object_log.receipts v w h.signal_pass.now.knows h'.signal_pass.now.knows c.timer c.generation
         reading → BodyKept s label claim restart w h h'
-    queued_kept fires =
-        ⊎_elim sends_kept
-        (λ more. ⊎_elim overflows_kept (λ its. refused_body its.skips its.none (λ sight f is. is_queued sight f (inl is))) more) fires
+    queued_kept {o} fires =
+        ⊎_elim (sends_kept {o = o})
+        (λ more. ⊎_elim (overflows_kept {o = o}) (λ its. refused_body its.skips its.none (λ sight f is. is_queued sight f (inl is))) more) fires

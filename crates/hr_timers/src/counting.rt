@@ -38,7 +38,10 @@ impl Timers {
         ensures locks { IfOk result (λ r. (r.1.takes ≡ []) × (r.1.met ≡ replicate bases 0)) }
     {
         let (row, inner) = BaseRow::make_counting(alloc, bases, timers, terms, counters)?;
-        let timers = Timers { row };
+        let timers = Timers {
+            row,
+            first_ring: None,
+        };
         let pass = Pass { inner };
         timers.check(&pass);
         Ok((timers, pass))

@@ -1,6 +1,6 @@
 //! Rings beside the timers: the two counters of a bounded queue, of what was put in and of what was taken off, whose rises stand in the one history of all
 //! timers. At no moment was more taken than put, or is more in a ring than has room. Which element a rise is of is for the queue's callers to say.
-ghost use Rattle.std.specs.Prelude.{◌≡◌, ◌+◌, ◌≤◌, ◌<◌, length, replicate, [], IfOk};
+ghost use Rattle.std.specs.Prelude.{◌≡◌, ◌+◌, ◌≤◌, ◌<◌, length, replicate, slice_get, [], IfOk};
 ghost use Rattle.base_row.specs.Calls.{opening_ringed};
 ghost use Rattle.base_row.specs.Places.{most_counters};
 ghost use Rattle.base_row.specs.Plays.{RaisesTo};
@@ -35,10 +35,20 @@ impl Timers {
         ensures locks { IfOk result (λ r. (r.1.takes ≡ []) × (r.1.met ≡ replicate bases 0)) }
     {
         let (row, inner) = BaseRow::make_ringed(alloc, bases, timers, terms, counters, rings)?;
-        let timers = Timers { row };
+        let timers = Timers {
+            row,
+            first_ring: rings.as_slice().first().copied(),
+        };
         let pass = Pass { inner };
         timers.check(&pass);
         Ok((timers, pass))
+    }
+
+    /// How much room the first ring has, if there is one.
+    pub fn first_ring(&self) -> Option<u64>
+        ensures { result ≡ slice_get self.now.about.rings 0 }
+    {
+        self.first_ring
     }
 
     /// How much was put into a ring: one load.

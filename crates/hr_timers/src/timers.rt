@@ -29,17 +29,18 @@ use std::sync::Wait;
 #[derive(Drop)]
 pub struct Timers {
     pub(crate) row: BaseRow,
+    pub(crate) first_ring: Option<u64>,
 }
 
 impl Model for Timers {
-    ghost use Rattle.std.specs.Prelude.{◌≤◌};
+    ghost use Rattle.std.specs.Prelude.{◌≡◌, ◌≤◌, slice_get};
     ghost use Rattle.base_row.specs.Calls.{BaseRowOf};
 
     ghost Value = { BaseRowOf };
 
     ghost view = { λ t. t.row };
 
-    ghost invariant = { λ t. t.row.about.bases ≤ 64 };
+    ghost invariant = { λ t. (t.row.about.bases ≤ 64) × (t.first_ring ≡ slice_get t.row.about.rings 0) };
 }
 
 impl Timers {
@@ -310,7 +311,7 @@ impl Timers {
         ensures whole { HasEachPlace self.about pass.known }
         ensures shifts { HasEachShift self.about pass.known }
     {
-        let Timers { row } = self;
+        let Timers { row, first_ring: _ } = self;
         let Pass { inner } = pass;
         row.close(inner);
     }

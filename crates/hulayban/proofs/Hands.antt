@@ -1,6 +1,6 @@
 -- A function that was served is one of the system's functions; and what these leave of what they have in hand.
 use Rattle.std.proofs.Common.{◌≡◌, List, refl, sym, ap, subst, inl, inr, ◌∙◌}
-use Rattle.std.specs.Prelude.{Bool, true, false, ℕ}
+use Rattle.std.specs.Prelude.{Bool, true, false}
 use Rattle.ktime.specs.Readings.{ClockReading}
 use Rattle.base_row.specs.declared.view.Opening.{Opening}
 use Rattle.counted_row.specs.Views.{Knows}
@@ -8,6 +8,7 @@ use Rattle.hr_timers.specs.declared.handler.Restart.{Restart}
 use Rattle.hr_timers.specs.declared.numbers.ClaimNumbers.{ClaimNumbers}
 use Rattle.hr_timers.specs.Handlers.{Meaning}
 use Rattle.hr_timers.specs.Known.{KnownOfTimers}
+use Rattle.signal_queue.specs.declared.signal.Signal.{Signal}
 use Rattle.signal_queue.specs.declared.view.QueueView.{QueueView}
 use Rattle.signal_queue.specs.Views.{PassOfQueue}
 use Rattle.timer_setting.specs.declared.object_call.ObjectCall.{ObjectCall}
@@ -87,9 +88,10 @@ pub hand_trans : {A : Type 0} (h i j : InHand A) → LeavesHand h i → LeavesHa
 hand_trans h i j a b =
     record { of = b.of ∙ a.of; objects = b.objects ∙ a.objects; knows = λ k. b.knows (a.knows k); signals = b.signals ∙ a.signals }
 
-sent_named : (sends : Bool) (s t : QueueView) (id number : ℕ) → IsPushedBy sends s t id number → t.pass.id ≡ s.pass.id
-sent_named true s t id number sent = sent.0.id
-sent_named false s t id number same = ap (λ (v : QueueView). v.pass.id) same
+sent_named : (o : Opening) (v w : KnownOfTimers) (sends : Bool) (s t : QueueView) (signal : Signal) → IsPushedBy o v w sends s t signal
+    → t.pass.id ≡ s.pass.id
+sent_named o v w true s t signal sent = sent.0.id
+sent_named o v w false s t signal same = ap (λ (v : QueueView). v.pass.id) same
 
 module _ {A : Type 0} (m : Meaning A) (o : Opening) (h h' : InHand A) (v w : KnownOfTimers) (c : ClaimNumbers) (reading : ClockReading) (restart : Restart)
     (same : h'.of ≡ h.of) where
@@ -107,12 +109,12 @@ module _ {A : Type 0} (m : Meaning A) (o : Opening) (h h' : InHand A) (v w : Kno
     signals = ap (λ (p : PassOfQueue). p.knows.pass.id) alone;
   }
 
-  by_signal : FiresQueued h.of h.objects h'.objects h.log h'.log v w h.signals.knows h'.signals.knows c.timer c.generation reading → LeavesHand h h'
+  by_signal : FiresQueued o h.of h.objects h'.objects h.log h'.log v w h.signals.knows h'.signals.knows c.timer c.generation reading → LeavesHand h h'
   by_signal (inl sends) = record {
     of = same;
     objects = sends.enters.commits.adds.id;
     knows = λ k. sends.enters.commits.knows;
-    signals = sent_named _ h.signals.knows h'.signals.knows c.timer _ sends.sent;
+    signals = sent_named o sends.enters.begun sends.enters.worked _ h.signals.knows h'.signals.knows _ sends.sent;
   }
   by_signal (inr (inl over)) = record {
     of = same;

@@ -1,4 +1,5 @@
 pub mod Whole
 pub mod Hands
 pub mod Rooms
-pub mod Seats
+pub mod Posts
+pub mod Waits

@@ -1,6 +1,6 @@
 -- The parts of a system fit together, and a call notes few receipts.
 use Rattle.std.proofs.Common.{◌≡◌, ◌<◌, ◌≤◌, ◌+◌, ℕ, zero, suc, List, [], ◌∷◌, length, map, get_or, arith, refl, sym, ap, ◌∙◌, subst, true, false, nat_lt}
-use Rattle.std.specs.Prelude.{if◌then◌else◌}
+use Rattle.std.specs.Prelude.{if◌then◌else◌, slice_index}
 use Rattle.std.specs.List.{AllByRecursion}
 use Rattle.ktime.specs.declared.clock_id.ClockId.TheVariants as clocks
 use Rattle.seq_timer.specs.declared.context.Terms.{Terms}
@@ -45,6 +45,10 @@ whole_of bases ds terms x range is =
         counters = omega (arith, ap (λ (o : Opening). o.counters) is.timers, many);
       };
       few = omega (arith, there, range.few);
+      ring = λ q e. record {
+        within = omega (arith, ap (λ (o : Opening). length o.rings) is.timers);
+        same = ap (λ (o : Opening). slice_index o.rings 0) is.timers ∙ sym (is.signals q e);
+      };
     }
   where
     raw : Decl

@@ -55,6 +55,13 @@ module _ (o : Opening) where
     pub least : wait ≡ lesser_wait hard soft
     pub looks : LooksOn v w
 
+-- two calls looked at the queues of a context when they had seen the same
+pub record LooksAlike {o : Opening} {v w v' w' : KnownOfTimers} {x : Context} {base : ℕ} {reading : ClockReading} {a a' : Option ℕ}
+    (c : ContextWaits o v w x base reading a) (d : ContextWaits o v' w' x base reading a') : Type 0 where
+  pub first : c.one.seen ≡ d.one.seen
+  pub second : c.two.seen ≡ d.two.seen
+  pub last : w.seen ≡ w'.seen
+
 -- The call took a reading of the clock, and then looked at each queue of the base. The answer is how long the first timer of one of them still has by the
 -- reading, the least that any has; or none of them had one.
 abbrev pub DoesNextExpiry : SystemOf → HandleOf → HandleOf → ℕ → Option ℕ → Type 0

@@ -3,7 +3,7 @@ pub mod Calls
 pub mod Serving
 pub mod Places
 pub mod Lanes
-pub mod Seats
+pub mod Posts
 pub mod Expiries
 pub mod Served
 pub mod Runs

@@ -38,7 +38,7 @@ module _ {A : Type 0} (m : Meaning A) (o : Opening) (h h' : InHand A) (v w : Kno
   RunsFor kinds.Raw =
       m.did o h.own h'.own v w c reading restart × (h'.objects ≡ h.objects) × (h'.log ≡ h.log) × (h'.signals ≡ h.signals)
   RunsFor kinds.Queued =
-      FiresQueued h.of h.objects h'.objects h.log h'.log v w h.signals.knows h'.signals.knows c.timer c.generation reading
+      FiresQueued o h.of h.objects h'.objects h.log h'.log v w h.signals.knows h'.signals.knows c.timer c.generation reading
       × LooksOn v w × (restart ≡ restarts.Stop) × (h'.own ≡ h.own)
   RunsFor kind =
       Triggers h.of h.objects h'.objects h.log h'.log v w c (calls.Trigger c.generation reading)

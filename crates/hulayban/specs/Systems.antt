@@ -1,5 +1,5 @@
 -- Systems, and what a thread's handle of one knows.
-use Rattle.std.specs.Prelude.{ℕ, ◌≡◌, ◌≤◌, ◌<◌, ◌+◌, List, [], length, map}
+use Rattle.std.specs.Prelude.{ℕ, ◌≡◌, ◌≤◌, ◌<◌, ◌+◌, List, [], ◌∷◌, length, map, Some, IsSome}
 use Rattle.std.specs.List.{AllByRecursion}
 use Rattle.atomic_table.specs.Seated.{TableId}
 use Rattle.ktime.specs.declared.clock_id.ClockId.{ClockId}
@@ -16,7 +16,8 @@ use Rattle.base_row.specs.Calls as rows
 use Rattle.hr_timers.specs.Known.{IsPassOf, PassOf}
 use Rattle.clock_cell.specs.Views.{IsPassOfClock, KnowsClock, PassOfClock, first_clock_view, new_clock_view, split_clock_view}
 use Rattle.counted_row.specs.Views.{first_view, new_view, split_view}
-use Rattle.signal_queue.specs.Views.{PassOfQueue, first_queue_view, new_queue_view, split_queue_view}
+use Rattle.ordered_signals.specs.Places.{HasSignalRing}
+use Rattle.signal_queue.specs.Views.{PassOfQueue, QueueOf, first_queue_view, new_queue_view, split_queue_view}
 use Rattle.timer_setting.specs.Settimes.{most_object_entries}
 use Rattle.timer_objects.specs.declared.callback.Callback.{Callback}
 use Rattle.timer_objects.specs.declared.callback.Callback.TheVariants as callbacks
@@ -40,7 +41,7 @@ pub record HandleOf : Type 0 where
   pub clock : PassOfClock
   pub signals : PassOfQueue
 
--- the one history of timers, bases, turns of objects and writes of the clock, as far as a handle has seen it
+-- the one history of timers, bases, turns of objects, writes of the clock, and pushes and pops of signals, as far as a handle has seen it
 abbrev pub history : HandleOf → List SystemEntry
 history h = h.timers.known.seen
 
@@ -78,18 +79,26 @@ pub record CanMake (bases : ℕ) (ds : List Declaration) (terms : Terms) : Type 
 
 -- the system was made of these
 pub record IsSystemOf (bases : ℕ) (ds : List Declaration) (terms : Terms) (x : SystemOf) : Type 0 where
-  pub timers : x.timers.about ≡ rows.opening_with bases (map declared_as_timer ds) terms (length ds + 1)
+  pub timers : x.timers.about ≡ rows.opening_ringed bases (map declared_as_timer ds) terms (length ds + 1) (64 ∷ [])
   pub decls : x.objects.decls ≡ map declared_as_object ds
   pub limit : x.objects.limit ≡ terms.limit
+  pub queued : IsSome x.objects.queue
+  pub signals : (q : QueueOf) → x.objects.queue ≡ Some q → q.room ≡ 64
+
+-- the timers have a ring for the queue of signals
+abbrev pub HasRingOfQueue : SystemOf → Type 0
+HasRingOfQueue x = (q : QueueOf) → x.objects.queue ≡ Some q → HasSignalRing x.timers.about.rings q.room
 
 -- the parts of a system fit together
 pub record IsSystemWhole (x : SystemOf) : Type 0 where
   pub suits : Suits x.objects x.timers.about
   pub few : x.timers.about.bases ≤ 64
+  pub ring : HasRingOfQueue x
 
 -- ---- handles
 
--- a handle of this system: what it knows is true, and its passes have one name
+-- A handle of this system: what it knows is true, and its passes have one name. The timers have a ring for the queue, so its pushes and pops of signals have
+-- places in the one history.
 pub record IsHandleOf (x : SystemOf) (h : HandleOf) : Type 0 where
   pub timers : IsPassOf x.timers h.timers
   pub unclaimed : h.timers.known.claims ≡ []
@@ -101,6 +110,7 @@ pub record IsHandleOf (x : SystemOf) (h : HandleOf) : Type 0 where
   pub heard : h.clock.knows.heard ≡ []
   pub signals : IsSignalPass x.objects h.signals
   pub signals_name : h.signals.knows.pass.id ≡ h.timers.known.id
+  pub ring : HasRingOfQueue x
 
 -- the only handle of a system
 pub record IsOnly (x : SystemOf) (h : HandleOf) : Type 0 where

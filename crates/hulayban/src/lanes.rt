@@ -1,9 +1,9 @@
 //! Any number of lanes at once, each on a thread.
 ghost use Rattle.std.specs.Prelude.{◌≡◌, ◌≤◌, ◌<◌, ◌+◌, ℕ, [], All, length, get_or, map, reverse, vec_capacity, vec_len};
 ghost use Rattle.hulayban.specs.Lanes.{HasHandle, RunsAll, joined_ends};
-ghost use Rattle.hulayban.specs.Seats.{LeadsSeats, SeatRuns, SeatsEach, SeatsRun, TakesEach};
+ghost use Rattle.hulayban.specs.Posts.{LeadsPosts, PostRuns, PostsEach, PostsRun, TakesEach};
 ghost use Rattle.hulayban.specs.Systems.{IsHandleOf, IsOnly};
-ghost use Rattle.hulayban.specs.declared.lanes.Seat.{Seat};
+ghost use Rattle.hulayban.specs.declared.lanes.Post.{Post};
 
 use crate::handle::Handle;
 use crate::lane::{Done, Lane};
@@ -15,7 +15,7 @@ use std::thread;
 use std::thread::Threads;
 
 /// A lane, its handle while no thread has it, and how the lane ended.
-pub(crate) struct Seat<L> {
+pub(crate) struct Post<L> {
     lane: L,
     me: Option<Handle>,
     done: Done,
@@ -35,31 +35,31 @@ impl System {
         ensures only { IsOnly self.now result.0 }
         ensures ran { RunsAll self.now (L.did self.now) lanes.old.items lanes.new.items me result.0 result.1 }
     {
-        let mut seats = Vec::new(self.alloc);
-        if seats.reserve(lanes.len()).is_err() {
-            seats.destroy_empty();
+        let mut posts = Vec::new(self.alloc);
+        if posts.reserve(lanes.len()).is_err() {
+            posts.destroy_empty();
             return (me, Err(AllocError));
         }
-        seat_all(self, &mut me, lanes, &mut seats);
-        run_seats(rt, self, &mut seats);
-        let done = take_in_all(rt, self, &mut me, lanes, seats);
+        post_all(self, &mut me, lanes, &mut posts);
+        run_posts(rt, self, &mut posts);
+        let done = take_in_all(rt, self, &mut me, lanes, posts);
         (me, done)
     }
 }
 
-/// Gives each lane a seat with a handle of its own, the last lane first.
-fn seat_all<L>(system: &System, me: &mut Handle, lanes: &mut Vec<L>, seats: &mut Vec<Seat<L>>)
+/// Gives each lane a post with a handle of its own, the last lane first.
+fn post_all<L>(system: &System, me: &mut Handle, lanes: &mut Vec<L>, posts: &mut Vec<Post<L>>)
     requires me { IsOnly system.now me.old }
-    requires seats { seats.old.items ≡ [] }
-    requires room { vec_len seats.old + vec_len lanes.old ≤ vec_capacity seats.old }
-    ensures lanes { (lanes.new.items ≡ []) × (map (λ (s : Seat L). s.lane) (reverse seats.new.items) ≡ lanes.old.items) }
-    ensures room { vec_len seats.new ≤ vec_capacity lanes.new }
-    ensures seats { SeatsEach system.now me.old (reverse seats.new.items) me.new }
-    ensures leads { LeadsSeats system.now me.new (reverse seats.new.items) }
+    requires posts { posts.old.items ≡ [] }
+    requires room { vec_len posts.old + vec_len lanes.old ≤ vec_capacity posts.old }
+    ensures lanes { (lanes.new.items ≡ []) × (map (λ (s : Post L). s.lane) (reverse posts.new.items) ≡ lanes.old.items) }
+    ensures room { vec_len posts.new ≤ vec_capacity lanes.new }
+    ensures posts { PostsEach system.now me.old (reverse posts.new.items) me.new }
+    ensures leads { LeadsPosts system.now me.new (reverse posts.new.items) }
 {
     while let Some(lane) = lanes.pop() {
         let other = system.split(me);
-        seats.push_reserved(Seat {
+        posts.push_reserved(Post {
             lane,
             me: Some(other),
             done: Ok(()),
@@ -67,62 +67,62 @@ fn seat_all<L>(system: &System, me: &mut Handle, lanes: &mut Vec<L>, seats: &mut
     }
 }
 
-/// Runs lanes at once, each at its seat.
-fn run_seats<R: Threads + Wait + Sync, L: Lane + Send>(
+/// Runs lanes at once, each at its post.
+fn run_posts<R: Threads + Wait + Sync, L: Lane + Send>(
     rt: &R,
     system: &System,
-    seats: &mut Vec<Seat<L>>,
+    posts: &mut Vec<Post<L>>,
 )
     requires suits { L.suits system.now }
-    requires seats { All (λ (s : Seat L). HasHandle system.now s.me) seats.old.items }
-    ensures room { vec_len seats.new ≡ vec_len seats.old }
-    ensures as_many { length seats.new.items ≡ length seats.old.items }
-    ensures ran { SeatsRun system.now (L.did system.now) seats.old.items seats.new.items }
+    requires posts { All (λ (s : Post L). HasHandle system.now s.me) posts.old.items }
+    ensures room { vec_len posts.new ≡ vec_len posts.old }
+    ensures as_many { length posts.new.items ≡ length posts.old.items }
+    ensures ran { PostsRun system.now (L.did system.now) posts.old.items posts.new.items }
 {
-    let count = seats.len().max(1);
+    let count = posts.len().max(1);
     thread::for_each_mut(
         rt,
-        seats,
+        posts,
         count,
-        &|_, seat: &mut Seat<L>|
+        &|_, post: &mut Post<L>|
             requires suits { L.suits system.now }
-            requires seat { HasHandle system.now seat.old.me }
-        { run_seat(rt, system, seat) },
+            requires post { HasHandle system.now post.old.me }
+        { run_post(rt, system, post) },
     );
 }
 
-/// Runs a lane at its seat.
-fn run_seat<R: Wait, L: Lane>(rt: &R, system: &System, seat: &mut Seat<L>)
+/// Runs a lane at its post.
+fn run_post<R: Wait, L: Lane>(rt: &R, system: &System, post: &mut Post<L>)
     requires suits { L.suits system.now }
-    requires seat { HasHandle system.now seat.old.me }
-    ensures { SeatRuns system.now (L.did system.now) seat.old seat.new }
+    requires post { HasHandle system.now post.old.me }
+    ensures { PostRuns system.now (L.did system.now) post.old post.new }
 {
-    seat.done = run_in(rt, system, &mut seat.me, &mut seat.lane);
+    post.done = run_in(rt, system, &mut post.me, &mut post.lane);
 }
 
-/// Takes in the handles of all seats, and puts their lanes back. It answers how they ended.
+/// Takes in the handles of all posts, and puts their lanes back. It answers how they ended.
 fn take_in_all<R: Wait, L>(
     rt: &R,
     system: &System,
     me: &mut Handle,
     lanes: &mut Vec<L>,
-    mut seats: Vec<Seat<L>>,
+    mut posts: Vec<Post<L>>,
 ) -> Done
-    requires leads { LeadsSeats system.now me.old (reverse seats.items) }
+    requires leads { LeadsPosts system.now me.old (reverse posts.items) }
     requires lanes { lanes.old.items ≡ [] }
-    requires room { vec_len seats ≤ vec_capacity lanes.old }
+    requires room { vec_len posts ≤ vec_capacity lanes.old }
     ensures only { IsOnly system.now me.new }
-    ensures lanes { lanes.new.items ≡ map (λ (s : Seat L). s.lane) (reverse seats.items) }
-    ensures takes { TakesEach system.now me.old (reverse seats.items) me.new }
-    ensures done { result ≡ joined_ends (map (λ (s : Seat L). s.done) (reverse seats.items)) }
+    ensures lanes { lanes.new.items ≡ map (λ (s : Post L). s.lane) (reverse posts.items) }
+    ensures takes { TakesEach system.now me.old (reverse posts.items) me.new }
+    ensures done { result ≡ joined_ends (map (λ (s : Post L). s.done) (reverse posts.items)) }
 {
     let mut all = Ok(());
-    while let Some(seat) = seats.pop() {
-        let Seat {
+    while let Some(post) = posts.pop() {
+        let Post {
             lane,
             me: slot,
             done,
-        } = seat;
+        } = post;
         match slot {
             Some(other) => system.retire(rt, me, other),
             None => unreachable!(),
@@ -130,6 +130,6 @@ fn take_in_all<R: Wait, L>(
         lanes.push_reserved(lane);
         all = both(all, done);
     }
-    seats.destroy_empty();
+    posts.destroy_empty();
     all
 }

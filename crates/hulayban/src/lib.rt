@@ -10,6 +10,7 @@ pub use hr_timers::{
 };
 pub use ktime::{ClockId, Mode, Reading, TimeSpec, Write};
 pub use lane::{Done, Lane};
+pub use laws::a_next_expiry_is_fixed;
 pub use objects::Settime;
 pub use place::Place;
 pub use seq_timer::{CancelAnswer, Context, Peek, Terms};
@@ -27,6 +28,7 @@ mod expiring;
 mod handle;
 mod lane;
 mod lanes;
+mod laws;
 mod looking;
 mod objects;
 mod place;

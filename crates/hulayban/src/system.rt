@@ -60,13 +60,14 @@ impl System {
         let decls = objects_of(alloc, declared)?;
         let unused = callbacks_of(alloc, declared)?;
         let counters = declared.len() as u32 + 1;
+        let rings = vec![in alloc; SIGNALS as u64; 1]?;
         let (clock, clock_pass) = SharedClock::make(alloc)?;
         let made = Objects::make_queued(alloc, &decls, terms.limit, SIGNALS);
         let Ok((objects, objects_pass, signals)) = made else {
             clock.close(clock_pass);
             return Err(AllocError);
         };
-        let made = Timers::make_counting(alloc, bases, &timers, terms, counters);
+        let made = Timers::make_ringed(alloc, bases, &timers, terms, counters, &rings);
         let Ok((timers, pass)) = made else {
             clock.close(clock_pass);
             objects.close_queued(objects_pass, signals);

@@ -13,6 +13,7 @@ use Rattle.hr_timers.specs.declared.handler.Restart.{Restart}
 use Rattle.hr_timers.specs.Expiring.{Expires}
 use Rattle.hr_timers.proofs.ExpiryEnds.{run_leaves}
 use Rattle.signal_queue.specs.Views.{KnowsQueue, PassOfQueue}
+use Rattle.signal_queue.specs.declared.signal.Signal.{Signal}
 use Rattle.signal_queue.specs.declared.view.QueueView.{QueueView}
 use Rattle.timer_objects.specs.declared.object.Kind.{Kind}
 use Rattle.timer_objects.specs.declared.object.Kind.TheVariants as kinds
@@ -24,15 +25,16 @@ use Rattle.timer_objects.specs.Signals.{IsPushedBy}
 abbrev pub KnowsStill : QueuedFiring → QueuedFiring → Type 0
 KnowsStill h h' = KnowsQueue h.signal_pass.now.knows → KnowsQueue h'.signal_pass.now.knows
 
-knows_sent : (sends : Bool) (s t : QueueView) (id number : ℕ) → IsPushedBy sends s t id number → KnowsQueue s → KnowsQueue t
-knows_sent true s t id number sent knows = sent.2
-knows_sent false s t id number same knows = subst KnowsQueue (sym same) knows
+knows_sent : (o : Opening) (v w : KnownOfTimers) (sends : Bool) (s t : QueueView) (signal : Signal) → IsPushedBy o v w sends s t signal → KnowsQueue s
+    → KnowsQueue t
+knows_sent o v w true s t signal sent knows = sent.2
+knows_sent o v w false s t signal same knows = subst KnowsQueue (sym same) knows
 
 module _ (o : Opening) (h h' : QueuedFiring) (v w : KnownOfTimers) (c : ClaimNumbers) (reading : ClockReading) (restart : Restart) where
   knows_kind : (kind : Kind) → FiresKind o h h' v w c reading restart kind → KnowsStill h h'
   knows_kind kinds.Raw by knows = subst (λ (p : PassOfQueue). KnowsQueue p.knows) (sym by.3) knows
   knows_kind kinds.Queued by knows = ⊎_elim
-      (λ sends. knows_sent _ h.signal_pass.now.knows h'.signal_pass.now.knows c.timer _ sends.sent knows)
+      (λ sends. knows_sent o sends.enters.begun sends.enters.worked _ h.signal_pass.now.knows h'.signal_pass.now.knows _ sends.sent knows)
       (λ none. ⊎_elim (λ over. over.full.1) (λ skips. subst KnowsQueue (sym skips.none) knows) none) by.0
   knows_kind kind by knows = subst (λ (p : PassOfQueue). KnowsQueue p.knows) (sym by.4) knows
 

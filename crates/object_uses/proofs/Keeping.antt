@@ -38,7 +38,7 @@ use Rattle.timer_objects.specs.Turns.{HasTurn}
 use Rattle.timer_objects.proofs.Lending.{keeps_added, keeps_read, keeps_same}
 use Rattle.object_uses.specs.Callers.{KeepsBoth}
 
-keeps_looks : (v w : KnownOfTimers) → LooksOn v w → KeepsPass v w
+pub keeps_looks : (v w : KnownOfTimers) → LooksOn v w → KeepsPass v w
 keeps_looks v w looks = record {
   id = looks.id;
   claims = looks.claims;

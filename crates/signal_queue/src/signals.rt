@@ -70,6 +70,13 @@ impl Signals {
         Ok((signals, SignalPass { seat }))
     }
 
+    /// How many signals may wait.
+    pub fn room(&self) -> usize
+        ensures { result ≡ self.now.room }
+    {
+        self.ring.capacity()
+    }
+
     /// Lends the end for pushes, once nobody else has it.
     pub fn lend_push<'a, R: Wait>(&'a self, rt: &R) -> LentEnd<'a, Pushing>
         ensures { result.queue ≡ self.now }

@@ -1,9 +1,7 @@
 -- Calls that arm a timer anew: turns before them that only looked, the names of passes, and what each answers.
 use Rattle.std.proofs.Common.{◌≡◌, ◌∙◌, ℕ, true, false, not, refl, sym, subst}
 use Rattle.ktime.specs.Readings.{ClockReading}
-use Rattle.pass_names.proofs.SharedHistory.{looks_trans}
 use Rattle.base_row.specs.declared.view.Opening.{Opening}
-use Rattle.counted_row.proofs.Calls.{reads_after}
 use Rattle.timer_setting.specs.declared.answers.InterruptAnswer.{InterruptAnswer}
 use Rattle.timer_setting.specs.declared.answers.InterruptAnswer.TheVariants as interrupts
 use Rattle.timer_setting.specs.declared.answers.SettimeAnswer.{SettimeAnswer}
@@ -34,7 +32,7 @@ use Rattle.timer_objects.specs.Known.{ObjectsOf, decl_at}
 use Rattle.timer_objects.specs.Rearming.{KeepsNames}
 use Rattle.timer_objects.proofs.Settings.{settime_same}
 use Rattle.timer_setting.specs.Arguments.{start_by}
-use Rattle.timer_objects.proofs.Retrying.{arms_names, enters_after, full_after, turn_after, turn_names}
+use Rattle.timer_objects.proofs.Retrying.{arms_names, enters_after, full_after, looked_after, turn_after, turn_names}
 
 -- ---- what each answers
 
@@ -122,17 +120,6 @@ module _ (x : ObjectsOf) (o : Opening) (first old new : Caller) (id : ℕ) where
     disarms = subst (λ l. Disarms o s.begun s.disarmed id l s.cancel_log) waits.log s.disarms;
     arms = s.arms;
     bears = s.bears;
-  }
-
-  looked_after : {object : Object} {n : ℕ} → HasWaited first old → LooksAtObject old new id object n → LooksAtObject first new id object n
-  looked_after waits l = record {
-    reads = reads_after waits.objects l.reads;
-    state = l.state;
-    stamp = l.stamp;
-    timers = looks_trans first.timers old.timers new.timers waits.timers l.timers;
-    told = l.told;
-    log = l.log ∙ waits.log;
-    object_log = l.object_log ∙ waits.object_log;
   }
 
   pub ends_after : (call : Anew) (e : EndedAnew) → HasWaited first old → EndsAnew x o old new id call e → EndsAnew x o first new id call e

@@ -16,7 +16,7 @@ use Rattle.timer_objects.specs.Calls.{Caller, EntersCall}
 use Rattle.timer_objects.proofs.Counting.{state_is}
 
 -- behind what was there before stands one entry
-one_behind : {E : Type 0} (a b : Pass E) (i : ℕ) (e : E) (adds : Adds a b i (e ∷ [])) → length (entries i b.seen) ≡ length adds.before + 1
+pub one_behind : {E : Type 0} (a b : Pass E) (i : ℕ) (e : E) (adds : Adds a b i (e ∷ [])) → length (entries i b.seen) ≡ length adds.before + 1
 one_behind a b i e adds = omega (arith, ap length adds.last, length-append adds.before (e ∷ []))
 
 module _ (x : ObjectsOf) (p m q : ObjectsPass) (id : ℕ) (h : Locked Object) (call : ObjectCall) (answer : ObjectReply)

@@ -21,6 +21,7 @@ use Rattle.timer_objects.specs.QueuedFirings.{FiresKind, IsSameQueuedLoan, Leave
 use Rattle.timer_objects.specs.Signals.{FiresQueued, IsPushedBy, IsSignalPass, KeepsSignalPass}
 use Rattle.timer_objects.specs.Triggers.{Triggers}
 use Rattle.signal_queue.specs.declared.view.QueueView.{QueueView}
+use Rattle.signal_queue.specs.declared.signal.Signal.{Signal}
 use Rattle.signal_queue.specs.declared.signal.Turn.{Turn}
 use Rattle.signal_queue.specs.Calls.{TakesTurn}
 use Rattle.pass_names.specs.Passes.{Begins, Looks}
@@ -67,9 +68,10 @@ queued_trans h i j a b = record {
 }
 
 -- a signal that was sent, or none, leaves the queue's pass so
-signals_sent : (sends : Bool) (s t : QueueView) (id number : ℕ) → IsPushedBy sends s t id number → KeepsSignalPass s t
-signals_sent true s t id number sent = signals_taken s t _ sent.0
-signals_sent false s t id number same = signals_alone s t same
+signals_sent : (o : Opening) (v w : KnownOfTimers) (sends : Bool) (s t : QueueView) (signal : Signal) → IsPushedBy o v w sends s t signal
+    → KeepsSignalPass s t
+signals_sent o v w true s t signal sent = signals_taken s t _ sent.0
+signals_sent o v w false s t signal same = signals_alone s t same
 
 module _ (o : Opening) (h h' : QueuedFiring) (v w : KnownOfTimers) (c : ClaimNumbers) (reading : ClockReading) (restart : Restart)
     (loan : IsSameQueuedLoan h h') where
@@ -90,13 +92,13 @@ module _ (o : Opening) (h h' : QueuedFiring) (v w : KnownOfTimers) (c : ClaimNum
   }
 
   -- that of a queued timer
-  by_signal : FiresQueued h.objects.now h.objects_pass.now h'.objects_pass.now h.object_log.receipts h'.object_log.receipts v w h.signal_pass.now.knows
+  by_signal : FiresQueued o h.objects.now h.objects_pass.now h'.objects_pass.now h.object_log.receipts h'.object_log.receipts v w h.signal_pass.now.knows
       h'.signal_pass.now.knows c.timer c.generation reading → LeavesQueued h h'
   by_signal (inl sends) = record {
     loan = loan;
     keeps = keeps_added h.objects_pass.now h'.objects_pass.now c.timer _ sends.enters.commits.adds;
     knows = λ k. sends.enters.commits.knows;
-    signals = signals_sent _ h.signal_pass.now.knows h'.signal_pass.now.knows c.timer _ sends.sent;
+    signals = signals_sent o sends.enters.begun sends.enters.worked _ h.signal_pass.now.knows h'.signal_pass.now.knows _ sends.sent;
   }
   by_signal (inr (inl over)) = record {
     loan = loan;

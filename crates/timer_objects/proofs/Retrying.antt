@@ -1,10 +1,10 @@
 -- A call on an object after turns that only looked, and the names of its passes.
-use Rattle.std.proofs.Common.{ap, refl, subst, ◌≡◌, ◌∙◌, ◌+◌, ℕ, List, [], ◌∷◌, ◌++◌, length, ◌<◌}
+use Rattle.std.proofs.Common.{ap, refl, sym, subst, ◌≡◌, ◌∙◌, ◌+◌, ℕ, List, [], ◌∷◌, ◌++◌, length, ◌<◌}
 use Rattle.std.specs.Prelude.{Option, Some, None}
 use Rattle.ktime.specs.Readings.{ClockReading}
 use Rattle.pass_names.specs.Passes.{Begins}
 use Rattle.pass_names.specs.SharedHistory.{LooksOn}
-use Rattle.pass_names.proofs.Passes.{begins_trans}
+use Rattle.pass_names.proofs.Passes.{begins_trans, goes_refl}
 use Rattle.pass_names.proofs.SharedHistory.{looks_trans}
 use Rattle.seq_timer.specs.declared.system.SystemEntry.{SystemEntry}
 use Rattle.base_row.specs.declared.view.Opening.{Opening}
@@ -34,6 +34,13 @@ rises_since first r = record { before = r.before; seen = begins_trans first r.se
 -- the beginning of a turn of an object behind looks
 abbrev pub begins_after : {id n : ℕ} {u v w : KnownOfTimers} → LooksOn u v → BeginsTurn id n v w → BeginsTurn id n u w
 begins_after {id} {n} {u} {v} {w} looks b = record { looks = looks_trans u v w looks b.looks; rises = rises_since looks.seen b.rises }
+
+-- a turn of an object in which timers were only looked at is one without work
+pub turn_alone : {id n : ℕ} {v begun worked w : KnownOfTimers} → HasTurn id n v begun worked w → LooksOn begun worked → HasTurn id n v begun begun w
+turn_alone {begun = begun} {worked = worked} {w = w} t looks = record {
+  begins = t.begins;
+  ends = record { looks = looks_trans begun worked w looks t.ends.looks; rises = rises_since looks.seen t.ends.rises };
+}
 
 -- a disarming behind looks
 pub disarms_after : {o : Opening} {t n : ℕ} {u v w : KnownOfTimers} {log log' : List Receipt} → LooksOn u v → DisarmsInTurn o v w t n log log'
@@ -68,6 +75,33 @@ module _ {a b c : Caller} where
     log = found.log ∙ waits.log;
     object_log = found.object_log ∙ waits.object_log;
   }
+
+  -- an object that was looked at behind looks
+  pub looked_after : {id n : ℕ} {object : Object} → HasWaited a b → LooksAtObject b c id object n → LooksAtObject a c id object n
+  looked_after waits l = record {
+    reads = reads_after waits.objects l.reads;
+    state = l.state;
+    stamp = l.stamp;
+    timers = looks_trans a.timers b.timers c.timers waits.timers l.timers;
+    told = l.told;
+    log = l.log ∙ waits.log;
+    object_log = l.object_log ∙ waits.object_log;
+  }
+
+-- a caller that only looked at timers has waited
+pub timers_waited : (old new : Caller) → LooksOn old.timers new.timers → new ≡ record old { timers = new.timers } → HasWaited old new
+timers_waited old new looks same = subst (λ y. HasWaited old y) (sym same) (record {
+  timers = looks;
+  objects = record {
+    row = refl;
+    pass = record { id = refl; seen = goes_refl old.objects.knows.pass.seen; mine = refl };
+    opening = refl;
+    claims = refl;
+    held = refl;
+  };
+  log = refl;
+  object_log = refl;
+})
 
 -- a settime that was given up while the object was held
 pub held_up : (x : ObjectsOf) (o : Opening) (p m q : ObjectsPass) (id : ℕ) (h : Locked Object) → Locks object_meaning p m id h → IsPassOfRow (row_of x) m

@@ -2,6 +2,8 @@
 use Rattle.std.specs.Prelude.{Option}
 use Rattle.std.proofs.Common.{◌≡◌, ℕ, ◌+◌, ◌<◌, List, [], ◌∷◌, ◌++◌, length, ap, sym, ◌∙◌, subst, refl}
 use Rattle.pass_names.specs.Passes.{Adds}
+use Rattle.pass_names.specs.SharedHistory.{LooksOn}
+use Rattle.pass_names.proofs.SharedHistory.{looks_refl}
 use Rattle.hr_timers.specs.Known.{KnownOfTimers}
 use Rattle.counted_row.specs.declared.view.Locked.{Locked}
 use Rattle.counted_row.specs.Views.{IsPassOfRow, Locks, StateAfter}
@@ -25,19 +27,23 @@ module _ (x : ObjectsOf) (p m q : ObjectsPass) (id : ℕ) (h : Locked Object) (c
   counted = locks.now.stamp ∙ ap (λ i. length (seen_of m i)) locks.index
 
   -- the trigger of the object as it was held
-  pub record EntersHeld (v w : KnownOfTimers) : Type 0 where
+  pub record EntersHeld (v begun worked w : KnownOfTimers) : Type 0 where
     pub made : EntersTrigger x p q log log' v w id call
     pub state : made.commits.state ≡ h.state
     pub before : length made.commits.adds.before ≡ h.stamp
+    pub begins : made.begun ≡ begun
+    pub works : made.worked ≡ worked
 
   pub entered_held : (answer : ObjectReply) → EntersObjectCall m q h call answer → h.stamp < x.limit → log' ≡ log ++ receipt_of h call ∷ []
-      → (v begun w : KnownOfTimers) → HasTurn id h.stamp v begun begun w → EntersHeld v w
-  entered_held answer enters room noted v begun w turn =
+      → (v begun worked w : KnownOfTimers) → HasTurn id h.stamp v begun worked w → LooksOn begun worked → EntersHeld v begun worked w
+  entered_held answer enters room noted v begun worked w turn looks =
       let told = subst (λ r. Adds m.knows.pass q.knows.pass h.index (record { call = call; reply = r } ∷ [])) enters.reply enters.adds in
       let commits : Commits object_meaning p q id call = commits_of locks here after.row told enters.knows after.knows in
       record {
         state = refl;
         before = sym counted;
+        begins = refl;
+        works = refl;
         made = record {
           commits = commits;
           declared = state_is x id commits.adds.before commits.state
@@ -45,7 +51,9 @@ module _ (x : ObjectsOf) (p m q : ObjectsPass) (id : ℕ) (h : Locked Object) (c
           may = enters.may;
           room = subst (λ n. n < x.limit) counted room;
           begun = begun;
-          turn = subst (λ n. HasTurn id n v begun begun w) counted turn;
+          worked = worked;
+          turn = subst (λ n. HasTurn id n v begun worked w) counted turn;
+          looks = looks;
           receipt = noted ∙ (λ i. log ++ record {
             object = locks.index i;
             number = counted i + 1;
@@ -57,7 +65,7 @@ module _ (x : ObjectsOf) (p m q : ObjectsPass) (id : ℕ) (h : Locked Object) (c
 
   pub entered : (answer : ObjectReply) → EntersObjectCall m q h call answer → h.stamp < x.limit → log' ≡ log ++ receipt_of h call ∷ []
       → (v begun w : KnownOfTimers) → HasTurn id h.stamp v begun begun w → EntersTrigger x p q log log' v w id call
-  entered answer enters room noted v begun w turn = (entered_held answer enters room noted v begun w turn).made
+  entered answer enters room noted v begun w turn = (entered_held answer enters room noted v begun begun w turn (looks_refl begun)).made
 
 -- who is told by a trigger's reply is told by the receipt that has it
 pub tells_of : {id n : ℕ} {reply : ObjectReply} {rung : Option ℕ} {log log' : List ObjectReceipt} (receipt : ObjectReceipt) → n ≡ id → reply ≡ receipt.reply

@@ -1,9 +1,12 @@
 -- A read of a descriptor that waits until there is something to read.
-use Rattle.std.specs.Prelude.{ℕ, ◌≡◌, ◌≤◌, ◌<◌, zero, suc, true, List, [], ◌∷◌, ◌++◌, length}
+use Rattle.std.specs.Prelude.{ℕ, ◌≡◌, ◌≤◌, ◌<◌, ◌+◌, zero, suc, true, List, [], ◌∷◌, ◌++◌, length}
 use Rattle.std.specs.Prelude.{get_or}
 use Rattle.ktime.specs.declared.clock_id.ClockId.TheVariants as clocks
 use Rattle.ktime.specs.Readings.{ClockReading}
 use Rattle.base_row.specs.declared.view.Opening.{Opening}
+use Rattle.hr_timers.specs.Known.{KnownOfTimers}
+use Rattle.ordered_clock.specs.Moments.{ReadsAt}
+use Rattle.pass_names.specs.SharedHistory.{LooksOn}
 use Rattle.timer_setting.specs.declared.answers.ReadAnswer.{ReadAnswer}
 use Rattle.timer_setting.specs.declared.answers.ReadAnswer.TheVariants as reads
 use Rattle.timer_setting.specs.declared.object_call.ObjectReply.TheVariants as replies
@@ -23,6 +26,7 @@ use Rattle.timer_objects.specs.declared.wanting.Rearming.TheVariants as rearming
 use Rattle.timer_objects.specs.Calls.{Caller, FindsHistoryFull, LooksAtObject, RearmingMade}
 use Rattle.timer_objects.specs.Known.{ObjectsOf, seen_of}
 use Rattle.timer_objects.specs.Rearming.{MakesEntry, RepliesTo}
+use Rattle.timer_objects.specs.Turns.{turns_told}
 
 -- ---- readers
 
@@ -42,13 +46,22 @@ descriptors_below decls (suc n) = descriptors_below decls n ++ if_descriptor (ki
 
 -- ---- the read
 
+-- The clock's reading has its place behind a moment at which an object had so many entries and no call had its turn: the clock had so many writes at a moment
+-- after that.
+pub record ReadsBehindLock (id entries stamp : ℕ) (old new : KnownOfTimers) : Type 0 where
+  pub locked : KnownOfTimers
+  pub looks : LooksOn old locked
+  pub told : turns_told id locked ≡ entries + entries
+  pub reads : ReadsAt locked.seen new.seen stamp
+
 -- A read that made an entry at this reading, by the step of a read, and so answered; and the descriptor as it was before the entry, which had something
--- to read: an expiry, or that the clock was set.
+-- to read: an expiry, or that the clock was set. The reading has its place before the read's turn began.
 pub record ReadsSome (x : ObjectsOf) (o : Opening) (old new : Caller) (id : ℕ) (reading : ClockReading) (a : ReadAnswer) : Type 0 where
   pub made : RearmingMade x o old new id rearmings.Reading reading (replies.Read a)
   pub descriptor : Descriptor
   pub found : made.enters.commits.state ≡ objects.Fd descriptor
   pub some : is_readable descriptor reading ≡ true
+  pub taken : ReadsBehindLock id (length made.enters.commits.adds.before) reading.stamp old.timers made.begun
 
 -- A read that waits: a buffer that is too short is refused first, and nothing is other than before; it is refused exactly where the object's history
 -- is full; else it has read something. Where the clock was set back before the expiry that was counted, nothing is left to be told, and it answers zero.
@@ -62,25 +75,31 @@ ReadsBlocking x o old new id len reading blocking.Zero =
 ReadsBlocking x o old new id len reading blocking.Canceled =
     (count_length ≤ len) × (r : ReadsSome x o old new id reading reads.Canceled) × (is_canceled r.descriptor reading ≡ true)
 
--- ---- its turns
+-- ---- its tries
 
 -- an object is a descriptor that has something to read
 abbrev pub HasSome : ClockReading → Object → Type 0
 HasSome reading object = (t : Descriptor) × (object ≡ objects.Fd t) × (is_readable t reading ≡ true)
 
--- Why a read waits: the descriptor was looked at while no call had its turn, its history has room, and at this reading it has nothing to read.
+-- Why a read waits: the descriptor was looked at while no call had its turn, its history has room, and at this reading, which has its place behind that, it
+-- has nothing to read.
 pub record FindsNothing (x : ObjectsOf) (old new : Caller) (id : ℕ) (reading : ClockReading) : Type 0 where
   pub object : Object
   pub stamp : ℕ
-  pub looks : LooksAtObject old new id object stamp
+  pub looked : Caller
+  pub looks : LooksAtObject old looked id object stamp
+  pub reads : ReadsAt looked.timers.seen new.timers.seen reading.stamp
+  pub same : new ≡ record looked { timers = new.timers }
+  pub waited : LooksOn looked.timers new.timers
   pub room : stamp < x.limit
   pub none : HasSome reading object → ⊥
 
--- a turn ended the read: its history was full, or an entry was made, of a descriptor that had something to read
+-- a try ended the read: its history was full, or an entry was made, of a descriptor that had something to read
 abbrev pub EndsRead : ObjectsOf → Opening → Caller → Caller → ℕ → ClockReading → Ended → Type 0
 EndsRead x o old new id reading (ends.Full n) = FindsHistoryFull x old new id n
 EndsRead x o old new id reading (ends.Made n reply) =
-    (made : MakesEntry x o old new id rearmings.Reading reading reply) × HasSome reading made.0.enters.commits.state × (n ≡ length (seen_of new.objects id))
+    (made : MakesEntry x o old new id rearmings.Reading reading reply) × HasSome reading made.0.enters.commits.state
+    × ReadsBehindLock id (length made.0.enters.commits.adds.before) reading.stamp old.timers made.0.begun × (n ≡ length (seen_of new.objects id))
 
 -- ---- the answer
 

@@ -45,7 +45,7 @@ module _ (o : Opening) (h h' : QueuedFiring) (v w : KnownOfTimers) (c : ClaimNum
       RunsCallback o v w c reading h.log.receipts h'.log.receipts (get_or h.callbacks.now c.timer callbacks.Once) restart
       × (h'.objects_pass.now ≡ h.objects_pass.now) × (h'.object_log.receipts ≡ h.object_log.receipts) × (h'.signal_pass.now ≡ h.signal_pass.now)
   FiresKind kinds.Queued =
-      FiresQueued h.objects.now h.objects_pass.now h'.objects_pass.now h.object_log.receipts h'.object_log.receipts v w h.signal_pass.now.knows
+      FiresQueued o h.objects.now h.objects_pass.now h'.objects_pass.now h.object_log.receipts h'.object_log.receipts v w h.signal_pass.now.knows
       h'.signal_pass.now.knows c.timer c.generation reading
       × LooksOn v w × (h'.log.receipts ≡ h.log.receipts) × (restart ≡ restarts.Stop)
   FiresKind kind =

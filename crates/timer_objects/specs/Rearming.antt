@@ -1,5 +1,5 @@
 -- The calls that arm their object's timer again, where that is periodic and has expired: what each wants of an object, and how it ends.
-use Rattle.std.specs.Prelude.{ℕ, ◌≡◌, ◌+◌, ◌<◌, length, [], Some}
+use Rattle.std.specs.Prelude.{ℕ, ◌≡◌, ◌<◌, length, [], Some}
 use Rattle.ktime.specs.Readings.{ClockReading}
 use Rattle.pass_names.specs.SharedHistory.{LooksOn}
 use Rattle.base_row.specs.Logs.{LogOf}
@@ -28,7 +28,6 @@ use Rattle.timer_objects.specs.declared.log.ObjectReceipt.{ObjectReceipt}
 use Rattle.timer_objects.specs.Known.{HoldsObject, IsObjectsPass, ObjectsOf, ObjectsPass, Suits, row_of, seen_of}
 use Rattle.timer_objects.specs.Calls.{Caller, FindsHistoryFull, IsPosixKind, RearmingMade}
 use Rattle.timer_objects.specs.Steps.{object_timer}
-use Rattle.timer_objects.specs.Turns.{turns_told}
 use Rattle.base_row.specs.declared.log.Receipt.{Receipt}
 use Rattle.base_row.specs.Calls.{BaseRowOf}
 
@@ -92,6 +91,11 @@ EndsAt x o old new id r reading (ends.Full n) object = FindsHistoryFull x old ne
 EndsAt x o old new id r reading (ends.Made n reply) object =
     (made : MakesEntry x o old new id r reading reply) × (made.0.enters.commits.state ≡ object) × (n ≡ length (seen_of new.objects id))
 
+-- a call that made an entry made the one of this number
+abbrev pub IsEntryNumber : ℕ → Ended → Type 0
+IsEntryNumber number (ends.Full n) = Unit {0}
+IsEntryNumber number (ends.Made n reply) = n ≡ number
+
 -- ---- a call on an object that is held
 
 -- a caller took the lock of an object, and may have looked at timers for it
@@ -100,7 +104,7 @@ pub record HasLocked (x : ObjectsOf) (first pass : PassOf) (begun now : ObjectsP
   pub is : IsObjectsPass x begun
   pub locks : Locks object_meaning begun now id h
 
--- a caller holds an object whose history has room, and no call has its turn
+-- a caller holds an object whose history has room
 pub record IsHolding (x : ObjectsOf) (timers : BaseRowOf) (pass : PassOf) (objects_pass : ObjectsPass) (id : ℕ) (h : Locked Object) : Type 0 where
   pub of_timers : IsPassOf timers pass
   pub suits : Suits x timers.about
@@ -111,7 +115,6 @@ pub record IsHolding (x : ObjectsOf) (timers : BaseRowOf) (pass : PassOf) (objec
   pub index : h.index ≡ id
   pub holds : HoldsObject x h
   pub room : h.stamp < x.limit
-  pub told : turns_told id pass.known ≡ h.stamp + h.stamp
 
 -- ---- looks
 

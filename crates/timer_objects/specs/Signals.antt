@@ -1,9 +1,13 @@
 -- The signals of queued timers: what an expiry does to its object and to the queue, and what the next signal is.
-use Rattle.std.specs.Prelude.{ℕ, ◌≡◌, ◌+◌, ◌<◌, ◌≤◌, ◌⊎◌, Bool, true, false, List, length, Some, [], slice_get}
+use Rattle.std.specs.Prelude.{ℕ, ◌≡◌, ◌+◌, ◌<◌, ◌≤◌, ◌⊎◌, Bool, true, false, List, length, Option, Some, None, [], slice_get}
 use Rattle.ktime.specs.Readings.{ClockReading}
 use Rattle.base_row.specs.declared.view.Opening.{Opening}
 use Rattle.hr_timers.specs.Known.{KnownOfTimers}
+use Rattle.ordered_signals.specs.Places.{HasSignalRing, PopStands, PushStands}
+use Rattle.pass_names.specs.SharedHistory.{LooksOn}
+use Rattle.signal_queue.specs.declared.signal.Signal.{Signal}
 use Rattle.signal_queue.specs.declared.signal.Turn.TheVariants as turns
+use Rattle.signal_queue.specs.declared.signals.Push.TheVariants.{Queued, Full}
 use Rattle.signal_queue.specs.declared.view.QueueView.{QueueView}
 use Rattle.signal_queue.specs.Calls as queues
 use Rattle.signal_queue.specs.Rules.{IsWithin}
@@ -43,14 +47,20 @@ object_sends object generation reading = false
 
 -- ---- an expiry
 
--- a signal that was sent stands last in the queue, which had room for it; where none was, the queue was left alone
-abbrev pub IsPushedBy : Bool → QueueView → QueueView → ℕ → ℕ → Type 0
-IsPushedBy true s t id number = queues.TakesTurn s t (turns.Pushed (record { timer = id; number = number })) × IsWithin t × KnowsQueue t
-IsPushedBy false s t id number = t ≡ s
+-- Where the timers have a ring for the queue, a push has its place between what was known of them before and after, and one that found no room its moment.
+-- The queue's room stays.
+module _ (o : Opening) (v w : KnownOfTimers) where
+  -- a signal that was sent stands last in the queue, which had room for it; where none was, the queue was left alone
+  abbrev pub IsPushedBy : Bool → QueueView → QueueView → Signal → Type 0
+  IsPushedBy true s t signal =
+      queues.TakesTurn s t (turns.Pushed signal) × IsWithin t × KnowsQueue t × (HasSignalRing o.rings s.room → PushStands o v w t Queued)
+      × (t.room ≡ s.room)
+  IsPushedBy false s t signal = t ≡ s
 
--- the queue has no room: as many signals wait as it was made for
-abbrev pub HasNoRoom : QueueView → QueueView → Type 0
-HasNoRoom s t = queues.FindsFull s.room s t × KnowsQueue t
+  -- the queue has no room: as many signals wait as it was made for
+  abbrev pub HasNoRoom : QueueView → QueueView → Type 0
+  HasNoRoom s t =
+      queues.FindsFull s.room s t × KnowsQueue t × (HasSignalRing o.rings s.room → PushStands o v w t (Full s.room)) × (t.room ≡ s.room)
 
 -- a pass of the queue has its name, and what it has seen and made goes on
 pub record KeepsSignalPass (s t : QueueView) : Type 0 where
@@ -58,17 +68,20 @@ pub record KeepsSignalPass (s t : QueueView) : Type 0 where
   pub seen : GoesOn s.pass.seen t.pass.seen
   pub mine : Begins s.pass.mine t.pass.mine
 
-module _ (x : ObjectsOf) (p q : ObjectsPass) (log log' : List ObjectReceipt) (v w : KnownOfTimers) (s t : QueueView) (id generation : ℕ)
+module _ (o : Opening) (x : ObjectsOf) (p q : ObjectsPass) (log log' : List ObjectReceipt) (v w : KnownOfTimers) (s t : QueueView) (id generation : ℕ)
     (reading : ClockReading) where
-  -- The trigger was entered, and its signal was sent if the expiry counts: the signal has the number of the entry.
+  -- The trigger was entered, and its signal was sent if the expiry counts: the signal has the number of the entry. Where there is a ring, the push stands in
+  -- the turn of the object.
   pub record Sends : Type 0 where
     pub enters : EntersTrigger x p q log log' v w id (calls.Trigger generation reading)
-    pub sent : IsPushedBy (object_sends enters.commits.state generation reading) s t id (length enters.commits.adds.before + 1)
+    pub sent : IsPushedBy o enters.begun enters.worked (object_sends enters.commits.state generation reading) s t
+        (record { timer = id; number = length enters.commits.adds.before + 1 })
 
-  -- The expiry counts, but the queue had no room for its signal: an overflow was entered.
+  -- The expiry counts, but the queue had no room for its signal: an overflow was entered. Where there is a ring, there was no room at a moment in the turn of
+  -- the object.
   pub record Overflows : Type 0 where
     pub enters : EntersTrigger x p q log log' v w id (calls.Overflow generation reading)
-    pub full : HasNoRoom s t
+    pub full : HasNoRoom o enters.begun enters.worked s t
 
   -- The history of the object is full, so the trigger was refused and no signal was sent.
   pub record Skips : Type 0 where
@@ -76,18 +89,18 @@ module _ (x : ObjectsOf) (p q : ObjectsPass) (log log' : List ObjectReceipt) (v 
     pub none : t ≡ s
 
 -- what the expiry of a queued timer does
-abbrev pub FiresQueued : ObjectsOf → ObjectsPass → ObjectsPass → List ObjectReceipt → List ObjectReceipt → KnownOfTimers → KnownOfTimers → QueueView → QueueView
-    → ℕ → ℕ → ClockReading → Type 0
-FiresQueued x p q log log' v w s t id generation reading =
-    Sends x p q log log' v w s t id generation reading
-    ⊎ Overflows x p q log log' v w s t id generation reading
-    ⊎ Skips x p q log log' v w s t id generation reading
+abbrev pub FiresQueued : Opening → ObjectsOf → ObjectsPass → ObjectsPass → List ObjectReceipt → List ObjectReceipt → KnownOfTimers → KnownOfTimers
+    → QueueView → QueueView → ℕ → ℕ → ClockReading → Type 0
+FiresQueued o x p q log log' v w s t id generation reading =
+    Sends o x p q log log' v w s t id generation reading
+    ⊎ Overflows o x p q log log' v w s t id generation reading
+    ⊎ Skips o x p q log log' v w s t id generation reading
 
--- what becomes of an expiry's signal while its object is locked, and the call that is entered then
-abbrev pub PushesFor : QueueView → QueueView → Object → ℕ → ℕ → ℕ → ClockReading → ObjectCall → Type 0
-PushesFor s t object id number generation reading call =
-    ((call ≡ calls.Trigger generation reading) × IsPushedBy (object_sends object generation reading) s t id number)
-    ⊎ ((call ≡ calls.Overflow generation reading) × (object_sends object generation reading ≡ true) × HasNoRoom s t)
+-- what becomes of an expiry's signal in the turn of its object, and the call that is entered then
+abbrev pub PushesFor : Opening → KnownOfTimers → KnownOfTimers → QueueView → QueueView → Object → Signal → ℕ → ClockReading → ObjectCall → Type 0
+PushesFor o v w s t object signal generation reading call =
+    ((call ≡ calls.Trigger generation reading) × IsPushedBy o v w (object_sends object generation reading) s t signal)
+    ⊎ ((call ≡ calls.Overflow generation reading) × (object_sends object generation reading ≡ true) × HasNoRoom o v w s t)
 
 -- ---- the next signal
 
@@ -96,6 +109,14 @@ pub record TakesOldest (s t : QueueView) (timer number : ℕ) : Type 0 where
   pub pops : queues.TakesTurn s t (turns.Popped (record { timer = timer; number = number }))
   pub oldest : slice_get (waiting_after [] pops.before) 0 ≡ Some (record { timer = timer; number = number })
   pub known : KnowsQueue t
+
+-- The queue was tried, by which so much came to be known of it. Where the timers have a ring for the queue, the caller had looked at them, and the pop has its
+-- place between what was known of them before and after, or one that found nothing its moment. Else nothing was done to them.
+pub record TriesQueue (o : Opening) (old tried : Caller) (s t : QueueView) (taken : Option Signal) : Type 0 where
+  pub looks : LooksOn old.timers tried.timers
+  pub same : tried ≡ record old { timers = tried.timers }
+  pub stands : HasSignalRing o.rings s.room → PopStands o old.timers tried.timers t taken
+  pub alone : (HasSignalRing o.rings s.room → ⊥) → tried ≡ old
 
 -- A signal is stale where it isn't pending at its timer, which has the entry that sent it, and has room: the timer was set anew since, or the signal was
 -- accepted, or it isn't the last one that the timer sent.
@@ -133,9 +154,10 @@ TakesSignal x o old new timer number reading (nexts.Accepted i k overrun) =
 abbrev pub IsForeign : ObjectsOf → Caller → Caller → ℕ → ℕ → NextSignal → Type 0
 IsForeign x old new timer number next = (IsQueued x timer → ⊥) × (next ≡ nexts.Stale timer number) × (new ≡ old)
 
--- the next signal: none waits; or the oldest one was taken off, which is of a queued timer or not
+-- the next signal: none waits; or the oldest one was taken off, and then it is of a queued timer or not
 abbrev pub TakesNext : ObjectsOf → Opening → Caller → Caller → QueueView → QueueView → ClockReading → NextSignal → Type 0
-TakesNext x o old new s t reading nexts.NoneQueued = queues.FindsEmpty s t × (new ≡ old)
+TakesNext x o old new s t reading nexts.NoneQueued = queues.FindsEmpty s t × TriesQueue o old new s t None
 TakesNext x o old new s t reading next =
     (timer number : ℕ) × TakesOldest s t timer number
-    × (IsForeign x old new timer number next ⊎ (IsQueued x timer × TakesSignal x o old new timer number reading next))
+    × (tried : Caller) × TriesQueue o old tried s t (Some (record { timer = timer; number = number }))
+    × (IsForeign x tried new timer number next ⊎ (IsQueued x timer × TakesSignal x o tried new timer number reading next))

@@ -39,15 +39,17 @@ pub record TellsReader (id : ℕ) (rung : Option ℕ) (log log' : List ObjectRec
   pub told : IsRungFor id receipt.reply rung
 
 module _ (x : ObjectsOf) (p q : ObjectsPass) (log log' : List ObjectReceipt) (v w : KnownOfTimers) where
-  -- The trigger stands last in the object's history, which had room for it, and a receipt of it was noted. It had a turn of the object, in which it did
-  -- nothing to the timer.
+  -- The trigger stands last in the object's history, which had room for it, and a receipt of it was noted. It had a turn of the object, in which it only
+  -- looked at timers.
   pub record EntersTrigger (id : ℕ) (call : ObjectCall) : Type 0 where
     pub commits : Commits object_meaning p q id call
     pub declared : IsObjectOf (decl_at x id) x.limit (length commits.adds.before) commits.state
     pub may : ObjectAllows commits.state call
     pub room : length commits.adds.before < x.limit
     pub begun : KnownOfTimers
-    pub turn : HasTurn id (length commits.adds.before) v begun begun w
+    pub worked : KnownOfTimers
+    pub turn : HasTurn id (length commits.adds.before) v begun worked w
+    pub looks : LooksOn begun worked
     pub receipt : log'
         ≡ log ++ record { object = id; number = length commits.adds.before + 1; call = call; reply = object_answer commits.state call } ∷ []
 

@@ -24,8 +24,9 @@ use timer_setting::{ObjectReply, ReadAnswer};
 
 impl Objects {
     /// Reads how often a reader's descriptor has expired, as `read` does, but waits while there is nothing to read (`read(2)` of a descriptor
-    /// without `TFD_NONBLOCK`). Each try reads the clock while the object is locked. Only for objects that `make_blocking` made: of others no reader
-    /// is woken. It ends where an expiry is counted by an expiry run with these objects, or a write of the clock is told by `clock_was_set`.
+    /// without `TFD_NONBLOCK`). Each try reads the clock once it has the object's lock, by `ordered_clock::read`: so counter 0 of the timers is this clock's, and
+    /// a reading has its place among their entries where the clock is written by `ordered_clock::write`. Only for objects that `make_blocking` made: of others no reader is woken. It ends where an expiry is
+    /// counted by an expiry run with these objects, or a write of the clock is told by `clock_was_set`.
     pub fn read_wait<R: Wait>(
         &self,
         rt: &R,
@@ -105,11 +106,11 @@ impl Objects {
         ensures room { (log.old.spare ≤ log.new.spare + most_noted self.now timers.now.about id) × (object_log.old.spare ≤ object_log.new.spare + 1) }
     {
         let held = self.lock_in_turn(rt, timers, pass, objects_pass, id);
-        let reading = clock.read(rt, clock_pass);
         if self.is_full(&held) {
             let stamp = self.release(objects_pass, held);
             return Some(Ended::Full { stamp });
         }
+        let reading = ordered_clock::read(rt, timers, pass, clock, clock_pass);
         if !has_some(held.state(), reading) {
             self.release(objects_pass, held);
             return None;

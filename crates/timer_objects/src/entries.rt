@@ -4,7 +4,7 @@ ghost use Rattle.hr_timers.specs.Known.{IsPassOf, PassOf};
 ghost use Rattle.timer_objects.specs.declared.object.Kind.TheVariants as kinds;
 ghost use Rattle.timer_objects.specs.Known.{IsObjectsPass, ObjectsPass, Suits, decl_at, most_noted};
 ghost use Rattle.timer_objects.specs.Calls.{Accepts, IsPosixKind, ReadsFd, rearming_call};
-ghost use Rattle.timer_objects.specs.Rearming.{Ends, EndsAt, HasLocked, HasRearming, IsHolding, KeepsNames, LeavesPasses, IsCallerOf, caller_of};
+ghost use Rattle.timer_objects.specs.Rearming.{Ends, EndsAt, IsEntryNumber, HasLocked, HasRearming, IsHolding, KeepsNames, LeavesPasses, IsCallerOf, caller_of};
 
 use crate::arming::arm;
 use crate::log::ObjectLog;
@@ -172,6 +172,7 @@ impl Objects {
         requires room { (most_noted self.now timers.now.about id ≤ log.old.spare) × (1 ≤ object_log.old.spare) }
         ensures leaves { LeavesPasses self.now timers.now pass.new objects_pass.new }
         ensures ends { (first : PassOf) (begun : ObjectsPass) → HasLocked self.now first pass.old begun objects_pass.old id held → EndsAt self.now timers.now.about (caller_of first begun log.old object_log.old) (caller_of pass.new objects_pass.new log.new object_log.new) id call reading result held.state }
+        ensures number { IsEntryNumber (held.stamp + 1) result }
         ensures room { (log.old.spare ≤ log.new.spare + most_noted self.now timers.now.about id) × (object_log.old.spare ≤ object_log.new.spare + 1) }
     {
         let stamp = held.stamp();

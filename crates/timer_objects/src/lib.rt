@@ -25,6 +25,7 @@ mod log;
 mod looking;
 mod object;
 mod objects;
+mod queue;
 mod queued_firing;
 mod readers;
 mod sending;

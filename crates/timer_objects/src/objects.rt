@@ -81,8 +81,9 @@ impl Objects {
         Ok((objects, pass, readers))
     }
 
-    /// Objects as `make` makes them, and a queue of at most so many signals, with its first pass: for who has queued timers. Their signals go there where their functions are
-    /// run by a handler that `QueuedFiring::make` gives.
+    /// Objects as `make` makes them, and a queue of at most so many signals, with its first pass: for who has queued timers. Their signals go there where
+    /// their functions are run by a handler that `QueuedFiring::make` gives. Pushes and pops have places among the entries of timers that
+    /// `Timers::make_ringed` makes with one ring of just this room.
     pub fn make_queued(
         alloc: Global,
         decls: &[Decl],
@@ -158,7 +159,8 @@ impl Objects {
     }
 
     /// The queue of signals of objects that `make_queued` made: who splits its pass calls it. A signal that a caller puts there itself is taken for that of
-    /// its timer's expiry where that has the number.
+    /// its timer's expiry where that has the number. Where the timers have a ring for the queue, push and pop by `ordered_signals` alone: after a plain push
+    /// or pop later ones may wait for ever, an expiry run with its object locked.
     pub fn signals(&self) -> &Signals
         requires some { IsSome self.now.queue }
         ensures { Some result.now ≡ self.now.queue }

@@ -9,6 +9,7 @@ ghost use Rattle.timer_objects.specs.Signals.{FiresQueued, IsQueued, IsSignalPas
 use crate::log::ObjectLog;
 use crate::object::Object;
 use crate::objects::Objects;
+use crate::queue;
 use crate::trigger::skip;
 use crate::turns::{begin, end};
 use counted_row::RowPass;
@@ -18,8 +19,8 @@ use signal_queue::{Push, Signal, SignalPass};
 use std::sync::Wait;
 use timer_setting::ObjectCall;
 
-/// Triggers the queued timer over a claim's timer, or notes that its history is full. An expiry that counts puts its signal into the queue, with the number
-/// that its entry will have; where there is no room, the timer is disarmed.
+/// Triggers the queued timer over a claim's timer, or notes that its history is full. An expiry that counts puts its signal into the queue, in the object's
+/// turn, with the number that its entry will have; where there is no room, the timer is disarmed.
 pub(crate) fn send<R: Wait>(
     rt: &R,
     timers: &Timers,
@@ -43,7 +44,7 @@ pub(crate) fn send<R: Wait>(
     ensures objects { IsObjectsPass objects.now objects_pass.new }
     ensures looks { LooksOn pass.old.known pass.new.known }
     ensures signals { IsSignalPass objects.now signal_pass.new }
-    ensures fires { FiresQueued objects.now objects_pass.old objects_pass.new log.old.receipts log.new.receipts pass.old.known pass.new.known signal_pass.old.knows signal_pass.new.knows claim.now.timer claim.now.generation reading }
+    ensures fires { FiresQueued timers.now.about objects.now objects_pass.old objects_pass.new log.old.receipts log.new.receipts pass.old.known pass.new.known signal_pass.old.knows signal_pass.new.knows claim.now.timer claim.now.generation reading }
     ensures spare { log.new.spare + 1 ≡ log.old.spare }
 {
     let id = claim.timer();
@@ -58,17 +59,22 @@ pub(crate) fn send<R: Wait>(
     }
     let stamp = held.stamp();
     let state = held.state();
+    let turn = begin(rt, timers, pass, id, stamp);
+    let signal = Signal {
+        timer: id,
+        number: stamp + 1,
+    };
     let call = push(
         rt,
+        timers,
+        pass,
         objects,
         signal_pass,
         state,
-        id,
-        stamp + 1,
+        signal,
         generation,
         reading,
     );
-    let turn = begin(rt, timers, pass, id, stamp);
     end(rt, timers, pass, turn);
     objects.enter(objects_pass, held, log, id, &call);
 }
@@ -76,17 +82,21 @@ pub(crate) fn send<R: Wait>(
 /// Puts the signal of an expiry into the queue, where the expiry counts, and answers the call that is to be entered.
 fn push<R: Wait>(
     rt: &R,
+    timers: &Timers,
+    pass: &mut Pass,
     objects: &Objects,
     signal_pass: &mut SignalPass,
     object: &Object,
-    id: u32,
-    number: u64,
+    signal: Signal,
     generation: u64,
     reading: Reading,
 ) -> ObjectCall
+    requires pass { IsPassOf timers.now pass.old }
     requires signals { IsSignalPass objects.now signal_pass.old }
+    ensures pass { IsPassOf timers.now pass.new }
+    ensures looks { LooksOn pass.old.known pass.new.known }
     ensures signals { IsSignalPass objects.now signal_pass.new }
-    ensures pushes { PushesFor signal_pass.old.knows signal_pass.new.knows object.now id number generation reading result }
+    ensures pushes { PushesFor timers.now.about pass.old.known pass.new.known signal_pass.old.knows signal_pass.new.knows object.now signal generation reading result }
 {
     let counted = ObjectCall::Trigger {
         generation,
@@ -95,8 +105,7 @@ fn push<R: Wait>(
     if !sends(object, generation, reading) {
         return counted;
     }
-    let signal = Signal { timer: id, number };
-    match objects.signals().push(rt, signal_pass, signal) {
+    match queue::push(rt, timers, pass, objects.signals(), signal_pass, signal) {
         Push::Queued => counted,
         Push::Full { .. } => ObjectCall::Overflow {
             generation,

@@ -15,6 +15,7 @@ ghost use Rattle.timer_objects.specs.Turns.{turns_told};
 use crate::log::ObjectLog;
 use crate::object::{Kind, Object};
 use crate::objects::Objects;
+use crate::queue;
 use crate::wanting::{Ended, Rearming};
 use counted_row::{Held, RowPass};
 use hr_timers::{Log, Pass, Timers};
@@ -75,7 +76,8 @@ impl Objects {
         ensures names { KeepsNames (caller_of pass.old objects_pass.old log.old object_log.old) (caller_of pass.new objects_pass.new log.new object_log.new) }
         ensures room { ((n : ℕ) → ((id : ℕ) → id < length self.now.decls → most_noted self.now timers.now.about id ≤ n) → log.old.spare ≤ log.new.spare + n) × (object_log.old.spare ≤ object_log.new.spare + 1) }
     {
-        let Some(Signal { timer, number }) = self.signals().pop(rt, signal_pass) else {
+        let queue = self.signals();
+        let Some(Signal { timer, number }) = queue::pop(rt, timers, pass, queue, signal_pass) else {
             return NextSignal::NoneQueued;
         };
         if !self.is_queued(timer) {

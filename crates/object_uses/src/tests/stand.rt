@@ -112,7 +112,7 @@ fn decl_of(kind: Kind, clock: ClockId) -> Decl
 }
 
 impl Stand {
-    /// All three objects over timers on this clock, with a limit on the entries of each. 64 signals may wait.
+    /// All three objects over timers on this clock, with a limit on the entries of each. 64 signals may wait, whose pushes and pops have places.
     pub fn make(alloc: Global, clock: ClockId, limit: u64) -> Result<Stand, AllocError>
         requires limit { (0 < limit) × (limit ≤ 1000) }
     {
@@ -126,7 +126,15 @@ impl Stand {
             Declared::hard(clock),
             Declared::hard(clock),
         ];
-        let (timers, pass) = Timers::make_counting(alloc, 1, &declared, Terms::limited(limit), 4)?;
+        let rings = vec![in alloc; 64; 1]?;
+        let (timers, pass) = Timers::make_ringed(
+            alloc,
+            1,
+            &declared,
+            Terms::limited(limit),
+            4,
+            &rings,
+        )?;
         let Ok((objects, objects_pass, signal_pass)) = Objects::make_queued(
             alloc, &decls, limit, 64,
         ) else {

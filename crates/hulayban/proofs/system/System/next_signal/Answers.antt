@@ -20,6 +20,7 @@ returns-clause-ok g c =
           heard = search rules;
           signals = search rules;
           signals_name = next_named _ _ _ _ _ _ _ _ done.ensures.next ∙ search rules;
+          ring = search rules;
         };
         name = search rules;
       };

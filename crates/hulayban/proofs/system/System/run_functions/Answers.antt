@@ -50,6 +50,7 @@ returns-clause-ok g c =
           heard = was.heard;
           signals = subst (λ (y : ObjectsOf). IsSignalPass y done.signal_pass.now) (ran.loan.objects ∙ of_was) done.signals;
           signals_name = left.signals ∙ ap (λ (p : PassOfQueue). p.knows.pass.id) signals_was ∙ was.signals_name ∙ sym (ran.keeps.id ∙ search rules);
+          ring = was.ring;
         };
         name = ran.keeps.id ∙ search rules;
       };

@@ -1,4 +1,4 @@
--- Seats of lanes: they get their handles one after another, and give them back.
+-- Posts of lanes: they get their handles one after another, and give them back.
 use Rattle.std.proofs.Common.{◌≡◌, ◌<◌, ◌-◌, ℕ, zero, suc, List, [], ◌∷◌, ◌++◌, length, map, reverse, get_or, refl, sym, ap, ◌∙◌, subst, arith}
 use Rattle.std.specs.Prelude.{Option, Some, None, Ok, Err}
 use Rattle.std.specs.List.{AllByRecursion}
@@ -9,9 +9,9 @@ use Rattle.pass_names.specs.Names.{AnswersFor, Covers, after_split, child_of, ne
 use Rattle.pass_names.proofs.Covering.{covers_answers, covers_last, covers_none, covers_retire}
 use Rattle.pass_names.proofs.Names.{occurrences_push}
 use Rattle.hulayban.specs.Lanes.{HasHandle, LaneEnd, LaneRun, LaneRuns, RetiresEach, RunsHere, RunsLanes, SplitsEach, joined_end, joined_ends}
-use Rattle.hulayban.specs.Seats.{HasLeaf, LeadsSeats, SeatRuns, SeatsEach, TakesEach, name_here}
+use Rattle.hulayban.specs.Posts.{HasLeaf, LeadsPosts, PostRuns, PostsEach, TakesEach, name_here}
 use Rattle.hulayban.specs.Systems.{HandleOf, IsHandleOf, IsOnly, RetiresHandle, SplitsHandle, SystemOf, handle_name}
-use Rattle.hulayban.specs.declared.lanes.Seat.{Seat}
+use Rattle.hulayban.specs.declared.lanes.Post.{Post}
 
 -- the pass that has split one off covers it too, before the others
 covers_next : (l m n : PassId) (names : List (List ℕ)) → m ≡ after_split l → n ≡ child_of l → Covers l names → Covers m (n.name ∷ names)
@@ -66,58 +66,58 @@ fault_push (Ok u ∷ es) e = fault_push es e
 fault_push (Err fault ∷ es) e = refl
 
 module _ {L : Type 0} (x : SystemOf) where
-  abbrev lane_of : Seat L → L
+  abbrev lane_of : Post L → L
   lane_of s = s.lane
 
-  abbrev end_of : Seat L → LaneEnd
+  abbrev end_of : Post L → LaneEnd
   end_of s = s.done
 
-  abbrev named : Seat L → List ℕ
+  abbrev named : Post L → List ℕ
   named s = name_here s.me
 
-  -- ---- seats get handles
+  -- ---- posts get handles
 
-  -- of all lanes these are left, and the others have seats
-  pub record Seating (old : HandleOf) (all rest : List L) (seats : List (Seat L)) (me : HandleOf) : Type 0 where
-    pub order : all ≡ rest ++ map lane_of seats
-    pub seated : SeatsEach x old seats me
-    pub leads : LeadsSeats x me seats
+  -- of all lanes these are left, and the others have posts
+  pub record Posting (old : HandleOf) (all rest : List L) (posts : List (Post L)) (me : HandleOf) : Type 0 where
+    pub order : all ≡ rest ++ map lane_of posts
+    pub seated : PostsEach x old posts me
+    pub leads : LeadsPosts x me posts
 
-  pub seating_none : (me : HandleOf) (all : List L) → IsOnly x me → Seating me all all [] me
-  seating_none me all only = record {
+  pub posting_none : (me : HandleOf) (all : List L) → IsOnly x me → Posting me all all [] me
+  posting_none me all only = record {
     order = sym (append-nil all);
     seated = refl;
     leads = record { is = only.is; first = only.last.first; covers = covers_none (handle_name me) only.last.alone; each = tt };
   }
 
-  pub seating_more : (old : HandleOf) (all before rest : List L) (seats : List (Seat L)) (m q h : HandleOf) (s : Seat L) → before ≡ rest ++ s.lane ∷ []
-      → s.me ≡ Some h → SplitsHandle x m q h → Seating old all before seats m → Seating old all rest (s ∷ seats) q
-  seating_more old all before rest seats m q h s pop here splits so_far = record {
-    order = so_far.order ∙ ap (λ ls. ls ++ map lane_of seats) pop ∙ append_assoc rest (s.lane ∷ []) (map lane_of seats);
+  pub posting_more : (old : HandleOf) (all before rest : List L) (posts : List (Post L)) (m q h : HandleOf) (s : Post L) → before ≡ rest ++ s.lane ∷ []
+      → s.me ≡ Some h → SplitsHandle x m q h → Posting old all before posts m → Posting old all rest (s ∷ posts) q
+  posting_more old all before rest posts m q h s pop here splits so_far = record {
+    order = so_far.order ∙ ap (λ ls. ls ++ map lane_of posts) pop ∙ append_assoc rest (s.lane ∷ []) (map lane_of posts);
     seated = (h, m, so_far.seated, splits, here);
     leads = record {
       is = splits.is;
       first = ap (λ (i : PassId). i.name) splits.name ∙ so_far.leads.first;
-      covers = subst (λ o. Covers (handle_name q) (name_here o ∷ map named seats)) (sym here)
-          (covers_next (handle_name m) (handle_name q) (handle_name h) (map named seats) splits.name splits.child so_far.leads.covers);
+      covers = subst (λ o. Covers (handle_name q) (name_here o ∷ map named posts)) (sym here)
+          (covers_next (handle_name m) (handle_name q) (handle_name h) (map named posts) splits.name splits.child so_far.leads.covers);
       each = (subst (HasLeaf x) (sym here) (splits.other, ap (λ (i : PassId). i.split) splits.child), so_far.leads.each);
     };
   }
 
-  -- ---- lanes run at their seats
+  -- ---- lanes run at their posts
 
-  leaves_have : (seats : List (Seat L)) → AllByRecursion (λ (s : Seat L). HasLeaf x s.me) seats → (k : ℕ) (d : Seat L) → k < length seats
-      → HasHandle x (get_or seats k d).me
+  leaves_have : (posts : List (Post L)) → AllByRecursion (λ (s : Post L). HasLeaf x s.me) posts → (k : ℕ) (d : Post L) → k < length posts
+      → HasHandle x (get_or posts k d).me
   leaves_have [] each k d h = absurd (omega (arith, h))
-  leaves_have (s ∷ seats) each zero d h = has_leaf x s.me each.0
-  leaves_have (s ∷ seats) each (suc k) d h = leaves_have seats each.1 k d (omega (arith, h))
+  leaves_have (s ∷ posts) each zero d h = has_leaf x s.me each.0
+  leaves_have (s ∷ posts) each (suc k) d h = leaves_have posts each.1 k d (omega (arith, h))
 
-  -- law: so each seat has a handle
-  pub seats_have : (ss : List (Seat L)) → AllByRecursion (λ (s : Seat L). HasLeaf x s.me) (reverse ss) → (k : ℕ) (d : Seat L) → k < length ss
+  -- law: so each post has a handle
+  pub posts_have : (ss : List (Post L)) → AllByRecursion (λ (s : Post L). HasLeaf x s.me) (reverse ss) → (k : ℕ) (d : Post L) → k < length ss
       → HasHandle x (get_or ss k d).me
-  seats_have ss each k d h =
+  posts_have ss each k d h =
       let behind : length ss - 1 - k < length ss = omega (arith, h) in
-      subst (λ (s : Seat L). HasHandle x s.me)
+      subst (λ (s : Post L). HasHandle x s.me)
       (get_or-reverse ss (length ss - 1 - k) d behind ∙ ap (λ n. get_or ss n d) (omega (arith, h)))
       (leaves_have (reverse ss) each (length ss - 1 - k) d (omega (arith, behind, length-reverse ss)))
 
@@ -128,8 +128,8 @@ module _ {L : Type 0} (x : SystemOf) where
     leaf_ran D None p ran leaf = absurd ran
     leaf_ran D (Some h) None ran leaf = absurd ran
 
-    names_ran : (ss ts : List (Seat L)) → Beside (SeatRuns x Did) ss ts → AllByRecursion (λ (s : Seat L). HasLeaf x s.me) ss
-        → AllByRecursion (λ (s : Seat L). HasLeaf x s.me) ts × (map named ts ≡ map named ss)
+    names_ran : (ss ts : List (Post L)) → Beside (PostRuns x Did) ss ts → AllByRecursion (λ (s : Post L). HasLeaf x s.me) ss
+        → AllByRecursion (λ (s : Post L). HasLeaf x s.me) ts × (map named ts ≡ map named ss)
     names_ran [] [] ran each = (tt, refl)
     names_ran (s ∷ ss) (t ∷ ts) ran each =
         let one = leaf_ran (λ v w. Did s.lane t.lane v w t.done) s.me t.me ran.0 each.0 in
@@ -139,13 +139,13 @@ module _ {L : Type 0} (x : SystemOf) where
     names_ran (s ∷ ss) [] ran each = absurd ran
 
     -- law: the handle answers for them afterwards
-    pub leads_ran : (me : HandleOf) (ss ts : List (Seat L)) → Beside (SeatRuns x Did) ss ts → LeadsSeats x me ss → LeadsSeats x me ts
+    pub leads_ran : (me : HandleOf) (ss ts : List (Post L)) → Beside (PostRuns x Did) ss ts → LeadsPosts x me ss → LeadsPosts x me ts
     leads_ran me ss ts ran leads =
         let kept = names_ran ss ts ran leads.each in
         record { is = leads.is; first = leads.first; covers = subst (Covers (handle_name me)) (sym kept.1) leads.covers; each = kept.0 }
 
-    -- what seats that were made, and taken in again after their lanes ran, say of these
-    pub record RunsOfSeats (ss ts : List (Seat L)) (old mid mid' new : HandleOf) : Type 0 where
+    -- what posts that were made, and taken in again after their lanes ran, say of these
+    pub record RunsOfPosts (ss ts : List (Post L)) (old mid mid' new : HandleOf) : Type 0 where
       pub runs : List (LaneRun L)
       pub before : map (λ (r : LaneRun L). r.lane) runs ≡ map lane_of ss
       pub after : map (λ (r : LaneRun L). r.lane_after) runs ≡ map lane_of ts
@@ -154,8 +154,8 @@ module _ {L : Type 0} (x : SystemOf) where
       pub retires : RetiresEach x mid' (map (λ (r : LaneRun L). r.handle_after) runs) new
       pub ends : map (λ (r : LaneRun L). r.ended) runs ≡ map end_of ts
 
-    runs_of : (ss ts : List (Seat L)) (old mid mid' new : HandleOf) → SeatsEach x old ss mid → TakesEach x mid' ts new → Beside (SeatRuns x Did) ss ts
-        → RunsOfSeats ss ts old mid mid' new
+    runs_of : (ss ts : List (Post L)) (old mid mid' new : HandleOf) → PostsEach x old ss mid → TakesEach x mid' ts new → Beside (PostRuns x Did) ss ts
+        → RunsOfPosts ss ts old mid mid' new
     runs_of [] [] old mid mid' new seated takes ran =
         record { runs = []; before = refl; after = refl; splits = seated; each = tt; retires = takes; ends = refl }
     runs_of (s ∷ ss) (t ∷ ts) old mid mid' new seated takes ran =
@@ -176,8 +176,8 @@ module _ {L : Type 0} (x : SystemOf) where
     runs_of (s ∷ ss) [] old mid mid' new seated takes ran = absurd ran
 
     -- law: the lanes have run
-    pub runs_lanes : (ss ts : List (Seat L)) (lanes lanes' : List L) (old mid new : HandleOf) (done : LaneEnd) → map lane_of ss ≡ lanes
-        → lanes' ≡ map lane_of ts → SeatsEach x old ss mid → TakesEach x mid ts new → Beside (SeatRuns x Did) ss ts → done ≡ joined_ends (map end_of ts)
+    pub runs_lanes : (ss ts : List (Post L)) (lanes lanes' : List L) (old mid new : HandleOf) (done : LaneEnd) → map lane_of ss ≡ lanes
+        → lanes' ≡ map lane_of ts → PostsEach x old ss mid → TakesEach x mid ts new → Beside (PostRuns x Did) ss ts → done ≡ joined_ends (map end_of ts)
         → RunsLanes x Did lanes lanes' old new done
     runs_lanes ss ts lanes lanes' old mid new done was is seated takes ran ends =
         let of = runs_of ss ts old mid mid new seated takes ran in record {
@@ -193,20 +193,20 @@ module _ {L : Type 0} (x : SystemOf) where
 
   -- ---- handles are taken in
 
-  -- of all seats these are left, and the others were taken in
-  pub record Taking (old : HandleOf) (all rest : List (Seat L)) (me : HandleOf) (lanes : List L) (done : LaneEnd) : Type 0 where
-    pub taken : List (Seat L)
+  -- of all posts these are left, and the others were taken in
+  pub record Taking (old : HandleOf) (all rest : List (Post L)) (me : HandleOf) (lanes : List L) (done : LaneEnd) : Type 0 where
+    pub taken : List (Post L)
     pub parts : all ≡ taken ++ rest
     pub back : lanes ≡ map lane_of taken
     pub takes : TakesEach x old taken me
     pub ends : done ≡ joined_ends (map end_of taken)
-    pub leads : LeadsSeats x me rest
+    pub leads : LeadsPosts x me rest
 
-  pub taking_none : (me : HandleOf) (all : List (Seat L)) (lanes : List L) → lanes ≡ [] → LeadsSeats x me all → Taking me all all me lanes (Ok tt)
+  pub taking_none : (me : HandleOf) (all : List (Post L)) (lanes : List L) → lanes ≡ [] → LeadsPosts x me all → Taking me all all me lanes (Ok tt)
   taking_none me all lanes none leads = record { taken = []; parts = refl; back = none; takes = refl; ends = refl; leads = leads }
 
   -- law: the next handle may be taken in
-  pub answers_next : (m h : HandleOf) (s : Seat L) (rest : List (Seat L)) → s.me ≡ Some h → LeadsSeats x m (s ∷ rest)
+  pub answers_next : (m h : HandleOf) (s : Post L) (rest : List (Post L)) → s.me ≡ Some h → LeadsPosts x m (s ∷ rest)
       → IsHandleOf x h × AnswersFor (handle_name m) (handle_name h)
   answers_next m h s rest here leads = (
     (subst (HasLeaf x) here leads.each.0).0,
@@ -214,16 +214,16 @@ module _ {L : Type 0} (x : SystemOf) where
         (subst (λ o. Covers (handle_name m) (name_here o ∷ map named rest)) here leads.covers),
   )
 
-  takes_push : (ts : List (Seat L)) (t : Seat L) (old m h q : HandleOf) → t.me ≡ Some h → RetiresHandle x m h q → TakesEach x old ts m
+  takes_push : (ts : List (Post L)) (t : Post L) (old m h q : HandleOf) → t.me ≡ Some h → RetiresHandle x m h q → TakesEach x old ts m
       → TakesEach x old (ts ++ t ∷ []) q
   takes_push [] t old m h q here retires takes = (h, q, here, subst (λ (p : HandleOf). RetiresHandle x p h q) takes retires, refl)
   takes_push (s ∷ ts) t old m h q here retires takes = (takes.0, takes.1, takes.2, takes.3, takes_push ts t takes.1 m h q here retires takes.4)
 
-  pub taking_more : (old : HandleOf) (all before rest : List (Seat L)) (m q h : HandleOf) (s : Seat L) (lanes lanes' : List L) (done done' : LaneEnd)
+  pub taking_more : (old : HandleOf) (all before rest : List (Post L)) (m q h : HandleOf) (s : Post L) (lanes lanes' : List L) (done done' : LaneEnd)
       → before ≡ s ∷ rest → s.me ≡ Some h → RetiresHandle x m h q → lanes' ≡ lanes ++ s.lane ∷ [] → done' ≡ joined_end done s.done
       → Taking old all before m lanes done → Taking old all rest q lanes' done'
   taking_more old all before rest m q h s lanes lanes' done done' next here retires push ends so_far =
-      let leads = subst (LeadsSeats x m) next so_far.leads in
+      let leads = subst (LeadsPosts x m) next so_far.leads in
       let leaf = subst (HasLeaf x) here leads.each.0 in record {
         taken = so_far.taken ++ s ∷ [];
         parts = so_far.parts ∙ ap (λ ss. so_far.taken ++ ss) next ∙ sym (append_assoc so_far.taken (s ∷ []) rest);
@@ -241,7 +241,7 @@ module _ {L : Type 0} (x : SystemOf) where
       }
 
   -- law: the handle is the only one again, and what was taken in is all of it
-  pub taking_all : (old me : HandleOf) (all : List (Seat L)) (lanes : List L) (done : LaneEnd) → Taking old all [] me lanes done
+  pub taking_all : (old me : HandleOf) (all : List (Post L)) (lanes : List L) (done : LaneEnd) → Taking old all [] me lanes done
       → IsOnly x me × (lanes ≡ map lane_of all) × TakesEach x old all me × (done ≡ joined_ends (map end_of all))
   taking_all old me all lanes done so_far =
       let whole : so_far.taken ≡ all = sym (so_far.parts ∙ append-nil so_far.taken) in (
