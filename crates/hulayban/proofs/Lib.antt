@@ -3,3 +3,4 @@ pub mod Hands
 pub mod Rooms
 pub mod Posts
 pub mod Waits
+pub mod Shares

@@ -1,5 +1,5 @@
 -- How long a thread may sleep is one answer at the same moments.
-use Rattle.std.proofs.Common.{◌≡◌, ◌∙◌, ℕ, List, ap, refl, sym, true, false}
+use Rattle.std.proofs.Common.{◌≡◌, ◌∙◌, ℕ, List, ap, refl, sym, false}
 use Rattle.std.specs.Prelude.{◌-◌, Option, Some, None}
 use Rattle.std.proofs.lemmas.Bool.{true≢false}
 use Rattle.ktime.specs.Readings.{ClockReading, value_of}

@@ -4,6 +4,7 @@ pub mod Serving
 pub mod Places
 pub mod Lanes
 pub mod Posts
+pub mod Shares
 pub mod Expiries
 pub mod Served
 pub mod Runs

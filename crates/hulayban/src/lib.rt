@@ -10,7 +10,7 @@ pub use hr_timers::{
 };
 pub use ktime::{ClockId, Mode, Reading, TimeSpec, Write};
 pub use lane::{Done, Lane};
-pub use laws::a_next_expiry_is_fixed;
+pub use laws::{a_next_expiry_is_fixed, handles_share_one_history};
 pub use objects::Settime;
 pub use place::Place;
 pub use seq_timer::{CancelAnswer, Context, Peek, Terms};
