@@ -4,7 +4,7 @@ use Rattle.std.specs.Prelude.{ℕ, ◌≡◌, List, [], ◌∷◌, ◌++◌}
 use Rattle.pass_names.specs.Passes.{Begins}
 use Rattle.hulayban.specs.Systems.{HandleOf, history}
 
--- the places of timers' and bases' entries, and of rises, that handles have made
+-- the places of timers' and bases' entries that handles have made
 abbrev pub made_by_all : List HandleOf → List (ℕ × ℕ)
 made_by_all [] = []
 made_by_all (h ∷ hs) = h.timers.known.mine ++ made_by_all hs
