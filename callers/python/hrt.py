@@ -33,27 +33,32 @@ class SharedAnswer(Structure):
     ]
 
 
+def typed_library(library, prefix, out, opens):
+    """The library, with the types of the arguments of its calls whose names begin with prefix: opens, and those that both kinds of handle have. They write
+    their answer into an out."""
+    hrt, u32, u64, now = CDLL(library), c_uint32, c_uint64, POINTER(Time)
+    kinds = {
+        "start": [u32, u32, u64, u64, u32, now, out],
+        "cancel": [u32, out],
+        "claim": [u32, u32, now, out],
+        "forward": [u32, now, u64, out],
+        "finish": [u32, u32, out],
+        "next": [u32, now, out],
+        "peek": [u32, out],
+    }
+    for name, kind in {**opens, **kinds}.items():
+        call = getattr(hrt, prefix + name)
+        call.argtypes, call.restype = [POINTER(Handle)] + kind, c_int32
+    return hrt
+
+
 class Timers:
     """A handle. Each call answers its number and, but for open and free, writes into an Answer. One thread at a time: ctypes lets go of
     the interpreter's lock during a call."""
 
     def __init__(self, library):
-        hrt, u32, u64, handle, now, out = CDLL(library), c_uint32, c_uint64, POINTER(Handle), POINTER(Time), POINTER(Answer)
-        kinds = {
-            "new": [u32, POINTER(Declared), c_size_t, u64],
-            "free": [],
-            "start": [u32, u32, u64, u64, u32, now, out],
-            "cancel": [u32, out],
-            "claim": [u32, u32, now, out],
-            "forward": [u32, now, u64, out],
-            "finish": [u32, u32, out],
-            "next": [u32, now, out],
-            "peek": [u32, out],
-        }
-        for name, kind in kinds.items():
-            call = getattr(hrt, "hrt_" + name)
-            call.argtypes, call.restype = [handle] + kind, c_int32
-        self.hrt, self.handle = hrt, Handle()
+        opens = {"new": [c_uint32, POINTER(Declared), c_size_t, c_uint64], "free": []}
+        self.hrt, self.handle = typed_library(library, "hrt_", POINTER(Answer), opens), Handle()
 
     def open(self, bases, declared, max_events):
         array = (Declared * max(len(declared), 1))(*declared)
@@ -90,23 +95,8 @@ class Seat:
     since ctypes lets go of the interpreter's lock during a call."""
 
     def __init__(self, library):
-        hrt, u32, u64, seat, now, out = CDLL(library), c_uint32, c_uint64, POINTER(Handle), POINTER(Time), POINTER(SharedAnswer)
-        kinds = {
-            "open": [u32, POINTER(Declared), c_size_t, u64],
-            "split": [seat],
-            "leave": [],
-            "start": [u32, u32, u64, u64, u32, now, out],
-            "cancel": [u32, out],
-            "claim": [u32, u32, now, out],
-            "forward": [u32, now, u64, out],
-            "finish": [u32, u32, out],
-            "next": [u32, now, out],
-            "peek": [u32, out],
-        }
-        for name, kind in kinds.items():
-            call = getattr(hrt, "hrt_shared_" + name)
-            call.argtypes, call.restype = [seat] + kind, c_int32
-        self.hrt, self.handle = hrt, Handle()
+        opens = {"open": [c_uint32, POINTER(Declared), c_size_t, c_uint64], "split": [POINTER(Handle)], "leave": []}
+        self.hrt, self.handle = typed_library(library, "hrt_shared_", POINTER(SharedAnswer), opens), Handle()
 
     def _until_done(self, call, *arguments):
         tries = 0
