@@ -2,10 +2,12 @@
 #![tactic(auto)]
 
 mod laws;
+mod looking;
 mod popping;
 mod pushing;
 
 pub use laws::{a_pop_stands_behind_its_push, a_push_stands_where_there_is_room};
+pub use looking::look;
 pub use popping::pop;
 pub use pushing::push;
 

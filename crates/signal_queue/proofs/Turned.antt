@@ -125,6 +125,19 @@ module _ {v e : QueueView} {most : ℕ} {pushing popping : Bool} {n : ℕ} (rest
   or_right true b on = refl
   or_right false b on = on
 
+  -- who has the end sees all that was made by it
+  pub looked_pushes : {items : List Signal} → RuleHeld lent items → e.pushes ≡ true → length (pushed (turns lent)) ≡ n
+  looked_pushes shown on =
+      let agrees = shown.2.each_view shown.1 lent shown.3 in
+      let may = or_right v.pushes e.pushes on in
+      omega (arith, end.made, agrees.pushes_made may, ap length (agrees.pushes may).0)
+
+  pub looked_pops : {items : List Signal} → RuleHeld lent items → e.pops ≡ true → length (popped (turns lent)) ≡ n
+  looked_pops shown on =
+      let agrees = shown.2.each_view shown.1 lent shown.3 in
+      let may = or_right v.pops e.pops on in
+      omega (arith, end.made, agrees.pops_made may, ap length (agrees.pops may))
+
   -- what a push told a pass that was lent the end for it
   push_told : (room : ℕ) (s : Signal) (answer : Push) (w : QueueView) → e.pushes ≡ true → v.room ≡ room → PushesLent room lent w s answer
       → PushesSignal room v (rid_queue_view w) s answer × IsRestingQueueView (rid_queue_view w)
@@ -154,22 +167,14 @@ module _ {v e : QueueView} {most : ℕ} {pushing popping : Bool} {n : ℕ} (rest
       let more : w.made ≡ n + 1 = omega (arith, told.one_more, end.made) in
       (more, sym (told.pushes_made (told.same_push ∙ or_right v.pushes e.pushes on)) ∙ more)
   push_counted room s (Full most) w on told =
-      let shown = told.2.2 in
-      let agrees = shown.2.each_view shown.1 lent shown.3 in
-      let may = or_right v.pushes e.pushes on in
-      subst (λ u. Counted (length (pushed (turns u))) 0 u) (sym told.1)
-      (omega (arith, end.made), omega (arith, end.made, agrees.pushes_made may, ap length (agrees.pushes may).0))
+      subst (λ u. Counted (length (pushed (turns u))) 0 u) (sym told.1) (omega (arith, end.made), omega (arith, looked_pushes told.2.2 on))
 
   pop_counted : (answer : Option Signal) (w : QueueView) → e.pops ≡ true → PopsLent lent w answer → Counted (length (popped (turns w))) (count_taken answer) w
   pop_counted (Some s) w on told =
       let more : w.made ≡ n + 1 = omega (arith, told.one_more, end.made) in
       (more, sym (told.pops_made (told.same_pop ∙ or_right v.pops e.pops on)) ∙ more)
   pop_counted None w on told =
-      let shown = told.1.2 in
-      let agrees = shown.2.each_view shown.1 lent shown.3 in
-      let may = or_right v.pops e.pops on in
-      subst (λ u. Counted (length (popped (turns u))) 0 u) (sym told.0)
-      (omega (arith, end.made), omega (arith, end.made, agrees.pops_made may, ap length (agrees.pops may)))
+      subst (λ u. Counted (length (popped (turns u))) 0 u) (sym told.0) (omega (arith, end.made), omega (arith, looked_pops told.1.2 on))
 
   -- the same where the views are named otherwise
   pub pushed_by : (room : ℕ) (s : Signal) (answer : Push) (l w new : QueueView) → l ≡ lent → new ≡ rid_queue_view w → e.pushes ≡ true → v.room ≡ room
@@ -194,6 +199,15 @@ module _ {v e : QueueView} {most : ℕ} {pushing popping : Bool} {n : ℕ} (rest
       → PopsSignal v new answer × IsRestingQueueView new
   popped_by answer l w new is_lent is_rid on told =
       subst (λ u. PopsSignal v u answer × IsRestingQueueView u) (sym is_rid) (pop_told answer w on (subst (λ x. PopsLent x w answer) is_lent told))
+
+  -- a look by the end
+  pub looked_by : {items : List Signal} (l w new : QueueView) → l ≡ lent → w ≡ l → new ≡ rid_queue_view w → RuleHeld l items
+      → IsRestingQueueView new × Looks v.pass new.pass × (e.pushes ≡ true → length (pushed (turns new)) ≡ n) × (e.pops ≡ true → length (popped (turns new)) ≡ n)
+  looked_by {items} l w new is_lent same is_rid told =
+      let shown = subst (λ x. RuleHeld x items) is_lent told in
+      subst
+      (λ u. IsRestingQueueView u × Looks v.pass u.pass × (e.pushes ≡ true → length (pushed (turns u)) ≡ n) × (e.pops ≡ true → length (popped (turns u)) ≡ n))
+      (sym (is_rid ∙ ap rid_queue_view (same ∙ is_lent))) (looked_rests shown, looks shown, looked_pushes shown, looked_pops shown)
 
 -- what is known of two passes that were joined
 module _ {v w : QueueView} (rests : IsRestingQueueView v) (others : IsRestingQueueView w) {items : List Signal} (shown : RuleHeld (joined_queue_view v w) items) where

@@ -1,14 +1,17 @@
 //! An end of a queue that is lent to a caller, who makes several calls by it: meanwhile no one else pushes, or pops.
-ghost use Rattle.std.specs.Prelude.{◌≡◌, ◌<◌, None};
+ghost use Rattle.std.specs.Prelude.{◌≡◌, ◌<◌, None, length};
 ghost use Rattle.crossbeam_queue.specs.Passes.{ruled_capacity};
+ghost use Rattle.pass_names.specs.Passes.{Looks};
 ghost use Rattle.signal_queue.specs.Calls.{CountsPops, CountsPushes, PopsSignal, PushesSignal, count_put, count_taken};
 ghost use Rattle.signal_queue.specs.Locks.{HoldsLock};
+ghost use Rattle.signal_queue.specs.Rules.{turns};
+ghost use Rattle.signal_queue.specs.Turns.{popped, pushed};
 ghost use Rattle.signal_queue.specs.Views.{IsPassOfQueue, KnowsQueue};
 
 use crate::ends::{End, Popping, Pushing, Side};
 use crate::lock::{EndLock, Hold};
 use crate::pass::SignalPass;
-use crate::ring::{Ring, pop_by, push_by};
+use crate::ring::{Ring, look_by, pop_by, push_by};
 use crate::signal::Signal;
 use crate::signals::Push;
 use std::marker::Model;
@@ -112,6 +115,31 @@ impl<'a> LentEnd<'a, Pushing> {
         };
         (answer, lent)
     }
+
+    /// The pass sees all pushes that were made until now. Nothing is pushed.
+    pub fn look(self, pass: &mut SignalPass) -> LentEnd<'a, Pushing>
+        requires pass { IsPassOfQueue self.queue pass.old }
+        ensures pass { IsPassOfQueue self.entry.queue pass.new }
+        ensures queue { result.queue ≡ self.entry.queue }
+        ensures count { result.count ≡ self.entry.count }
+        ensures looks { Looks pass.old.knows.pass pass.new.knows.pass }
+        ensures all { length (pushed (turns pass.new.knows)) ≡ result.count }
+        ensures known { KnowsQueue pass.new.knows }
+    {
+        let LentEnd {
+            ring,
+            lock,
+            end,
+            hold,
+        } = self;
+        let end = look_by(ring, &mut pass.seat, end);
+        LentEnd {
+            ring,
+            lock,
+            end,
+            hold,
+        }
+    }
 }
 
 impl<'a> LentEnd<'a, Popping> {
@@ -143,5 +171,30 @@ impl<'a> LentEnd<'a, Popping> {
             hold,
         };
         (answer, lent)
+    }
+
+    /// The pass sees all pops that were made until now. Nothing is popped.
+    pub fn look(self, pass: &mut SignalPass) -> LentEnd<'a, Popping>
+        requires pass { IsPassOfQueue self.queue pass.old }
+        ensures pass { IsPassOfQueue self.entry.queue pass.new }
+        ensures queue { result.queue ≡ self.entry.queue }
+        ensures count { result.count ≡ self.entry.count }
+        ensures looks { Looks pass.old.knows.pass pass.new.knows.pass }
+        ensures all { length (popped (turns pass.new.knows)) ≡ result.count }
+        ensures known { KnowsQueue pass.new.knows }
+    {
+        let LentEnd {
+            ring,
+            lock,
+            end,
+            hold,
+        } = self;
+        let end = look_by(ring, &mut pass.seat, end);
+        LentEnd {
+            ring,
+            lock,
+            end,
+            hold,
+        }
     }
 }

@@ -1,9 +1,11 @@
 //! The ring of a queue, and its steps: a seat is lent an end, pushes or pops, and gives the end back; seats are split off and taken in.
-ghost use Rattle.std.specs.Prelude.{◌≡◌, ◌+◌, ℕ, Bool, true, false};
+ghost use Rattle.std.specs.Prelude.{◌≡◌, ◌+◌, ℕ, Bool, true, false, length};
 ghost use Rattle.crossbeam_queue.specs.Passes.{IsPassOf, IsSamePass, ruled_capacity, view};
 ghost use Rattle.pass_names.specs.Names.{AnswersFor};
-ghost use Rattle.pass_names.specs.Passes.{Retires};
+ghost use Rattle.pass_names.specs.Passes.{Looks, Retires};
 ghost use Rattle.signal_queue.specs.Calls.{CountsPops, CountsPushes, PopsLent, PopsSignal, PushesLent, PushesSignal, count_put, count_taken};
+ghost use Rattle.signal_queue.specs.Rules.{turns};
+ghost use Rattle.signal_queue.specs.Turns.{popped, pushed};
 ghost use Rattle.signal_queue.specs.Views.{IsEndView, IsRestingQueueView, end_queue_view, first_queue_view, lent_queue_view, opened_end, opened_view, rid_queue_view};
 
 use crate::ends::End;
@@ -160,6 +162,27 @@ pub fn pop_by<R: Wait>(rt: &R, ring: &Ring, seat: &mut QueueSeat, end: End) -> (
     let count = count_of_pops(&answer, count, next);
     let seat = give_back(ring, seat);
     (answer, End { seat, count })
+}
+
+/// Makes nothing with an end that is lent, and answers the end too. The seat sees all pushes, or pops, that were made by it.
+pub fn look_by(ring: &Ring, seat: &mut QueueSeat, end: End) -> End
+    requires queue { IsPassOf ring.now seat.old × IsPassOf ring.now end.seat }
+    requires rests { IsRestingQueueView (view seat.old) }
+    requires end { IsEndView (view seat.old).room (view end.seat).pushes (view end.seat).pops end.count (view end.seat) }
+    ensures queue { IsSamePass seat.old seat.new × IsPassOf ring.now result.seat }
+    ensures rests { IsRestingQueueView (view seat.new) }
+    ensures room { (view seat.new).room ≡ (view seat.old).room }
+    ensures end { IsEndView (view seat.old).room (view end.seat).pushes (view end.seat).pops end.count (view result.seat) }
+    ensures count { result.count ≡ end.count }
+    ensures looks { Looks (view seat.old).pass (view seat.new).pass }
+    ensures pushes { (view end.seat).pushes ≡ true → length (pushed (turns (view seat.new))) ≡ end.count }
+    ensures pops { (view end.seat).pops ≡ true → length (popped (turns (view seat.new))) ≡ end.count }
+{
+    let End { seat: lent, count } = end;
+    lend(ring, seat, lent);
+    ring.learn_as::<Puts>(seat);
+    let seat = give_back(ring, seat);
+    End { seat, count }
 }
 
 /// A seat takes in another, and learns what both had seen.

@@ -7,7 +7,9 @@ ghost use Rattle.signal_queue.specs.Views.{IsPassOfQueue};
 
 use super::{HARD, assert_equal};
 use hr_timers::{Pass, Timers};
-use ordered_signals::{a_pop_stands_behind_its_push, a_push_stands_where_there_is_room, pop, push};
+use ordered_signals::{
+    a_pop_stands_behind_its_push, a_push_stands_where_there_is_room, look, pop, push,
+};
 use pass_names::Retries;
 use seq_timer::Terms;
 use signal_queue::{Push, Signal, SignalPass, Signals};
@@ -59,6 +61,32 @@ fn signals_are_pushed_and_popped_in_their_places(rt: HostRuntime) -> Result<(), 
     assert_equal(&rt, counts, (2, 1));
     a_pop_stands_behind_its_push();
     a_push_stands_where_there_is_room();
+    Ok(())
+}
+
+/// A pass looks that made neither the push nor the pop; then it pops what was pushed since.
+#[test]
+fn a_look_sees_a_push_and_a_pop_of_another_pass(rt: HostRuntime) -> Result<(), Fail> {
+    let (signals, mut queue) = Signals::make(rt.alloc(), 2)?;
+    let Ok((timers, mut pass)) = ringed_timers(rt.alloc()) else {
+        signals.close(queue);
+        return Err(AllocError)?;
+    };
+    let mut other = signals.split(&mut queue);
+    push(&rt, &timers, &mut pass, &signals, &mut queue, signal(1));
+    pop(&rt, &timers, &mut pass, &signals, &mut queue);
+    look(&rt, &timers, &mut pass, &signals, &mut other);
+    let counts = (
+        timers.put_count(&mut pass, 0),
+        timers.taken_count(&mut pass, 0),
+    );
+    push(&rt, &timers, &mut pass, &signals, &mut queue, signal(2));
+    let next = pop(&rt, &timers, &mut pass, &signals, &mut other);
+    signals.join(&mut queue, other);
+    signals.close(queue);
+    timers.close(pass);
+    assert_equal(&rt, counts, (1, 1));
+    assert_equal(&rt, next, Some(signal(2)));
     Ok(())
 }
 

@@ -55,3 +55,23 @@ fn passes_that_were_split_off_push_and_pop(rt: HostRuntime) -> Result<(), Fail> 
     signals.close(first);
     Ok(())
 }
+
+#[test]
+fn a_look_by_each_end_sees_its_turns(rt: HostRuntime) -> Result<(), Fail> {
+    let (signals, mut first) = Signals::make(rt.alloc(), 2)?;
+    let mut second = signals.split(&mut first);
+    signals.push(&rt, &mut second, signal(1));
+    signals.push(&rt, &mut second, signal(2));
+    signals.pop(&rt, &mut second);
+    let pushing = signals.lend_push(&rt).look(&mut first);
+    let popping = signals.lend_pop(&rt).look(&mut first);
+    let counts = (pushing.count(), popping.count());
+    pushing.give_back();
+    popping.give_back();
+    let next = signals.pop(&rt, &mut first);
+    signals.join(&mut first, second);
+    signals.close(first);
+    assert_equal(&rt, counts, (2, 1));
+    assert_equal(&rt, next, Some(signal(2)));
+    Ok(())
+}
