@@ -24,7 +24,7 @@ use Rattle.run_history.specs.Actions.{Action}
 use Rattle.run_history.specs.Fits.{FitsCall}
 use Rattle.run_history.specs.ObjectCalls.{ArmsAs, cancels}
 use Rattle.run_history.specs.Receipts.{PlacedEntry}
-use Rattle.run_history.specs.Runs.{Ending, IsJoined, moves_spans, signal_spans, witness_of}
+use Rattle.run_history.specs.Runs.{Ending, IsJoined, moves_spans, witness_of}
 use Rattle.run_history.specs.Truths.{sight_of}
 use Rattle.run_history.specs.Witnesses.{timer_along}
 use Rattle.run_history.proofs.Kept.{IsKept}
@@ -38,9 +38,7 @@ use Rattle.lane_notes.proofs.Declared.{declared_base}
 use Rattle.lane_notes.proofs.Kept.{Follows, IsNextCall, KeepsCall, seen_by}
 use Rattle.lane_notes.proofs.SeenMore.{begins_same, goes_before}
 use Rattle.call_laws.proofs.Armed.{IsArmedSo, TimerPart, TimersPart, WantsAtMost, disarmed_part, start_at_most}
-use Rattle.call_laws.proofs.Signals.{IsNoTrigger, turns_alone}
-use Rattle.run_history.specs.Signals.{popped_by}
-use Rattle.call_laws.proofs.ObjectMade.{has_begun, keeps_made, made_unpushed, outcome_is, receipts, start_is, stop_begun, stop_first, stop_last, timer_found, turn_found, turn_place}
+use Rattle.call_laws.proofs.ObjectMade.{has_begun, keeps_made, outcome_is, receipts, start_is, stop_begun, stop_first, stop_last, timer_found, turn_found, turn_place}
 use Rattle.call_laws.proofs.Parts.{ClockHas, IsNotedAs}
 use Rattle.call_laws.proofs.SettimeParts.{like_start}
 
@@ -106,9 +104,9 @@ module _ {s : Script} {x : WorldOf} {l : LaneOf} (m : LaneOf) {of : Call} (next 
 
   -- law: the lane keeps it, where such calls fit
   pub keeps_anew : (entry : Armed → ObjectEntry) → IsNotedAs (ClockHas reading) (call anew.arm) reply (entry (arm_noted anew.arm))
-      → IsNoTrigger (entry (arm_noted anew.arm)) → (a : Answer) → popped_by a ≡ []
+      → (a : Answer)
       → ((e : Ending) (begin last : ℕ) (cancel : Option (ℕ × ℕ)) (arm : Armed) (start : List Action) (stamp : ℕ) (notes : List PlacedEntry)
-      → IsKept (witness_of s e) (moves_spans e) (signal_spans e) l.label (plain reading.stamp begin last (anew_actions timer cancel start stamp
+      → IsKept (witness_of s e) (moves_spans e) l.label (plain reading.stamp begin last (anew_actions timer cancel start stamp
       (entry arm))) notes of a
       (seen_by l.pass) (seen_by m.pass)
       → (moves_spans e).first l.label ≤ begin → (is : IsAnew (witness_of s e) l.label notes reading.stamp begin last timer may cancel arm start stamp)
@@ -116,10 +114,7 @@ module _ {s : Script} {x : WorldOf} {l : LaneOf} (m : LaneOf) {of : Call} (next 
       → FitsCall (witness_of s e) l.label of a (seen_by l.pass) (seen_by m.pass))
       → KeepsCall s l of a m
   unfolding is_anew
-  keeps_anew entry noted never a popped fits =
-      keeps_made m next anew.enters anew.turn part after reads notes noted a []
-      (turns_alone l.pass m.pass a
-      (anew_actions timer disarmed.0 part.start (length anew.enters.commits.adds.before) (entry (arm_noted anew.arm))) signals popped
-      (made_unpushed m next anew.enters anew.turn part after (entry (arm_noted anew.arm)) never)) (λ e follows joined kept low.
+  keeps_anew entry noted a fits =
+      keeps_made m next anew.enters anew.turn part after notes noted reads signals a (λ e follows joined kept low.
       fits e _ _ disarmed.0 (arm_noted anew.arm) part.start _ _ kept low (is_anew follows joined)
       (outcome_is m next anew.enters anew.turn part after follows joined))

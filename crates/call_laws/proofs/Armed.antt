@@ -148,14 +148,14 @@ module _ {s : Script} {x : WorldOf} {l : LaneOf} {call : Call} (next : IsNextCal
   -- law: no start
   pub start_none : (wanted : Option Wanted) → w ≡ v → log ≡ done → TimerPart s x l t begin w wanted base reading arms.NotAsked cancel log
   start_none wanted alone same =
-      started [] [] (refl, refl) (same ∙ sym (append-nil done)) (λ e joined goes. none_made _ _ _ _ _ wanted) ([], part_none (begins_same (ap (λ k. k.seen) alone)) (ap (λ k. k.mine) alone)) tt
+      started [] [] (refl, refl, refl) (same ∙ sym (append-nil done)) (λ e joined goes. none_made _ _ _ _ _ wanted) ([], part_none (begins_same (ap (λ k. k.seen) alone)) (ap (λ k. k.mine) alone)) tt
 
   start_by : (mode : Mode) (ns : ℕ) (a : StartAnswer) (c : StartsTimer x.timers.about v w t (asked_for mode ns 0 base reading) a)
       → log ≡ done ++ receipts_of t (timer_then x.timers.about c.at t).stamp (start_entries (timer_then x.timers.about c.at t) (asked_for mode ns 0 base reading) c.sent c.last a)
       → TimerPart s x l t begin w (Some (record { mode = mode; ns = ns })) base reading (arm_of a) cancel log
   start_by mode ns (starts.Spent n) c adds =
       let looks = looks_made c.made in
-      started [] [] (refl, refl) adds (λ e joined goes. refl) ([], part_none looks.0 looks.1)
+      started [] [] (refl, refl, refl) adds (λ e joined goes. refl) ([], part_none looks.0 looks.1)
       (subst (IsArmedSo (arms.Unarmed n)) (sym (timer_after x.timers.about v w t c.at [] c.made)) (sym c.fits.2, c.fits.1, c.fits.0))
   start_by mode ns (starts.Started was generation last outs placed) c adds =
       let o = x.timers.about in

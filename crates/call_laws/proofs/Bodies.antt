@@ -76,7 +76,7 @@ module _ (s : Script) (o : Opening) (is : o ≡ opening_for s) (some : 1 ≤ s.l
   -- the function's actions are those of the timer's callback
   abbrev Does : List Action → Type 0
   Does body = (e : Ending) → IsJoined s e → RunGoesOn w.seen e → (finish : ℕ) (restarted : Restarted)
-      → IsBody (sight_of (witness_of s e) (length v.seen) (length w.seen)) s.limit (kind_of s c.timer) reading.stamp
+      → IsBody (sight_of (witness_of s e) (length v.seen) (length w.seen)) s (kind_of s c.timer) reading.stamp
       (fired_of c body finish (asks restart) restarted)
 
   -- a callback that looked at its timer and made no entry
@@ -100,7 +100,7 @@ module _ (s : Script) (o : Opening) (is : o ≡ opening_for s) (some : 1 ≤ s.l
             (omega (arith, counted, (count_begins (TimersList c.timer) made.from))) (omega (arith, counted, (count_begins (TimersList c.timer) made.seen))));
         turned = [];
         turns = turns_none (ap (λ u. u.knows) same_signals);
-        ran = λ e joined goes heard finish restarted.
+        ran = λ e joined goes finish restarted.
             (does e joined goes finish restarted, (rw observes (saw_quiet is joined goes made number observation stamp holds), below));
       }
 
@@ -122,7 +122,7 @@ module _ (s : Script) (o : Opening) (is : o ≡ opening_for s) (some : 1 ≤ s.l
         part = part_alone same (part_claimed claim (receipts_of c.timer (timer_then o at c.timer).stamp (e ∷ [])) [] its.1);
         turned = [];
         turns = turns_none (ap (λ u. u.knows) same_signals);
-        ran = λ e joined goes heard finish restarted. (does e joined goes finish restarted, tt);
+        ran = λ e joined goes finish restarted. (does e joined goes finish restarted, tt);
       }
 
   -- law: the actions of the callback of a timer by itself, as its timer declares it
@@ -141,7 +141,7 @@ module _ (s : Script) (o : Opening) (is : o ≡ opening_for s) (some : 1 ≤ s.l
         part = part_alone same (part_claimed claim [] [] (part_none looks.0 looks.1));
         turned = [];
         turns = turns_none (ap (λ u. u.knows) same_signals);
-        ran = λ e joined goes heard finish restarted. (rw kind (refl, ap asks run.2), tt);
+        ran = λ e joined goes finish restarted. (rw kind (refl, ap asks run.2), tt);
       }
     where
       looks : Begins v.seen w.seen × (w.mine ≡ v.mine)

@@ -1,5 +1,4 @@
 -- What a lane keeps of a call, by its passes before and after it: the parts that are the same for each kind of call.
-use Rattle.call_laws.proofs.Entering.{made_inside}
 use Rattle.script_text.specs.Declarations.{declared_as, declareds_of, terms_of}
 use Rattle.std.proofs.lemmas.List.{length-map}
 use Rattle.std.proofs.Common.{◌≡◌, ◌≤◌, ◌<◌, ℕ, ◌+◌, Bool, Option, Some, None, List, [], ◌∷◌, ◌++◌, length, map, arith, refl, sym, ap, ◌∙◌, subst}
@@ -16,7 +15,7 @@ use Rattle.pass_names.proofs.Counts.{total-append}
 use Rattle.timer_objects.specs.Known.{seen_of}
 use Rattle.record_text.specs.declared.record.Answer.{Answer}
 use Rattle.record_text.specs.declared.record.ClockLine.{ClockLine}
-use Rattle.run_history.specs.Actions.{made, wrote}
+use Rattle.run_history.specs.Actions.{wrote}
 use Rattle.run_history.specs.Histories.{reading_at}
 use Rattle.run_history.specs.Order.{calls_of, IsLabel, NeverFall}
 use Rattle.script_text.specs.declared.script.Call.{Call}
@@ -26,13 +25,15 @@ use Rattle.run_history.specs.Witnesses.{Trace}
 use Rattle.run_history.specs.Fits.{FitsCall}
 use Rattle.run_history.specs.Promises.{GoesOnClock, HasLog, IsRightLog, IsPromised}
 use Rattle.run_history.specs.Receipts.{PlacedEntry, receipt}
-use Rattle.run_history.specs.Runs.{CallLog, witness_of, Ending, IsJoined, moves_spans, signal_spans}
+use Rattle.run_history.specs.Runs.{CallLog, witness_of, Ending, IsJoined, moves_spans}
 use Rattle.run_history.specs.Traces.{all_entered}
 use Rattle.run_history.proofs.Kept.{IsKept}
-use Rattle.run_history.proofs.Known.{AreMade}
 use Rattle.run_history.proofs.Promise.{kept_from, reading_seen}
-use Rattle.run_history.specs.Signals.{popped_by, pushed_in}
-use Rattle.call_laws.proofs.Signals.{falls_between, TurnsPart}
+use Rattle.signal_queue.specs.declared.signal.Signal.{Signal}
+use Rattle.signal_queue.specs.declared.signal.Turn.{Turn}
+use Rattle.run_history.specs.Actions.{Action}
+use Rattle.run_history.specs.Witnesses.{OfRise}
+use Rattle.lane_notes.proofs.Kept.{signals_of, signals_told}
 use Rattle.lane_notes.specs.Called.{LaneOf, LeavesClock, ReadsClock}
 use Rattle.lane_notes.proofs.Kept.{base_note_place, entries_told, note_place, places_noted, told_in, of_base, of_entry, of_write, ToldNote, Follows, IsNextCall, log_of, seen_by, SeesOn, StandAt, turn_notes}
 use Rattle.lane_notes.proofs.SeenMore.{begins_same}
@@ -109,11 +110,16 @@ places_in s notes =
     ∙ ap (λ ps. present (map place (map of_base notes.bases)) ++ ps) none ∙ append-nil (present (map place (map of_base notes.bases)))
     ∙ of BaseNote of_base notes.bases ∙ each_there (λ n. place (of_base n)) (base_note_place (length s.timers)) (λ n. refl) notes.bases)
 
--- law: the places of a call's receipts are those of its notes, which tell the same in another order
+-- pushes and pops are no places of the pass's own
+none_signalled : (s : Script) (i n : ℕ) (xs : List (ℕ × (ℕ × Signal))) → count (is_told_place i n) (map (place_told s) (map (λ x. (x.1.0, OfRise x.0)) xs)) ≡ 0
+none_signalled s i n [] = refl
+none_signalled s i n (x ∷ xs) = omega (arith, none_signalled s i n xs)
+
+-- law: the places of a call's receipts are those of its notes, which tell the same in another order, and of its pushes and pops
 pub places_told : (s : Script) (mine new : List (ℕ × ℕ)) (notes : List PlacedEntry) (added : NotesOf) → new ≡ mine ++ own_places s notes
-    → IsPermutation (map receipt notes) (entries_told added) → (i n : ℕ)
+    → (ds : List Action) → IsPermutation (map receipt notes) (entries_told added ++ signals_told ds) → (i n : ℕ)
     → count (is_place i n) new ≡ count (is_place i n) mine + places_noted (length s.timers) i n added
-places_told s mine new notes added is same i n =
+places_told s mine new notes added is ds same i n =
     let test = is_place i n in
     let place = place_told s in
     omega (
@@ -123,7 +129,10 @@ places_told s mine new notes added is same i n =
       ap (λ ps. count test (present ps)) (map-map place receipt notes),
       count_present i n (map place (map receipt notes)),
       count_present i n (map place (entries_told added)),
-      count_permuted (is_told_place i n) (map place (map receipt notes)) (map place (entries_told added)) (IsPermutation-map place _ _ same),
+      count_permuted (is_told_place i n) (map place (map receipt notes)) (map place (entries_told added ++ signals_told ds)) (IsPermutation-map place _ _ same),
+      ap (count (is_told_place i n)) (map-append place (entries_told added) (signals_told ds)),
+      total-append (λ q. one_if (is_told_place i n q)) (map place (entries_told added)) (map place (signals_told ds)),
+      none_signalled s i n (signals_of ds),
       ap (count test) (places_in s added),
       total-append (λ q. one_if (test q)) (map note_place added.entries) (map (base_note_place (length s.timers)) added.bases),
     )
@@ -163,8 +172,8 @@ reading_goes_on p q r reads e goes =
 
 -- law: the receipts stand in what was seen
 pub stand_from : {s : Script} (IsSo : List ClockLine → Type 0) (p q : WorldPass) (notes : List PlacedEntry)
-    → EntersNotes s IsSo p.timers.known q.timers.known notes → (t : Trace) → ((e : Ending) → Follows q e → IsSo e.run.clock) → StandAt q (log_of p q notes t)
-stand_from IsSo p q notes enters t so = record {
+    → EntersNotes s IsSo p.timers.known q.timers.known notes → (t : Trace) (turned : List (ℕ × Turn)) → ((e : Ending) → Follows q e → IsSo e.run.clock) → StandAt q (log_of p q notes t turned)
+stand_from IsSo p q notes enters t turned so = record {
   rise = enters.made.rise;
   below = enters.made.below;
   made = enters.made.made;
@@ -174,42 +183,36 @@ stand_from IsSo p q notes enters t so = record {
 -- ---- the log
 
 -- law: what a lane keeps of a call that wrote nothing is right in itself
-pub logged_from : (s : Script) (p q : WorldPass) (notes : List PlacedEntry) (t : Trace) (call : Call) (a : Answer) → SeesOn p q
-    → t.last ≡ length q.timers.known.seen
-    → AreMade q.timers.known.seen (length p.timers.known.seen) (length q.timers.known.seen) notes → map receipt notes ≡ all_entered t.actions
-    → t.at ≡ length (writes q.clock.knows) → wrote t.actions ≡ []
-    → TurnsPart s p.signals.knows q.signals.knows (popped_by a ++ pushed_in s t.actions) t.turns
-    → IsRightLog s (log_of p q notes t) call a (seen_by p) (seen_by q)
-logged_from s p q notes t call a sees last made are at none turned =
-    let forward = begins_length sees.timers in
+pub logged_from : (p q : WorldPass) (notes : List PlacedEntry) (t : Trace) (turned : List (ℕ × Turn)) → SeesOn p q
+    → length p.timers.known.seen ≤ t.last → t.last ≤ length q.timers.known.seen
+    → AllByRecursion (λ x. (length p.timers.known.seen ≤ x.place) × (x.place < t.last)) notes → map receipt notes ≡ all_entered t.actions
+    → t.at ≡ length (writes q.clock.knows) → wrote t.actions ≡ [] → IsRightLog (log_of p q notes t turned) (seen_by p) (seen_by q)
+logged_from p q notes t turned sees low high inside are at none =
     let clock = begins_length sees.clock in
     record {
-      forward = omega (arith, forward, last);
-      last = omega (arith, last);
-      inside = subst (λ n. AllByRecursion (λ x. (length p.timers.known.seen ≤ x.place) × (x.place < n)) notes) (sym last)
-          (made_inside made);
+      forward = low;
+      last = high;
+      inside = inside;
       entered = are;
       reading = (omega (arith, at, clock), omega (arith, at));
       writes = subst (λ ws. AllByRecursion (λ x. t.at < x.0) ws) (sym none) tt;
       clock_steps = subst (λ ws. NeverFall (length (writes p.clock.knows)) (t.at ∷ map (λ x. x.0) ws) (length (writes q.clock.knows))) (sym none)
           (omega (arith, at, clock), omega (arith, at));
       move_steps = (omega arith, omega arith);
-      turns = turned.are;
-      signal_steps = falls_between turned.span;
     }
 
 -- a call fits, by what its lane kept of it, in every run that goes on from there
-abbrev pub FitsOn : Script → LaneOf → LaneOf → Call → Answer → List PlacedEntry → Trace → Type 0
-FitsOn s l m call a notes t =
-    (e : Ending) → Follows m.pass e → IsJoined s e → HasLog e l.label (log_of l.pass m.pass notes t)
-    → IsKept (witness_of s e) (moves_spans e) (signal_spans e) l.label t notes call a (seen_by l.pass) (seen_by m.pass)
+abbrev pub FitsOn : Script → LaneOf → LaneOf → Call → Answer → List PlacedEntry → Trace → List (ℕ × Turn) → Type 0
+FitsOn s l m call a notes t turned =
+    (e : Ending) → Follows m.pass e → IsJoined s e → HasLog e l.label (log_of l.pass m.pass notes t turned)
+    → IsKept (witness_of s e) (moves_spans e) l.label t notes call a (seen_by l.pass) (seen_by m.pass)
     → length l.pass.timers.known.seen ≡ (moves_spans e).first l.label → FitsCall (witness_of s e) l.label call a (seen_by l.pass) (seen_by m.pass)
 
 -- law: it keeps its promise then
 pub promised_from : {s : Script} {x : WorldOf} {l : LaneOf} {call : Call} (next : IsNextCall s x l call) (m : LaneOf) (notes : List PlacedEntry) (t : Trace)
-    (a : Answer) → IsRightLog s (log_of l.pass m.pass notes t) call a (seen_by l.pass) (seen_by m.pass) → FitsOn s l m call a notes t
-    → IsPromised s l.label.lane l.label.call (log_of l.pass m.pass notes t) (Follows m.pass) call a (seen_by l.pass) (seen_by m.pass)
-promised_from {s = s} {l = l} next m notes t a logged fits e follows has joined =
+    (turned : List (ℕ × Turn)) (a : Answer) → IsRightLog (log_of l.pass m.pass notes t turned) (seen_by l.pass) (seen_by m.pass)
+    → FitsOn s l m call a notes t turned → IsPromised s l.label.lane l.label.call (log_of l.pass m.pass notes t turned) (Follows m.pass) call a (seen_by l.pass) (seen_by m.pass)
+promised_from {s = s} {l = l} next m notes t turned a logged fits e follows has joined =
     let is : IsLabel s l.label = slice_get_within (calls_of s l.label.lane) l.label.call next.at next.there in
     fits e follows joined has (kept_from joined is has logged) (sym (ap (λ (g : CallLog). g.moves.0) has.kept))
 

@@ -50,7 +50,7 @@ keeps_overrun {s = s} {l = l} {m = m} {timer = timer} next called =
     let c = called.1 in
     let found = called.0 in
     subst (λ a. KeepsCall s l (calls.Overrun timer) a m) (sym c.tells)
-    (keeps_look m next (answers.Overrun found.overrun found.stamp) refl c.looks.2 (clock_left c.clock) c.signals
+    (keeps_look m next (answers.Overrun found.overrun found.stamp) c.looks.2 (clock_left c.clock) c.signals
     (c.notes ∙ no_notes-joins l.notes ∙ sym (with_done-joins l.notes l.label [] [])) (λ e. refl) (λ e follows point is. (
       point,
       ap (λ (u : PosixTimer). u.overrun) (sym (posix_found s e.run timer found.stamp (kind_of s timer) is c.looks.3)) ∙ sym c.looks.4,
@@ -64,7 +64,7 @@ keeps_readable {s = s} {l = l} {m = m} {timer = timer} next called =
     let found = called.0 in
     let ws = writes m.pass.clock.knows in
     subst (λ a. KeepsCall s l (calls.Readable timer) a m) (sym c.does.1)
-    (keeps_look m next (answers.Readable found.ready c.reading.stamp found.stamp) refl c.does.0.1 (clock_left c.reads.same) c.signals
+    (keeps_look m next (answers.Readable found.ready c.reading.stamp found.stamp) c.does.0.1 (clock_left c.reads.same) c.signals
     c.notes (λ e. (refl, c.reads.count)) (λ e follows point is. (
       point,
       ap (λ u. is_readable u (reading_at e.run.clock (length ws))) (sym (fd_looked s e.run timer found.stamp (kind_of s timer) is))
@@ -80,7 +80,7 @@ keeps_setting : {s : Script} {x : WorldOf} {l m : LaneOf} {a : Answer} {timer le
 keeps_setting {s = s} {l = l} {m = m} {timer = timer} {left = left} {interval = interval} {stamp = stamp} next kind c object t has looks is_set told =
     let ws = writes m.pass.clock.knows in
     subst (λ b. KeepsCall s l (calls.Gettime timer) b m) (sym told)
-    (keeps_look m next (answers.LeftAt left interval c.reading.stamp stamp) refl looks (clock_left c.reads.same) c.signals c.notes
+    (keeps_look m next (answers.LeftAt left interval c.reading.stamp stamp) looks (clock_left c.reads.same) c.signals c.notes
     (λ e. (refl, (kind, c.reads.count)))
     (λ e follows point is. (
       point,
@@ -150,7 +150,7 @@ keeps_reading takes reads next c =
 pub keeps_call : (s : Script) (x : WorldOf) (l m : LaneOf) (call : Call) (a : Answer) → IsNextCall s x l call → Called x l call a m → KeepsTurn s l call a m
 keeps_call s x l m (calls.Cancel timer) a next c = turn_plain refl (keeps_cancel next c)
 keeps_call s x l m (calls.Peek timer) a next c =
-    turn_plain refl (subst (λ a. KeepsCall s l (calls.Peek timer) a m) (sym c.2) (keeps_seen next _ refl c.1 (λ e. refl) (λ e saw. saw)))
+    turn_plain refl (subst (λ a. KeepsCall s l (calls.Peek timer) a m) (sym c.2) (keeps_seen next _ c.1 (λ e. refl) (λ e saw. saw)))
 keeps_call s x l m (calls.Overrun timer) a next c = turn_plain refl (keeps_overrun next c)
 keeps_call s x l m (calls.Slept timer) a next c = turn_plain refl (keeps_slept next c)
 keeps_call s x l m (calls.Online base) a next c = turn_plain refl (keeps_online next c)

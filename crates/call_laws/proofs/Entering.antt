@@ -4,7 +4,10 @@ use Rattle.run_history.proofs.Lists.{all_at, each}
 use Rattle.run_history.specs.Objects.{present}
 use Rattle.lane_notes.proofs.Receipts.{present-append}
 use Rattle.base_row.specs.Plays.{RisesFrom}
+use Rattle.ordered_clock.specs.Moments.{RisesAt}
 use Rattle.pass_names.specs.SharedHistory.{LooksOn}
+use Rattle.seq_timer.specs.Systems.{rises_of}
+use Rattle.seq_timer.specs.declared.system.SystemEntry.TheVariants as entries
 use Rattle.run_history.proofs.Known.{behind_all}
 use Rattle.std.proofs.Common.{◌<◌, ◌≤◌}
 use Rattle.std.proofs.Common.{◌≡◌, ℕ, ◌+◌, Option, None, Some, List, [], ◌∷◌, ◌++◌, length, map, arith, refl, sym, ap, ◌∙◌, subst}
@@ -162,6 +165,25 @@ enters_rise {s = s} {v = v} {w = w} k n looks rises =
         shows = λ r order later whole so. shows_made_on r order w.seen later n (one.0 ∷ []) _ (OfRise k ∷ []) whole one.3 (ap (λ y. y ∷ []) one.2) refl;
       },
       one.2,
+    )
+
+-- law: so is one whose place alone is known
+pub enters_risen : {s : Script} {IsSo : List ClockLine → Type 0} {v w : KnownOfTimers} (k number : ℕ) → LooksOn v w → RisesAt k v.seen w.seen number
+    → EntersOne s IsSo v w (number, OfRise k)
+enters_risen {s = s} {v = v} {w = w} k number looks at =
+    let n = rises_of k at.before in
+    let seen = at.before ++ entries.Rise k ∷ [] in
+    let one = rise_made k n (length v.seen) at.before seen refl refl (begins_length at.from) in (
+      one.0,
+      record {
+        seen = looks.seen;
+        made = made_wider w.seen (length v.seen) (length v.seen) (length seen) (length w.seen) (one.0 ∷ []) (omega arith) (begins_length at.seen)
+            (made_goes_on w.seen seen at.seen.rest (length v.seen) (length seen) (one.0 ∷ []) at.seen.whole one.1);
+        mine = looks.mine ∙ sym (append-nil v.mine) ∙ ap (λ r. v.mine ++ present (place_told s r ∷ [])) (sym one.2);
+        shows = λ r order later whole so. shows_made_on r order seen (at.seen.rest ++ later) n (one.0 ∷ []) _ (OfRise k ∷ [])
+            (whole ∙ ap (λ xs. xs ++ later) at.seen.whole ∙ append_assoc seen at.seen.rest later) one.3 (ap (λ y. y ∷ []) one.2) refl;
+      },
+      one.2 ∙ ap (λ m. (m, OfRise k)) at.count,
     )
 
 -- law: a call that made no entry of its timer saw more, and made none

@@ -19,11 +19,6 @@ use Rattle.base_row.specs.declared.log.Receipt.{Receipt}
 use Rattle.timer_objects.specs.QueuedFirings.{queued_firing}
 use Rattle.signal_queue.specs.Rules.{turns}
 use Rattle.signal_queue.specs.declared.view.QueueView.{QueueView}
-use Rattle.run_history.specs.Signals.{popped_by, pushed_in}
-use Rattle.run_history.specs.Deeds.{fires}
-use Rattle.run_history.specs.Runs.{CallLog}
-use Rattle.std.specs.Prelude.{flat_map}
-use Rattle.call_laws.proofs.Signals.{TurnsPart}
 use Rattle.timer_objects.specs.Known.{ObjectsPass}
 use Rattle.timer_objects.specs.declared.log.ObjectReceipt.{ObjectReceipt}
 use Rattle.record_text.specs.declared.record.Answer.TheVariants as answers
@@ -36,7 +31,7 @@ use Rattle.run_history.specs.Witnesses as witnesses
 use Rattle.run_history.specs.Witnesses.{Witness, Fired}
 use Rattle.run_history.specs.Fits.{FitsCall}
 use Rattle.run_history.specs.Receipts.{PlacedEntry}
-use Rattle.run_history.specs.Runs.{witness_of, Ending, IsJoined, moves_spans, signal_spans}
+use Rattle.run_history.specs.Runs.{witness_of, Ending, IsJoined, moves_spans}
 use Rattle.run_history.proofs.Expires.{expire_busy, expire_done, expire_more, expiring, HaveRun}
 use Rattle.run_history.proofs.Kept.{IsKept}
 use Rattle.lane_notes.specs.Called.{CallsExpire, claimed_in, expire_told, LaneOf}
@@ -51,12 +46,11 @@ use Rattle.call_laws.proofs.Fired.{RunKept, turns_kept}
 -- ---- a run that looked on
 
 -- callbacks ran to a later number too
-have_later : (w : Witness) (order : List SystemEntry) (context : Context) (base at : ℕ) (heard : ℕ × ℕ)
-    (from : ℕ) (fs : List Fired) (notes : List PlacedEntry) (to to' : ℕ)
-    → to ≤ to' → HaveRun w order context base at heard from fs notes to → HaveRun w order context base at heard from fs notes to'
-have_later w order context base at heard from [] notes to to' le run = (run.0, omega (arith, run.1, le))
-have_later w order context base at heard from (f ∷ fs) notes to to' le run =
-    (run.0, run.1, run.2, run.3, have_later w order context base at heard run.0 fs run.2 to to' le run.4)
+have_later : (w : Witness) (order : List SystemEntry) (context : Context) (base at from : ℕ) (fs : List Fired) (notes : List PlacedEntry) (to to' : ℕ)
+    → to ≤ to' → HaveRun w order context base at from fs notes to → HaveRun w order context base at from fs notes to'
+have_later w order context base at from [] notes to to' le run = (run.0, omega (arith, run.1, le))
+have_later w order context base at from (f ∷ fs) notes to to' le run =
+    (run.0, run.1, run.2, run.3, have_later w order context base at run.0 fs run.2 to to' le run.4)
 
 -- law: callbacks ran, and behind them their pass only looked
 run_later : {s : Script} {label : Label} {context : Context} {base : ℕ} {reading : ClockReading} {n : ℕ} {v : KnownOfTimers} {p : ObjectsPass} {u : QueueView}
@@ -74,10 +68,9 @@ run_later {s = s} {label = label} {context = context} {base = base} {reading = r
       whole = run.whole;
       turned = run.turned;
       turns = run.turns;
-      have = λ e joined goes heard.
-          have_later (witness_of s e) e.order context base reading.stamp (length (turns u), length (turns u')) (length v.seen) run.fired run.notes
-          (length w.seen) (length w'.seen)
-          (begins_length looks.seen) (run.have e joined (goes_before looks.seen goes) heard);
+      have = λ e joined goes.
+          have_later (witness_of s e) e.order context base reading.stamp (length v.seen) run.fired run.notes (length w.seen) (length w'.seen)
+          (begins_length looks.seen) (run.have e joined (goes_before looks.seen goes));
     }
 
 -- ---- the call
@@ -90,28 +83,22 @@ module _ {s : Script} {x : WorldOf} {l m : LaneOf} {a : Answer} {context : Conte
       m.pass.objects m.pass.signals.knows c.log c.callback_log c.object_log
 
   -- a lane keeps the call, where its callbacks make it fit in every run that goes on from there
-  keeps_run : {n : ℕ} (told : List ℕ → Answer) → ((ts : List ℕ) → popped_by (told ts) ≡ []) → (run : Run n m.pass.timers.known)
+  keeps_run : {n : ℕ} (told : List ℕ → Answer) (run : Run n m.pass.timers.known)
       → ((e : Ending) → Follows m.pass e → IsJoined s e
-      → IsKept (witness_of s e) (moves_spans e) (signal_spans e) l.label
-      (expiring base c.reading.stamp (length l.pass.timers.known.seen) (length m.pass.timers.known.seen) run.fired run.turned) run.notes
+      → IsKept (witness_of s e) (moves_spans e) l.label
+      (expiring base c.reading.stamp (length l.pass.timers.known.seen) (length m.pass.timers.known.seen) run.fired) run.notes
       (calls.Expire context base budget)
       (told (map (λ f. f.timer) run.fired)) (seen_by l.pass) (seen_by m.pass) → length l.pass.timers.known.seen ≡ (moves_spans e).first l.label
-      → HaveRun (witness_of s e) e.order context base c.reading.stamp ((signal_spans e).first l.label, (signal_spans e).last l.label)
-      (length l.pass.timers.known.seen) run.fired run.notes
+      → HaveRun (witness_of s e) e.order context base c.reading.stamp (length l.pass.timers.known.seen) run.fired run.notes
       (length m.pass.timers.known.seen)
       → FitsCall (witness_of s e) l.label (calls.Expire context base budget) (told (map (λ f. f.timer) run.fired)) (seen_by l.pass) (seen_by m.pass))
       → KeepsCall s l (calls.Expire context base budget) (told (claimed_in c.log)) m
-  keeps_run told popped run fits =
+  keeps_run told run fits =
       rw run.claimed (keeps_part next m (told (map (λ f. f.timer) run.fired))
-      (expiring base c.reading.stamp (length l.pass.timers.known.seen) (length m.pass.timers.known.seen) run.fired run.turned) run.part
+      (expiring base c.reading.stamp (length l.pass.timers.known.seen) (length m.pass.timers.known.seen) run.fired) run.part
       (reading_goes_on l.pass m.pass c.reading c.reads)
       (clock_left c.reads.same) (c.notes ∙ with_done-joins l.notes l.label (c.log ++ c.callback_log) c.object_log) refl c.reads.count run.whole
-      (subst (λ ts. TurnsPart s l.pass.signals.knows m.pass.signals.knows (ts ++ pushed_in s (flat_map (fires base c.reading.stamp) run.fired)) run.turned)
-      (sym (popped (map (λ f. f.timer) run.fired))) run.turns)
-      (λ e follows joined has kept low. fits e follows joined kept low
-      (subst (λ (g : CallLog). HaveRun (witness_of s e) e.order context base c.reading.stamp (g.signals.0, g.signals.1)
-      (length l.pass.timers.known.seen) run.fired
-      run.notes (length m.pass.timers.known.seen)) (sym has.kept) (run.have e joined follows.timers follows.signals))))
+      run.turns (λ e follows joined has kept low. fits e follows joined kept low (run.have e joined follows.timers)))
 
   -- the callbacks
   callbacks_kept : (n : ℕ) (w : KnownOfTimers)
@@ -136,12 +123,12 @@ module _ {s : Script} {x : WorldOf} {l m : LaneOf} {a : Answer} {context : Conte
       → KeepsCall s l (calls.Expire context base budget) (expire_told c.reading.stamp (claimed_in c.log) answer) m
   answer_kept (expiries.More n) run =
       let ran = callbacks_kept n m.pass.timers.known run.1 in
-      keeps_run (λ ts. answers.More c.reading.stamp ts) (λ ts. refl) ran (λ e follows joined kept low have. expire_more e.order kept low have (ran.many
+      keeps_run (λ ts. answers.More c.reading.stamp ts) ran (λ e follows joined kept low have. expire_more e.order kept low have (ran.many
       ∙ run.0))
   answer_kept (expiries.Done n) run =
       let ran = run_later (callbacks_kept n run.1.0 run.1.1) run.1.2.0 in
       let none = run.1.2.1 in
-      keeps_run (λ ts. answers.Done c.reading.stamp ts) (λ ts. refl) ran
+      keeps_run (λ ts. answers.Done c.reading.stamp ts) ran
       (λ e follows joined kept low have. expire_done e.order kept low have (omega (arith, ran.many, run.0)) (record {
         free = λ t. held e follows joined (λ u r. runs_on base (seen_in context (u.timers t)) ≡ false) (none.idle t);
         first = held e follows joined (λ u r. next_on context (u.bases base) r ≡ None) none.first;
@@ -149,7 +136,7 @@ module _ {s : Script} {x : WorldOf} {l m : LaneOf} {a : Answer} {context : Conte
       }))
   answer_kept (expiries.BaseBusy n t g) run =
       let ran = run_later (callbacks_kept n run.1.0 run.1.1) run.1.2.0 in
-      keeps_run (λ ts. answers.Busy c.reading.stamp ts t g) (λ ts. refl) ran
+      keeps_run (λ ts. answers.Busy c.reading.stamp ts t g) ran
       (λ e follows joined kept low have. expire_busy e.order kept low have (omega (arith, ran.many, run.0))
       (held e follows joined (λ u r. running_on base (seen_in context (u.timers t)) ≡ Some g) run.1.2.1))
 

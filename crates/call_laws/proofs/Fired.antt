@@ -31,11 +31,11 @@ use Rattle.base_row.specs.declared.log.Receipt.{Receipt}
 use Rattle.timer_objects.specs.Callbacks.{RunsCallback}
 use Rattle.timer_objects.specs.QueuedFirings.{FiresAll, FiresKind, QueuedFiring, queued_firing}
 use Rattle.timer_objects.specs.Signals.{IsSignalPass}
-use Rattle.signal_queue.specs.Rules.{turns}
 use Rattle.signal_queue.specs.declared.signal.Turn as signal_turn
 use Rattle.signal_queue.specs.declared.view.QueueView.{QueueView}
-use Rattle.run_history.specs.Signals.{most_signals, pushed_in}
-use Rattle.call_laws.proofs.Signals.{pushed-append, TurnsPart, turns_none, turns_then}
+use Rattle.run_history.specs.Signals.{most_signals}
+use Rattle.lane_notes.proofs.Kept.{signals_of}
+use Rattle.call_laws.proofs.Signals.{signals_of-append, TurnsPart, turns_none, turns_then}
 use Rattle.timer_objects.specs.Known.{decl_at, ObjectsPass}
 use Rattle.timer_objects.specs.declared.log.ObjectReceipt.{ObjectReceipt}
 use Rattle.record_text.specs.declared.record.Label.{Label}
@@ -50,7 +50,7 @@ use Rattle.run_history.specs.Truths.{sight_of}
 use Rattle.run_history.specs.Witnesses.{Fired, OfTimer, TimersList}
 use Rattle.run_history.specs.Receipts.{PlacedEntry}
 use Rattle.run_history.specs.Runs.{witness_of, Ending, IsJoined}
-use Rattle.run_history.proofs.Expires.{claim_of, finish_of, HaveRun, holds_wider, run_hears, run_push}
+use Rattle.run_history.proofs.Expires.{claim_of, finish_of, HaveRun, run_push}
 use Rattle.run_history.proofs.Known.{made_goes_on}
 use Rattle.run_history.proofs.Reached.{body_wider, sight_wider}
 use Rattle.lane_notes.specs.Called.{claimed_in}
@@ -63,7 +63,7 @@ use Rattle.std.specs.Prelude.{flat_map}
 use Rattle.std.proofs.lemmas.List.Concat.{flat_map-append}
 use Rattle.call_laws.proofs.Claimed.{claimed_in-append}
 use Rattle.call_laws.proofs.Bodies.{callback_kept}
-use Rattle.call_laws.proofs.Parts.{BodyKept, fired_of, ClockHas, IsClaimed, IsPart, part_none, turns_of}
+use Rattle.call_laws.proofs.Parts.{BodyKept, fired_of, ClockHas, IsClaimed, IsPart, part_none}
 use Rattle.lane_notes.proofs.PartLists.{notes-append}
 use Rattle.call_laws.proofs.Entering.{enters_once, stamp_counts}
 use Rattle.seq_timer.specs.declared.event.Restarted.{Restarted}
@@ -89,10 +89,6 @@ four note a b c d = rw (notes-append note (a ++ b) (c ++ d), notes-append note a
 
 -- ---- the callbacks so far
 
--- the pushes and pops that a pass of the queue has seen
-abbrev pub turns_in : QueueView → List signal_turn.Turn
-turns_in u = turns u
-
 -- callbacks of an expiry run from its beginning on: their actions, as a part of the call, and that they ran in every run that goes on from there
 pub record RunKept (s : Script) (label : Label) (context : Context) (base : ℕ) (reading : ClockReading) (n : ℕ) (k : KnownOfTimers) (p : ObjectsPass)
     (u : QueueView) (k' : KnownOfTimers) (p' : ObjectsPass) (u' : QueueView) (log callback_log : List Receipt) (object_log : List ObjectReceipt) : Type 0 where
@@ -103,9 +99,9 @@ pub record RunKept (s : Script) (label : Label) (context : Context) (base : ℕ)
   pub part : IsPart s (ClockHas reading) label k p k' p' (flat_map (fires base reading.stamp) fired) notes (notes_of label (log ++ callback_log) object_log)
   pub whole : HasWholeTurns (flat_map (fires base reading.stamp) fired)
   pub turned : List (ℕ × signal_turn.Turn)
-  pub turns : TurnsPart s u u' (pushed_in s (flat_map (fires base reading.stamp) fired)) turned
-  pub have : (e : Ending) → IsJoined s e → promises.RunGoesOn k'.seen e → promises.GoesOnSignals (turns_in u') e
-      → HaveRun (witness_of s e) e.order context base reading.stamp (length (turns_in u), length (turns_in u')) (length k.seen) fired notes (length k'.seen)
+  pub turns : TurnsPart s u u' (signals_of (flat_map (fires base reading.stamp) fired)) turned
+  pub have : (e : Ending) → IsJoined s e → promises.RunGoesOn k'.seen e
+      → HaveRun (witness_of s e) e.order context base reading.stamp (length k.seen) fired notes (length k'.seen)
 
 -- as what a timer was opened
 declared-opened : (list : List Declared) (terms : Terms) (t : ℕ) → (timer_at (openings list terms) t).declared ≡ get_or list t no_declared
@@ -173,33 +169,30 @@ module _ (s : Script) (x : WorldOf) (is : IsWorldOf s x) (queue : HasQueue x.obj
           (subst (λ cb. RunsCallback o v w c reading h.log.receipts h'.log.receipts cb restart) its run.0)
       by_kind (kinds.Posix asked) same =
           let run = by_over (kinds.Posix asked) same in
-          trigger_kept s h.objects.now limit some label c reading claim restart w h h' run.2 run.3 (λ sight f its. rw same its) run.4
-          (λ number entry. rw same refl) run.0
+          trigger_kept s h.objects.now limit some label c reading claim restart w h h' run.2 run.3 (λ sight f its. rw same its) run.4 run.0
       by_kind (kinds.Fd asked) same =
           let run = by_over (kinds.Fd asked) same in
-          trigger_kept s h.objects.now limit some label c reading claim restart w h h' run.2 run.3 (λ sight f its. rw same its) run.4
-          (λ number entry. rw same refl) run.0
+          trigger_kept s h.objects.now limit some label c reading claim restart w h h' run.2 run.3 (λ sight f its. rw same its) run.4 run.0
       by_kind (kinds.Queued asked) same =
           let run = by_over (kinds.Queued asked) same in
-          queued_kept s h.objects.now limit some label c reading claim restart w h h' run.2 run.3 asked same (over (kinds.Queued asked) same) room run.0
+          queued_kept s h.objects.now limit some label c reading claim restart w h h' run.2 run.3 is asked same (over (kinds.Queued asked) same) room run.0
       by_kind (kinds.Sleeper asked) same =
           let run = by_over (kinds.Sleeper asked) same in
-          trigger_kept s h.objects.now limit some label c reading claim restart w h h' run.2 run.3 (λ sight f its. rw same its) run.4
-          (λ number entry. rw same refl) run.0
+          trigger_kept s h.objects.now limit some label c reading claim restart w h h' run.2 run.3 (λ sight f its. rw same its) run.4 run.0
 
   -- a callback ran, with its claim and its finish, in every run that goes on from there
   turn_ran : {k v w k' : KnownOfTimers} {c : ClaimNumbers} {restart : Restart} {h h' : QueuedFiring} (claim : IsClaimed s base c reading k v)
       (b : BodyKept s label claim restart w h h') (number : ℕ) (restarted : Restarted)
       (own : (declared_of s c.timer).context ≡ context)
       (finish : EntersOne s (ClockHas reading) w k'
-      (number, OfTimer c.timer (record { event = events.Finish (asks restart); reply = replies.Finish c.generation restarted }))) (low : ℕ)
-      → low ≤ length (turns_of h) → (e : Ending) → IsJoined s e → promises.RunGoesOn k'.seen e → promises.GoesOnSignals (turns_of h') e
-      → (ran : expires.Ran (witness_of s e) e.order context base reading.stamp (low, length (turns_of h')) (fired_of c b.body number
+      (number, OfTimer c.timer (record { event = events.Finish (asks restart); reply = replies.Finish c.generation restarted })))
+      → (e : Ending) → IsJoined s e → promises.RunGoesOn k'.seen e
+      → (ran : expires.Ran (witness_of s e) e.order context base reading.stamp (fired_of c b.body number
       (asks restart) restarted) (length k.seen)
       (length k'.seen)) × (claim.entered.0 ∷ b.notes ++ finish.0 ∷ [] ≡ expires.notes_of ran)
-  turn_ran {k = k} {v = v} {w = w} {k' = k'} {c = c} {restart = restart} {h = h} {h' = h'} claim b number restarted own finish low under e joined goes heard =
+  turn_ran {k = k} {v = v} {w = w} {k' = k'} {c = c} {restart = restart} claim b number restarted own finish e joined goes =
       let acted = goes_before finish.1.seen goes in
-      let ran = b.ran e joined acted heard number restarted in
+      let ran = b.ran e joined acted number restarted in
       let claimed = goes_before b.enters.seen acted in (
         record {
           claimed = length v.seen;
@@ -218,10 +211,9 @@ module _ (s : Script) (x : WorldOf) (is : IsWorldOf s x) (queue : HasQueue x.obj
           finish_is = finish.2;
           own = own;
           kind = body_wider (sight_of (witness_of s e) (length v.seen) (length w.seen)) (sight_of (witness_of s e) (length k.seen) (length k'.seen))
-              (sight_wider (witness_of s e) (begins_length claim.entered.1.seen) (begins_length finish.1.seen)) s.limit (kind_of s c.timer) reading.stamp
+              (sight_wider (witness_of s e) (begins_length claim.entered.1.seen) (begins_length finish.1.seen)) s (kind_of s c.timer) reading.stamp
               (fired_of c b.body number (asks restart) restarted) ran.0;
-          holds = holds_wider (witness_of s e) (length (turns_of h), length (turns_of h')) (low, length (turns_of h')) (length w.seen) b.body under
-              (omega arith) ran.1;
+          holds = ran.1;
         },
         refl,
       )
@@ -295,16 +287,12 @@ module _ (s : Script) (x : WorldOf) (is : IsWorldOf s x) (queue : HasQueue x.obj
         part = rw all (part_noted (same-trans (same_notes logs) order) (part_then run.part part));
         whole = rw all (whole_turns-append done one run.whole (whole_turns-append b.body finishing b.whole refl));
         turned = run.turned ++ b.turned;
-        turns = rw all (subst (λ ts. TurnsPart s u h'.signal_pass.now.knows ts (run.turned ++ b.turned)) (sym (pushed-append s done one
-            ∙ ap (λ ts. pushed_in s done ++ ts) (pushed-append s b.body finishing ∙ append-nil (pushed_in s b.body)))) (turns_then run.turns b.turns));
-        have = λ e joined goes heard.
-            let low = length (turns_in u) in
-            let one_run = turn_ran claim b (t.stamp + 1) restarted own finish low (begins_length run.turns.seen) e joined goes heard in
-            rw one_run.1 (run_push (witness_of s e) e.order context base at (low, length (turns_of h')) (length k.seen) run.fired run.notes (length k1.seen) f
-            (length k'.seen)
-            (run_hears (witness_of s e) e.order context base at (low, length (turns_of h)) (length (turns_of h')) (length k.seen) run.fired run.notes
-            (length k1.seen) (begins_length b.turns.seen)
-            (run.have e joined (goes_before part.enters.seen goes) (goes_before b.turns.seen heard))) one_run.0);
+        turns = rw all (subst (λ ts. TurnsPart s u h'.signal_pass.now.knows ts (run.turned ++ b.turned)) (sym (signals_of-append done one
+            ∙ ap (λ ts. signals_of done ++ ts) (signals_of-append b.body finishing ∙ append-nil (signals_of b.body)))) (turns_then run.turns b.turns));
+        have = λ e joined goes.
+            let one_run = turn_ran claim b (t.stamp + 1) restarted own finish e joined goes in
+            rw one_run.1 (run_push (witness_of s e) e.order context base at (length k.seen) run.fired run.notes (length k1.seen) f (length k'.seen)
+            (run.have e joined (goes_before part.enters.seen goes)) one_run.0);
       }
     where
       both : {R N : Type 0} (note : R → Option N) (xs ys : List R)
@@ -328,7 +316,7 @@ module _ (s : Script) (x : WorldOf) (is : IsWorldOf s x) (queue : HasQueue x.obj
         whole = refl;
         turned = [];
         turns = turns_none refl;
-        have = λ e joined goes heard. (refl, omega arith);
+        have = λ e joined goes. (refl, omega arith);
       } in (
         rw (turns.0, turns.1, turns.2, fresh, fresh_objects) none,
         ap (λ (g : QueuedFiring). g.objects.now) turns.1 ∙ objects,

@@ -11,7 +11,7 @@ use Rattle.timer_objects.specs.declared.log.ObjectReceipt.{ObjectReceipt}
 use Rattle.record_text.specs.declared.record.Label.{Label}
 use Rattle.record_text.specs.declared.record.ObjectEntry.{ObjectEntry}
 use Rattle.lane_notes.specs.declared.notes.ObjectNote.{ObjectNote}
-use Rattle.run_history.specs.Actions.{Action, Began, Entered, Looked, Made, Shifted, Skipped, Wrote, also, looked, made, skipped, wrote}
+use Rattle.run_history.specs.Actions.{Action, Began, Entered, Looked, Made, Shifted, Signalled, Skipped, Wrote, also, looked, made, skipped, wrote}
 use Rattle.run_history.specs.Traces.{all_entered}
 use Rattle.run_history.proofs.Known.{numbered}
 use Rattle.run_history.proofs.Stamped.{entry_stamped}
@@ -22,7 +22,8 @@ use Rattle.lane_notes.proofs.Standing.{All-permuted}
 use Rattle.lane_notes.specs.Called.{with_done, with_shift}
 use Rattle.seq_timer.specs.declared.standing.BaseEvent.{BaseEvent}
 use Rattle.run_history.specs.Witnesses.{OfBase, OfRise, OfTimer, Shown}
-use Rattle.lane_notes.proofs.Kept.{BaseNotes, EntryNotes, LookNotes, NoteKind, NoteOf, ObjectNotes, SkipNotes, WriteNotes, each_both, each_none, entries_told, label_of, list_of, looks_on, made_on, of_base, of_entry, of_object, of_turn, of_write, skips_on, told_in, turn_notes}
+use Rattle.lane_notes.proofs.Kept.{BaseNotes, EntryNotes, LookNotes, NoteKind, NoteOf, ObjectNotes, SkipNotes, WriteNotes, each_both, each_none, entries_told, label_of, list_of, looks_on, made_on, of_base, of_entry, of_object, of_turn, of_write, signals_of, signals_told, skips_on, told_in, turn_notes}
+use Rattle.call_laws.proofs.Signals.{signals_of-append}
 use Rattle.lane_notes.proofs.PartLists.{both_noted-assoc, notes-append, notes_same, same_order, turns_by_kind}
 use Rattle.std.proofs.lemmas.Simd.{map-map}
 
@@ -39,6 +40,7 @@ one_noted label (Skipped i number generation) =
 one_noted label (Shifted base number event) = record no_notes { bases = record { label = label; base = base; number = number; event = event } ∷ [] }
 one_noted label (Began i stamp) = no_notes
 one_noted label (Wrote number write) = no_notes
+one_noted label (Signalled counter number signal) = no_notes
 
 -- the notes of what a call did, in its order
 abbrev pub noted_by : Label → List Action → NotesOf
@@ -118,15 +120,19 @@ turns_made-append (d ∷ ds) es = turns_made-append ds es
 pub whole_turns-append : (ds es : List Action) → HasWholeTurns ds → HasWholeTurns es → HasWholeTurns (ds ++ es)
 whole_turns-append ds es one two = turns_begun-append ds es ∙ (λ i. one i ++ two i) ∙ sym (turns_made-append ds es)
 
--- no turn of an object
+-- no turn of an object, and no signal
 abbrev pub HasNoTurns : List Action → Type 0
-HasNoTurns ds = (turns_begun ds ≡ []) × (turns_made ds ≡ [])
+HasNoTurns ds = (turns_begun ds ≡ []) × (turns_made ds ≡ []) × (signals_of ds ≡ [])
 
 -- law: a turn in which the call did what is no turn
 pub whole_turn : (i stamp : ℕ) (entry : ObjectEntry) (ds : List Action) → HasNoTurns ds → HasWholeTurns (Began i stamp ∷ ds ++ Made i (stamp + 1) entry ∷ [])
 whole_turn i stamp entry ds none =
     ap (λ ts. (i, stamp + 1) ∷ ts) (turns_begun-append ds _ ∙ ap (λ ts. ts ++ []) none.0)
     ∙ sym (turns_made-append ds _ ∙ ap (λ ts. ts ++ (i, stamp + 1) ∷ []) none.1)
+
+-- law: it pushes and pops nothing
+pub no_signals : (i stamp : ℕ) (entry : ObjectEntry) (ds : List Action) → HasNoTurns ds → signals_of (Began i stamp ∷ ds ++ Made i (stamp + 1) entry ∷ []) ≡ []
+no_signals i stamp entry ds none = signals_of-append ds (Made i (stamp + 1) entry ∷ []) ∙ ap (λ xs. xs ++ []) none.2
 
 -- the moves of turns
 abbrev begin_told : ℕ × ℕ → ℕ × Shown
@@ -141,10 +147,10 @@ in_middle this all xs ys whole same is =
     IsPermutation-trans (this ∷ all) (this ∷ (xs ++ ys)) whole (IsPermutation-cons this all (xs ++ ys) same)
     (subst (IsPermutation (this ∷ (xs ++ ys))) (sym is) (IsPermutation-sym (xs ++ this ∷ ys) (this ∷ (xs ++ ys)) (IsPermutation-middle xs this ys)))
 
--- what was done, by kinds: entries of timers and of bases, beginnings of turns, and their ends
+-- what was done, by kinds: entries of timers and of bases, beginnings of turns and their ends, pushes and pops
 kinds_noted : (label : Label) (ds : List Action) → wrote ds ≡ [] → let ns = noted_by label ds in
     IsPermutation (all_entered ds)
-    (map told_in (map of_entry ns.entries) ++ (map told_in (map of_base ns.bases) ++ (map begin_told (turns_begun ds) ++ map end_told (turns_made ds))))
+    (map told_in (map of_entry ns.entries) ++ (map told_in (map of_base ns.bases) ++ (map begin_told (turns_begun ds) ++ (map end_told (turns_made ds) ++ signals_told ds))))
 kinds_noted label [] none = IsPermutation-refl []
 kinds_noted label (Entered timer number entry ∷ ds) none = IsPermutation-cons _ _ _ (kinds_noted label ds none)
 kinds_noted label (Wrote number write ∷ ds) none = absurd (cc)
@@ -156,7 +162,7 @@ kinds_noted label (Began i stamp ∷ ds) none =
     let ns = noted_by label ds in
     let es = map told_in (map of_entry ns.entries) in
     let bs = map told_in (map of_base ns.bases) in
-    let rest = map begin_told (turns_begun ds) ++ map end_told (turns_made ds) in
+    let rest = map begin_told (turns_begun ds) ++ (map end_told (turns_made ds) ++ signals_told ds) in
     let this : begin_told (i, stamp + 1) ≡ (stamp + stamp + 1, OfRise (suc i)) = ap (λ n. (n, OfRise (suc i))) (omega arith) in
     in_middle (stamp + stamp + 1, OfRise (suc i)) (all_entered ds) (es ++ bs) rest _
     (subst (IsPermutation (all_entered ds)) (sym (append_assoc es bs rest)) (kinds_noted label ds none))
@@ -166,11 +172,22 @@ kinds_noted label (Made i number entry ∷ ds) none =
     let es = map told_in (map of_entry ns.entries) in
     let bs = map told_in (map of_base ns.bases) in
     let begins = map begin_told (turns_begun ds) in
-    let ends = map end_told (turns_made ds) in
+    let ends = map end_told (turns_made ds) ++ signals_told ds in
     let split : (xs : List (ℕ × Shown)) → es ++ (bs ++ (begins ++ xs)) ≡ (es ++ (bs ++ begins)) ++ xs =
     λ xs. ap (λ ys. es ++ ys) (sym (append_assoc bs begins xs)) ∙ sym (append_assoc es (bs ++ begins) xs) in
     in_middle (number + number, OfRise (suc i)) (all_entered ds) (es ++ (bs ++ begins)) ends _
     (subst (IsPermutation (all_entered ds)) (split ends) (kinds_noted label ds none)) (split ((number + number, OfRise (suc i)) ∷ ends))
+kinds_noted label (Signalled counter number signal ∷ ds) none =
+    let ns = noted_by label ds in
+    let es = map told_in (map of_entry ns.entries) in
+    let bs = map told_in (map of_base ns.bases) in
+    let begins = map begin_told (turns_begun ds) in
+    let ends = map end_told (turns_made ds) in
+    let split : (xs : List (ℕ × Shown)) → es ++ (bs ++ (begins ++ (ends ++ xs))) ≡ (es ++ (bs ++ (begins ++ ends))) ++ xs =
+    λ xs. ap (λ ys. es ++ (bs ++ ys)) (sym (append_assoc begins ends xs)) ∙ ap (λ ys. es ++ ys) (sym (append_assoc bs (begins ++ ends) xs))
+    ∙ sym (append_assoc es (bs ++ (begins ++ ends)) xs) in
+    in_middle (number, OfRise counter) (all_entered ds) (es ++ (bs ++ (begins ++ ends))) (signals_told ds) _
+    (subst (IsPermutation (all_entered ds)) (split (signals_told ds)) (kinds_noted label ds none)) (split ((number, OfRise counter) ∷ signals_told ds))
 
 -- the notes of objects tell their turns
 turns_noted : (label : Label) (ds : List Action) → map (λ n. (n.object, n.number)) (noted_by label ds).objects ≡ turns_made ds
@@ -179,7 +196,8 @@ turns_noted label (Made i number entry ∷ ds) = ap (λ ts. (i, number) ∷ ts) 
 turns_noted label (d ∷ ds) = turns_noted label ds
 
 -- law: what a call entered, in another order, where it wrote nothing and each turn that it began has its entry
-pub noted_entries : (label : Label) (ds : List Action) → wrote ds ≡ [] → HasWholeTurns ds → IsPermutation (all_entered ds) (entries_told (noted_by label ds))
+pub noted_entries : (label : Label) (ds : List Action) → wrote ds ≡ [] → HasWholeTurns ds
+    → IsPermutation (all_entered ds) (entries_told (noted_by label ds) ++ signals_told ds)
 noted_entries label ds none whole =
     let ns = noted_by label ds in
     let es = map told_in (map of_entry ns.entries) in
@@ -190,15 +208,19 @@ noted_entries label ds none whole =
     ap (map begin_told) (whole ∙ sym made) ∙ map-map begin_told place ns.objects ∙ sym (map-map told_in of_turn ns.objects) in
     let ends : map end_told (turns_made ds) ≡ map told_in (map of_object ns.objects) =
     ap (map end_told) (sym made) ∙ map-map end_told place ns.objects ∙ sym (map-map told_in of_object ns.objects) in
+    let those = signals_told ds in
     let kinds = subst (λ xs. IsPermutation (all_entered ds) (es ++ (bs ++ xs)))
-    ((λ i. begins i ++ ends i) ∙ sym (map-append told_in (map of_turn ns.objects) (map of_object ns.objects))) (kinds_noted label ds none) in
+    (sym (append_assoc (map begin_told (turns_begun ds)) (map end_told (turns_made ds)) those)
+    ∙ ap (λ xs. xs ++ those) ((λ i. begins i ++ ends i) ∙ sym (map-append told_in (map of_turn ns.objects) (map of_object ns.objects))))
+    (kinds_noted label ds none) in
     let told : entries_told ns ≡ es ++ (bs ++ map told_in (turn_notes ns.objects)) =
     map-append told_in (map of_entry ns.entries) _ ∙ ap (λ xs. es ++ xs) (map-append told_in (map of_base ns.bases) _
     ∙ ap (λ ws. bs ++ map told_in (map of_write ws ++ turn_notes ns.objects)) (noted_writes label ds)) in
-    subst (IsPermutation (all_entered ds)) (sym told)
-    (IsPermutation-trans (all_entered ds) _ (es ++ (bs ++ map told_in (turn_notes ns.objects))) kinds
+    subst (IsPermutation (all_entered ds)) (ap (λ ys. es ++ ys) (sym (append_assoc bs (map told_in (turn_notes ns.objects)) those))
+    ∙ sym (append_assoc es (bs ++ map told_in (turn_notes ns.objects)) those) ∙ ap (λ xs. xs ++ those) (sym told))
+    (IsPermutation-trans (all_entered ds) _ (es ++ (bs ++ (map told_in (turn_notes ns.objects) ++ those))) kinds
     (IsPermutation-append es es _ _ (IsPermutation-refl es) (IsPermutation-append bs bs _ _ (IsPermutation-refl bs)
-    (IsPermutation-map told_in _ _ (turns_by_kind ns.objects)))))
+    (IsPermutation-append _ _ those those (IsPermutation-map told_in _ _ (turns_by_kind ns.objects)) (IsPermutation-refl those)))))
 
 -- ---- in another order
 
@@ -285,7 +307,7 @@ entered_all t k (e ∷ es) = ap (λ xs. (k + 1, OfTimer t (entry_stamped e)) ∷
 
 -- law: they are no turns
 pub entered_turns : (t k : ℕ) (es : List seq.Entry) → HasNoTurns (entered_on t k es)
-entered_turns t k [] = (refl, refl)
+entered_turns t k [] = (refl, refl, refl)
 entered_turns t k (e ∷ es) = entered_turns t (k + 1) es
 
 -- law: they are no looks and of no object

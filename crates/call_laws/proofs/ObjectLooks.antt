@@ -22,7 +22,6 @@ use Rattle.script_text.specs.declared.script.Script.{Script}
 use Rattle.run_history.specs.Truths.{HadEntries}
 use Rattle.run_history.specs.Runs.{witness_of, Ending}
 use Rattle.call_laws.proofs.ObjectTurns.{entries_had}
-use Rattle.run_history.specs.Signals.{popped_by}
 use Rattle.lane_notes.specs.Called.{lane_caller, LaneOf, LeavesSignals, with_done}
 use Rattle.lane_notes.proofs.Kept.{Follows, IsNextCall, KeepsCall}
 use Rattle.lane_notes.specs.Worlds.{WorldOf}
@@ -33,8 +32,7 @@ use Rattle.script_text.specs.declared.script.Kind.{Kind}
 use Rattle.record_text.specs.declared.record.RunRecord.{RunRecord}
 use Rattle.timer_fd.specs.States.{Descriptor}
 
-module _ {s : Script} {x : WorldOf} {l : LaneOf} (m : LaneOf) {call : Call} (next : IsNextCall s x l call) (a : Answer)
-    (popped : popped_by a ≡ []) {i : ℕ} {object : Object} {stamp : ℕ}
+module _ {s : Script} {x : WorldOf} {l : LaneOf} (m : LaneOf) {call : Call} (next : IsNextCall s x l call) (a : Answer) {i : ℕ} {object : Object} {stamp : ℕ}
     {log : List Receipt} {object_log : List ObjectReceipt}
     (looks : LooksAtObject (lane_caller l.pass [] []) (lane_caller m.pass log object_log) i object stamp)
     (clock : LooksAtClock l.pass m.pass) (signals : LeavesSignals l.pass m.pass) (notes : m.notes ≡ with_done l.notes l.label log object_log) where
@@ -51,7 +49,7 @@ module _ {s : Script} {x : WorldOf} {l : LaneOf} (m : LaneOf) {call : Call} (nex
         notes = notes_alone l m looks.log looks.object_log notes;
       } in
       let at = subst (λ made. StateAfter object_meaning made i (seen_of m.pass.objects i) looks.reads.state) next.objects looks.reads.at in
-      keeps_sight next a popped only does (λ e follows joined has. seen e follows (entries_had i stamp m.pass.timers.known joined follows.timers looks.told)
+      keeps_sight next a only does (λ e follows joined has. seen e follows (entries_had i stamp m.pass.timers.known joined follows.timers looks.told)
       (looks.state ∙ object_seen s x next.world i (seen_of m.pass.objects i) looks.reads.state at e (follows.objects i)
       ∙ ap (λ n. object_after s e.run i n (kind_of s i)) (sym looks.stamp)))
 

@@ -2,10 +2,9 @@
 -- it made the entry.
 use Rattle.call_laws.proofs.Parts.{ClockHas}
 use Rattle.call_laws.proofs.Entering.{EntersOne}
-use Rattle.call_laws.proofs.Noted.{HasNoTurns, notes_of, notes_of-append, whole_turn, with_done-joins}
-use Rattle.call_laws.proofs.Parts.{part_began, part_made, part_none, part_then}
+use Rattle.call_laws.proofs.Noted.{HasNoTurns, no_signals, notes_of, notes_of-append, same_notes, whole_turn, with_done-joins}
+use Rattle.call_laws.proofs.Parts.{IsPart, part_began, part_made, part_noted, part_none, part_then}
 use Rattle.call_laws.proofs.Stays.{timer_stays}
-use Rattle.lane_notes.specs.Notes.{both_noted}
 use Rattle.std.proofs.Common.{◌≤◌, ◌<◌, ◌≡◌, ℕ, suc, ◌+◌, Option, None, Some, List, [], length, arith, refl, sym, ap, ◌∙◌, subst, Bool, ◌∷◌, ◌++◌}
 use Rattle.ktime.specs.Readings.{ClockReading}
 use Rattle.base_row.specs.declared.log.Receipt.{Receipt}
@@ -19,7 +18,7 @@ use Rattle.record_text.specs.declared.record.ObjectEntry.{ObjectEntry}
 use Rattle.run_history.specs.Objects.{armed_in_phase}
 use Rattle.script_text.specs.declared.script.Script.{Script}
 use Rattle.lane_notes.specs.Objects.{arm_noted}
-use Rattle.run_history.specs.Runs.{witness_of, Ending, IsJoined, moves_spans, signal_spans}
+use Rattle.run_history.specs.Runs.{witness_of, Ending, IsJoined, moves_spans}
 use Rattle.run_history.specs.Truths.{IsTrueStart, sight_of}
 use Rattle.run_history.specs.Actions.{Began}
 use Rattle.run_history.specs.Witnesses.{OfRise}
@@ -31,10 +30,9 @@ use Rattle.timer_objects.specs.Turns.{HasTurn}
 use Rattle.pass_names.specs.Passes.{Begins}
 use Rattle.call_laws.proofs.ObjectTurns.{enters_entry, enters_turn, turn_begun}
 use Rattle.run_history.proofs.ObjectsMade.{anew_actions}
-use Rattle.run_history.proofs.OthersMade.{turning}
-use Rattle.run_history.specs.Signals.{popped_by, pushed_in}
-use Rattle.signal_queue.specs.declared.signal.Turn.{Turn}
-use Rattle.call_laws.proofs.Signals.{IsNoTrigger, pushed_turn, TurnsPart}
+use Rattle.run_history.proofs.OthersMade.{plain}
+use Rattle.call_laws.proofs.Signals.{turns_alone}
+use Rattle.lane_notes.specs.Called.{LeavesSignals}
 use Rattle.lane_notes.specs.Called.{lane_caller, LaneOf, ReadsClock, with_done}
 use Rattle.lane_notes.proofs.Kept.{Follows, IsNextCall, KeepsCall, seen_by}
 use Rattle.lane_notes.proofs.SeenMore.{goes_before}
@@ -201,21 +199,11 @@ module _ {s : Script} {x : WorldOf} {l : LaneOf} (m : LaneOf) {call : Call} (nex
   no_turns None = k.no_turns
   no_turns (Some one) = k.no_turns
 
-  -- law: with an entry that is no expiry it pushed nothing
-  pub made_unpushed : (entry : ObjectEntry) → IsNoTrigger entry → pushed_in s (anew_actions timer cancel k.start stamp entry) ≡ []
-  made_unpushed entry never = pushed_turn s timer stamp entry (cancels timer cancel ++ k.start) (no_turns cancel) never
-
-  module _ (reads : ReadsClock l.pass m.pass reading) (notes : m.notes ≡ with_done l.notes l.label log object_log) {entry : ObjectEntry}
-      (noted : IsNotedAs (ClockHas reading) made reply entry) where
-    -- law: a lane keeps the call, where it fits
-    pub keeps_made : (a : Answer) (turns : List (ℕ × Turn))
-        → TurnsPart s l.pass.signals.knows m.pass.signals.knows (popped_by a ++ pushed_in s (anew_actions timer cancel k.start stamp entry)) turns
-        → ((e : Ending) → Follows m.pass e → IsJoined s e → IsKept (witness_of s e) (moves_spans e) (signal_spans e) l.label
-        (turning reading.stamp turn_place (length m.pass.timers.known.seen) (anew_actions timer cancel k.start stamp entry) turns) receipts call a
-        (seen_by l.pass) (seen_by m.pass) → (moves_spans e).first l.label ≤ turn_place
-        → FitsCall (witness_of s e) l.label call a (seen_by l.pass) (seen_by m.pass))
-        → KeepsCall s l call a m
-    keeps_made a turns turned fits =
+  module _ (notes : m.notes ≡ with_done l.notes l.label log object_log) {entry : ObjectEntry} (noted : IsNotedAs (ClockHas reading) made reply entry) where
+    -- law: a turn with an entry is a part of its call
+    pub made_part : IsPart s (ClockHas reading) l.label l.pass.timers.known l.pass.objects m.pass.timers.known m.pass.objects
+        (anew_actions timer cancel k.start stamp entry) receipts (notes_of l.label log object_log)
+    made_part =
         let p = l.pass in
         let q = m.pass in
         let receipt_of : ObjectReply → ObjectReceipt = λ r. record { object = timer; number = number; call = made; reply = r } in
@@ -225,9 +213,20 @@ module _ {s : Script} {x : WorldOf} {l : LaneOf} (m : LaneOf) {call : Call} (nex
         (subst (λ r. IsNotedAs (ClockHas reading) made r entry) enters.reply noted) closes in
         let found = part_none {v = begun} {p = p.objects} {w = begin} behind (k.mine ∙ sym turn.begins.looks.mine) in
         let whole = part_then (part_began timer stamp opens) (part_then found (part_then k.part.1 entered)) in
-        keeps_part next m a (turning reading.stamp turn_place (length q.timers.known.seen) (anew_actions timer cancel k.start stamp entry) turns)
-        whole (reading_goes_on p q reading reads) (clock_left reads.same)
-        (notes ∙ with_done-joins l.notes l.label log object_log ∙ ap (both_noted l.notes) (ap (notes_of l.label log) log_is
-        ∙ ap (λ rs. notes_of l.label rs this) (sym (append-nil log)) ∙ notes_of-append l.label log [] [] this)) refl reads.count
-        (whole_turn timer stamp entry (cancels timer cancel ++ k.start) (no_turns cancel)) turned
+        part_noted (same_notes (ap (notes_of l.label log) log_is ∙ ap (λ rs. notes_of l.label rs this) (sym (append-nil log))
+        ∙ notes_of-append l.label log [] [] this)) whole
+
+    -- law: a lane keeps the call, where it fits
+    pub keeps_made : ReadsClock l.pass m.pass reading → LeavesSignals l.pass m.pass → (a : Answer)
+        → ((e : Ending) → Follows m.pass e → IsJoined s e → IsKept (witness_of s e) (moves_spans e) l.label
+        (plain reading.stamp turn_place (length m.pass.timers.known.seen) (anew_actions timer cancel k.start stamp entry)) receipts call a
+        (seen_by l.pass) (seen_by m.pass) → (moves_spans e).first l.label ≤ turn_place
+        → FitsCall (witness_of s e) l.label call a (seen_by l.pass) (seen_by m.pass))
+        → KeepsCall s l call a m
+    keeps_made reads signals a fits =
+        let its = anew_actions timer cancel k.start stamp entry in
+        keeps_part next m a (plain reading.stamp turn_place (length m.pass.timers.known.seen) its) made_part
+        (reading_goes_on l.pass m.pass reading reads) (clock_left reads.same) (notes ∙ with_done-joins l.notes l.label log object_log) refl reads.count
+        (whole_turn timer stamp entry (cancels timer cancel ++ k.start) (no_turns cancel))
+        (turns_alone l.pass m.pass its signals (no_signals timer stamp entry (cancels timer cancel ++ k.start) (no_turns cancel)))
         (λ e follows joined has kept low. fits e follows joined kept (omega (arith, turn_from, low)))

@@ -55,8 +55,8 @@ use Rattle.run_history.specs.Promises.{RunGoesOn}
 use Rattle.run_history.specs.Witnesses.{Evacuation, Trace, standing_along, timer_along}
 use Rattle.run_history.proofs.OffLineMade.{evacuating, offline_made, online_made, shift_by}
 use Rattle.run_history.proofs.OthersMade.{plain}
-use Rattle.run_history.specs.Signals.{popped_by, pushed_in}
-use Rattle.call_laws.proofs.Signals.{pushed-append, turns_alone}
+use Rattle.lane_notes.proofs.Kept.{signals_of}
+use Rattle.call_laws.proofs.Signals.{signals_of-append, turns_alone}
 use Rattle.lane_notes.specs.Called.{CallsOffline, CallsOnline, LaneOf, LeavesSignals, ReadsClock, offline_told, online_told, with_done, with_offline_told, with_online_told}
 use Rattle.lane_notes.specs.Worlds.{WorldOf}
 use Rattle.call_laws.proofs.CallKept.{LooksAtClock, clock_left, opened_timers, reading_goes_on}
@@ -89,13 +89,13 @@ module _ {s : Script} {x : WorldOf} {l : LaneOf} {call : Call} (next : IsNextCal
     runs_none base none = λ u. ap (runs_on base) (timer_last u) ∙ none u
 
   -- law: a lane keeps a call that only looked, and saw nothing more of bases, by how these stood before
-  keeps_standing : (a : Answer) → popped_by a ≡ [] → (looks : LooksOn l.pass.timers.known m.pass.timers.known)
+  keeps_standing : (a : Answer) (looks : LooksOn l.pass.timers.known m.pass.timers.known)
       → ((b : ℕ) → shifts_of b seen ≡ shifts_of b l.pass.timers.known.seen) → m.pass.objects ≡ l.pass.objects → LooksAtClock l.pass m.pass
       → LeavesSignals l.pass m.pass → m.notes ≡ l.notes → DoesNothing s m call a → ((e : Ending)
       → ((b : ℕ) → standing_along (witness_of s e) (length seen) b ≡ standing_then x.timers.about l.pass.timers.known.seen b) → IsToldSo s l m call a e)
       → KeepsCall s l call a m
-  keeps_standing a popped looks same objects clock signals notes does told =
-      keeps_sight next a popped (looks_alone looks.seen looks.mine objects clock signals notes) does (λ e follows joined has.
+  keeps_standing a looks same objects clock signals notes does told =
+      keeps_sight next a (looks_alone looks.seen looks.mine objects clock signals notes) does (λ e follows joined has.
       told e (λ b. standing_stays next.world.timers joined seen follows.timers b
       ∙ after_entries-shifts_of (first_system x.timers.about.timers) b seen ∙ ap (standing_after_all first_standing) (same b)
       ∙ sym (after_entries-shifts_of (first_system x.timers.about.timers) b l.pass.timers.known.seen)))
@@ -161,27 +161,27 @@ module _ {s : Script} {x : WorldOf} {l : LaneOf} (m : LaneOf) {base heir budget 
   shift_turns (answers.Offline count stamp) = refl
   shift_turns a = refl
 
-  -- and pushes no signals
-  moves_pushed : (moved : List Evacuation) → pushed_in s (flat_map (evacuates heir reading.stamp) moved) ≡ []
-  moves_pushed [] = refl
-  moves_pushed (e ∷ moved) = moves_pushed moved
+  -- and pushes and pops no signals
+  moves_signals : (moved : List Evacuation) → signals_of (flat_map (evacuates heir reading.stamp) moved) ≡ []
+  moves_signals [] = refl
+  moves_signals (e ∷ moved) = moves_signals moved
 
-  shift_pushed : (a : Answer) → pushed_in s (shift_by base heir a) ≡ []
-  shift_pushed (answers.Offline count stamp) = refl
-  shift_pushed a = refl
+  shift_signals : (a : Answer) → signals_of (shift_by base heir a) ≡ []
+  shift_signals (answers.Offline count stamp) = refl
+  shift_signals a = refl
 
   -- law: the call ended with this part behind the moves
   ended : (a : Answer) {ends : List Action} {notes : List PlacedEntry} {added : NotesOf}
       → IsPart s (ClockHas reading) l.label g.evacuates.mid l.pass.objects m.pass.timers.known l.pass.objects ends notes added → shift_by base heir a ≡ ends
-      → m.notes ≡ both_noted l.notes (both_noted (notes_of l.label off.log []) added) → popped_by a ≡ [] → DoesSo a → HoldsSo a
+      → m.notes ≡ both_noted l.notes (both_noted (notes_of l.label off.log []) added) → DoesSo a → HoldsSo a
       → KeepsCall s l (calls.Offline base heir budget) a m
-  ended a last are joins popped does holds =
+  ended a last are joins does holds =
       keeps_part next m a (trace_of a) (part_as (ap (λ es. moves ++ es) (sym are))
       (part_alone objects (part_then (part_none {w = g.begins} g.looks.seen g.looks.mine) (part_then off.part last))))
       (reading_goes_on l.pass m.pass reading reads) (clock_left reads.same) joins refl reads.count
       (whole_turns-append moves (shift_by base heir a) (moves_turns off.moved) (shift_turns a))
-      (turns_alone l.pass m.pass a (trace_of a).actions signals popped (pushed-append s moves (shift_by base heir a)
-      ∙ (λ i. moves_pushed off.moved i ++ shift_pushed a i))) (λ e follows joined has kept low.
+      (turns_alone l.pass m.pass (trace_of a).actions signals (signals_of-append moves (shift_by base heir a)
+      ∙ (λ i. moves_signals off.moved i ++ shift_signals a i))) (λ e follows joined has kept low.
       let goes = goes_before last.enters.seen follows.timers in
       offline_made base heir budget off.moved a kept low (does off.many e) (
         off.keeps e joined goes,
@@ -191,7 +191,7 @@ module _ {s : Script} {x : WorldOf} {l : LaneOf} (m : LaneOf) {base heir budget 
 
   -- law: without an entry of the base
   pub ended_by_look : (a : Answer) → shift_by base heir a ≡ [] → LooksOn g.evacuates.mid m.pass.timers.known → log ≡ g.evacuates.between
-      → m.notes ≡ with_done l.notes l.label log.receipts [] → popped_by a ≡ [] → DoesSo a → HoldsSo a → KeepsCall s l (calls.Offline base heir budget) a m
+      → m.notes ≡ with_done l.notes l.label log.receipts [] → DoesSo a → HoldsSo a → KeepsCall s l (calls.Offline base heir budget) a m
   ended_by_look a none looks same notes =
       ended a (part_none looks.seen looks.mine) none
       (notes ∙ logged same ∙ ap (both_noted l.notes) (no_notes-joins (notes_of l.label off.log [])))
@@ -205,7 +205,7 @@ module _ {s : Script} {x : WorldOf} {l : LaneOf} (m : LaneOf) {base heir budget 
       ended (answers.Offline number stamp) (part_shift _ _ _ (enters_shift (many_there next) shift counted)) refl
       (notes ∙ ap (λ ns. with_shift ns l.label base stamp (shifts.Offline heir)) (logged same)
       ∙ with_shift-joins (both_noted l.notes (notes_of l.label off.log [])) l.label base stamp (shifts.Offline heir)
-      ∙ both_noted-assoc l.notes (notes_of l.label off.log []) (one_noted l.label (Shifted base stamp (shifts.Offline heir)))) refl
+      ∙ both_noted-assoc l.notes (notes_of l.label off.log []) (one_noted l.label (Shifted base stamp (shifts.Offline heir))))
 
 -- ---- off line
 
@@ -222,27 +222,27 @@ keeps_offline {s = s} {x = x} {l = l} {m = m} {base = base} {heir = heir} {budge
     o : Opening
     o = x.timers.about
 
-    quiet : (a : Answer) → popped_by a ≡ [] → OnlyLooks l.pass.timers.known m.pass.timers.known c.fresh c.log
+    quiet : (a : Answer) → OnlyLooks l.pass.timers.known m.pass.timers.known c.fresh c.log
         → m.notes ≡ with_done l.notes l.label c.log.receipts []
         → DoesNothing s m (calls.Offline base heir budget) a → ((e : Ending)
         → ((b : ℕ) → standing_along (witness_of s e) (length m.pass.timers.known.seen) b ≡ standing_then o l.pass.timers.known.seen b)
         → IsToldSo s l m (calls.Offline base heir budget) a e) → KeepsCall s l (calls.Offline base heir budget) a m
-    quiet a popped only notes =
-        keeps_standing next m a popped only.looks (only.keeps c.first) c.objects (clock_left c.reads.same) c.signals
+    quiet a only notes =
+        keeps_standing next m a only.looks (only.keeps c.first) c.objects (clock_left c.reads.same) c.signals
         (notes_alone l m (ap (λ (k : LogOf Receipt). k.receipts) only.sink ∙ c.empty) refl notes)
 
     by_answer : (answer : OfflineAnswer) → OfflineFits kept o base heir c.reading l.pass.timers.known m.pass.timers.known budget answer c.fresh c.log
         → m.notes ≡ with_offline_told (with_done l.notes l.label c.log.receipts []) l.label base heir answer
         → KeepsCall s l (calls.Offline base heir budget) (offline_told answer) m
-    by_answer (offs.AlreadyOffline n) fits notes = quiet (answers.Already n) refl fits.0 notes (λ e. refl)
+    by_answer (offs.AlreadyOffline n) fits notes = quiet (answers.Already n) fits.0 notes (λ e. refl)
         (λ e now. (ap (λ (y : Standing). y.stamp) (now base) ∙ sym fits.2, subst (λ (y : Standing). IsSome y.heir) (sym (now base)) fits.1))
-    by_answer (offs.HeirOffline n) fits notes = quiet (answers.HeirOffline n) refl fits.0 notes (λ e. refl)
+    by_answer (offs.HeirOffline n) fits notes = quiet (answers.HeirOffline n) fits.0 notes (λ e. refl)
         (λ e now. (
           ap (λ (y : Standing). y.stamp) (now heir) ∙ sym fits.3,
           subst (λ (y : Standing). IsSome y.heir) (sym (now heir)) fits.2,
           ap (λ (y : Standing). y.heir) (now base) ∙ fits.1,
         ))
-    by_answer (offs.BaseSpent n) fits notes = quiet (answers.BaseSpent n) refl fits.0 notes (λ e. refl)
+    by_answer (offs.BaseSpent n) fits notes = quiet (answers.BaseSpent n) fits.0 notes (λ e. refl)
         (λ e now. (
           ap (λ (y : Standing). y.stamp) (now base) ∙ sym fits.4,
           ap (λ (y : Standing). y.heir) (now base) ∙ fits.1,
@@ -251,7 +251,7 @@ keeps_offline {s = s} {x = x} {l = l} {m = m} {base = base} {heir = heir} {budge
         ))
     by_answer (offs.Busy n t g) fits notes =
         let end = fits.evacuates.last in
-        ended_by_look m next c.reading c.reads c.objects c.signals c.empty fits (answers.OfflineBusy n t g) refl end.1.0.looks end.1.0.sink notes refl
+        ended_by_look m next c.reading c.reads c.objects c.signals c.empty fits (answers.OfflineBusy n t g) refl end.1.0.looks end.1.0.sink notes
         (λ many e. (record { counted = omega (arith, end.0, many); done = refl }, omega (arith, end.0, fits.evacuates.few)))
         (λ e follows joined may. (
           may,
@@ -265,7 +265,7 @@ keeps_offline {s = s} {x = x} {l = l} {m = m} {base = base} {heir = heir} {budge
         ))
     by_answer (offs.More n) fits notes =
         let end = fits.evacuates.last in
-        ended_by_look m next c.reading c.reads c.objects c.signals c.empty fits (answers.OfflineMore n) refl end.1.1.0.looks end.1.1.0.sink notes refl
+        ended_by_look m next c.reading c.reads c.objects c.signals c.empty fits (answers.OfflineMore n) refl end.1.1.0.looks end.1.1.0.sink notes
         (λ many e. (
           record { counted = omega (arith, end.0, many); done = refl },
           omega (arith, end.0, fits.evacuates.few, none_more budget (length fits.evacuates.timers) end.1.1.2),
@@ -277,7 +277,7 @@ keeps_offline {s = s} {x = x} {l = l} {m = m} {base = base} {heir = heir} {budge
         ))
     by_answer (offs.Spent n t stamp) fits notes =
         let end = fits.evacuates.last in
-        ended_by_look m next c.reading c.reads c.objects c.signals c.empty fits (answers.OfflineSpent n t stamp) refl end.1.0.looks end.1.0.sink notes refl
+        ended_by_look m next c.reading c.reads c.objects c.signals c.empty fits (answers.OfflineSpent n t stamp) refl end.1.0.looks end.1.0.sink notes
         (λ many e. (
           record { counted = omega (arith, end.0, many); done = refl },
           omega (arith, end.0, ltb-true (length fits.evacuates.timers) budget end.1.2),
@@ -318,12 +318,12 @@ keeps_online {s = s} {x = x} {l = l} {m = m} {base = base} next c =
     by_answer : (answer : OnlineAnswer) → OnlineFits x.timers.about l.pass.timers.known m.pass.timers.known base answer
         → m.notes ≡ with_online_told l.notes l.label base answer → KeepsCall s l (calls.Online base) (online_told answer) m
     by_answer (ons.AlreadyOnline n) fits notes =
-        keeps_standing next m (answers.Already n) refl fits.0 (fits.1 c.first) c.objects (clock_left c.clock) c.signals notes (λ e. refl)
+        keeps_standing next m (answers.Already n) fits.0 (fits.1 c.first) c.objects (clock_left c.clock) c.signals notes (λ e. refl)
         (λ e now. (ap (λ (y : Standing). y.stamp) (now base) ∙ sym fits.3, ap (λ (y : Standing). y.heir) (now base) ∙ fits.2))
     by_answer (ons.Online n) fits notes =
         keeps_part next m (answers.Online n)
         (plain (length (writes m.pass.clock.knows)) (length l.pass.timers.known.seen) (length m.pass.timers.known.seen) (Shifted base n shifts.Online ∷ []))
         (part_alone {IsSo = λ c. Unit} c.objects (part_shift _ _ _ (enters_shift (many_there next) fits.0 fits.1))) (λ e goes. tt) (clock_left c.clock)
         (notes ∙ with_shift-joins l.notes l.label base n shifts.Online) refl refl refl
-        (turns_alone l.pass m.pass (answers.Online n) (Shifted base n shifts.Online ∷ []) c.signals refl refl)
+        (turns_alone l.pass m.pass (Shifted base n shifts.Online ∷ []) c.signals refl)
         (λ e follows joined has kept low. online_made base n kept low)

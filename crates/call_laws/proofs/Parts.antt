@@ -31,7 +31,7 @@ use Rattle.call_laws.proofs.Entering.{enters-append, enters_at, enters_none, Ent
 use Rattle.call_laws.proofs.Noted.{HasWholeTurns, entered_all, entered_noted, entered_on, entered_only, noted_by, noted_by-append, notes_of, notes_of-append, one_noted, same-both, same_notes, SameNotes}
 use Rattle.lane_notes.specs.Notes.{both_noted, no_notes, NotesOf}
 use Rattle.script_text.specs.Declarations.{declareds_of, terms_of}
-use Rattle.run_history.specs.Actions.{Shifted, Skipped, Wrote}
+use Rattle.run_history.specs.Actions.{Shifted, Signalled, Skipped, Wrote}
 use Rattle.run_history.specs.Witnesses.{OfBase, OfRise}
 use Rattle.lane_notes.proofs.PartLists.{no_notes-joins}
 use Rattle.lane_notes.proofs.SeenMore.{stands_on}
@@ -49,9 +49,9 @@ use Rattle.hr_timers.specs.Handlers.{asks}
 use Rattle.hr_timers.specs.declared.handler.Restart.{Restart}
 use Rattle.timer_objects.specs.Callbacks.{look_receipt}
 use Rattle.timer_objects.specs.QueuedFirings.{QueuedFiring}
-use Rattle.signal_queue.specs.Rules.{turns}
+use Rattle.signal_queue.specs.declared.signal.Signal.{Signal}
 use Rattle.signal_queue.specs.declared.signal.Turn.{Turn}
-use Rattle.run_history.specs.Signals.{pushed_in}
+use Rattle.lane_notes.proofs.Kept.{signals_of}
 use Rattle.call_laws.proofs.Signals.{TurnsPart}
 use Rattle.record_text.specs.declared.record.CallbackReply.{CallbackReply}
 use Rattle.record_text.specs.declared.record.Entry.{Entry}
@@ -222,6 +222,11 @@ module _ {s : Script} {IsSo : List ClockLine → Type 0} {label : Label} where
       → IsPart s IsSo label v p w p (Began i stamp ∷ []) (one.0 ∷ []) no_notes
   part_began i stamp one = timers_only one.1 (ap (λ (x : ℕ × Shown). x ∷ []) one.2) refl refl (tt, tt) (λ i. (refl, refl))
 
+  -- law: a push or a pop
+  pub part_signalled : {v : KnownOfTimers} {p : ObjectsPass} {w : KnownOfTimers} (k number : ℕ) (signal : Signal)
+      (one : EntersOne s IsSo v w (number, OfRise k)) → IsPart s IsSo label v p w p (Signalled k number signal ∷ []) (one.0 ∷ []) no_notes
+  part_signalled k number signal one = timers_only one.1 (ap (λ (x : ℕ × Shown). x ∷ []) one.2) refl refl (tt, tt) (λ i. (refl, refl))
+
   -- law: an entry of an object, which ends its turn
   pub part_made : {v w : KnownOfTimers} {p q : ObjectsPass} {id : ℕ} {step : ObjectMove} {entry : ObjectEntry}
       (adds : Adds p.knows.pass q.knows.pass id (step ∷ [])) → q.knows.opening ≡ p.knows.opening → IsNotedAs IsSo step.call step.reply entry
@@ -327,10 +332,6 @@ pub record IsClaimed (s : Script) (base : ℕ) (c : ClaimNumbers) (reading : Clo
   pub more : count_owned (TimersList c.timer) k.seen < count_owned (TimersList c.timer) v.seen
   pub within : c.number ≤ count_owned (TimersList c.timer) v.seen
 
--- the pushes and pops that the handler's pass of the queue has seen
-abbrev pub turns_of : QueuedFiring → List Turn
-turns_of h = turns h.signal_pass.now.knows
-
 -- What a claim's function did: with the claim it is a part of the call, so that its look stands behind an entry of the part. And what it promises of
 -- every run that goes on from there.
 pub record BodyKept (s : Script) (label : Label) {base : ℕ} {c : ClaimNumbers} {reading : ClockReading} {k v : KnownOfTimers}
@@ -345,11 +346,11 @@ pub record BodyKept (s : Script) (label : Label) {base : ℕ} {c : ClaimNumbers}
   pub part : IsPart s (ClockHas reading) label k h.objects_pass.now w h'.objects_pass.now
       (Entered c.timer c.number (claim_in base reading.stamp c) ∷ body) (claim.entered.0 ∷ notes) (notes_of label (claim_receipt reading c ∷ more) object_more)
   pub turned : List (ℕ × Turn)
-  pub turns : TurnsPart s h.signal_pass.now.knows h'.signal_pass.now.knows (pushed_in s body) turned
-  pub ran : (e : Ending) → IsJoined s e → promises.RunGoesOn w.seen e → promises.GoesOnSignals (turns_of h') e → (finish : ℕ) (restarted : Restarted)
-      → IsBody (sight_of (witness_of s e) (length v.seen) (length w.seen)) s.limit (kind_of s c.timer) reading.stamp
+  pub turns : TurnsPart s h.signal_pass.now.knows h'.signal_pass.now.knows (signals_of body) turned
+  pub ran : (e : Ending) → IsJoined s e → promises.RunGoesOn w.seen e → (finish : ℕ) (restarted : Restarted)
+      → IsBody (sight_of (witness_of s e) (length v.seen) (length w.seen)) s (kind_of s c.timer) reading.stamp
       (fired_of c body finish (asks restart) restarted)
-      × ReplyHolds (witness_of s e) (length (turns_of h), length (turns_of h')) (length w.seen) body
+      × ReplyHolds (witness_of s e) e.order (length v.seen) (length w.seen) notes body
 
 module _ {s : Script} {label : Label} {base : ℕ} {c : ClaimNumbers} {reading : ClockReading} {k v w : KnownOfTimers} {p : ObjectsPass}
     (claim : IsClaimed s base c reading k v) where

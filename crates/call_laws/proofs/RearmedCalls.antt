@@ -45,23 +45,19 @@ use Rattle.record_text.specs.declared.record.Armed.{Armed}
 use Rattle.run_history.specs.Actions.{Action}
 use Rattle.run_history.specs.Fits.{FitsCall}
 use Rattle.run_history.specs.Receipts.{PlacedEntry}
-use Rattle.run_history.specs.Runs.{witness_of, Ending, IsJoined, moves_spans, signal_spans}
+use Rattle.run_history.specs.Runs.{witness_of, Ending, IsJoined, moves_spans}
 use Rattle.run_history.specs.Truths.{sight_of}
 use Rattle.run_history.proofs.Kept.{IsKept}
 use Rattle.run_history.proofs.ObjectsMade.{IsRearmed, rearming_actions}
-use Rattle.run_history.proofs.OthersMade.{plain, turning}
-use Rattle.run_history.specs.Signals.{popped_by}
-use Rattle.signal_queue.specs.declared.signal.Turn.{Turn}
+use Rattle.run_history.proofs.OthersMade.{plain}
 use Rattle.base_row.specs.declared.log.Receipt.{Receipt}
 use Rattle.timer_objects.specs.declared.log.ObjectReceipt.{ObjectReceipt}
-use Rattle.std.proofs.Common.{◌++◌}
-use Rattle.std.proofs.lemmas.List.{append-nil}
-use Rattle.call_laws.proofs.Signals.{IsNoTrigger, popped_accept, popped_read, turns_none, TurnsPart}
 use Rattle.pass_names.proofs.Passes.{begins_length, begins_refl}
 use Rattle.call_laws.proofs.CallKept.{clock_left}
-use Rattle.call_laws.proofs.Parts.{noted_at}
+use Rattle.call_laws.proofs.Parts.{ClockHas, IsNotedAs, IsPart, noted_at}
+use Rattle.call_laws.proofs.Noted.{notes_of}
 use Rattle.lane_notes.proofs.Declared.{declared_base}
-use Rattle.call_laws.proofs.ObjectMade.{has_begun, keeps_made, made_unpushed, receipts, start_is, stop_first, stop_last, turn_found, turn_place}
+use Rattle.call_laws.proofs.ObjectMade.{has_begun, keeps_made, made_part, receipts, start_is, stop_first, stop_last, turn_found, turn_place}
 use Rattle.call_laws.proofs.Rearmed.{like_restart, rearm_part, RearmPart, wanted_timely}
 use Rattle.script_text.specs.declared.script.Call.{Call}
 use Rattle.timer_objects.specs.declared.wanting.Rearming.{Rearming}
@@ -88,14 +84,14 @@ module _ {s : Script} {x : WorldOf} {l : LaneOf} (m : LaneOf) {call : Call}
     (reads : ReadsClock l.pass m.pass reading) (notes : m.notes ≡ with_done l.notes l.label log object_log) {r : Rearming} {reply : ObjectReply}
     (made : RearmingMade x.objects x.timers.about (lane_caller l.pass [] []) (lane_caller m.pass log object_log) timer r reading reply)
     (entry : Armed → ObjectEntry) where
-  part : RearmPart s x l timer made.begun made.worked (decl_at x.objects timer).base reading made.arm log
+  pub part : RearmPart s x l timer made.begun made.worked (decl_at x.objects timer).base reading made.arm log
   part =
       let object = made.enters.commits.state in
       rearm_part next timer reading (wanted_by r object reading) made.arm (wanted_timely r object reading) made.turn.begins.looks made.arms
 
-  rearmed : {e : Ending} → Follows m.pass e → IsJoined s e
+  pub rearmed : {e : Ending} → Follows m.pass e → IsJoined s e
       → IsRearmed (witness_of s e) l.label (receipts m next made.enters made.turn part.does (begins_refl made.begun.seen)) reading.stamp
-      (turn_place m next made.enters made.turn part.does (begins_refl made.begun.seen)) (length m.pass.timers.known.seen) timer (arm_noted made.arm)
+      (turn_place m next made.enters made.turn part.does (begins_refl made.begun.seen)) (length m.pass.timers.known.seen) timer [] (arm_noted made.arm)
       part.does.start (length made.enters.commits.adds.before)
   rearmed {e = e} follows joined = record {
     ns = part.ns;
@@ -121,46 +117,30 @@ module _ {s : Script} {x : WorldOf} {l : LaneOf} (m : LaneOf) {call : Call}
         (like_restart x.timers.about made.worked timer made.arm _ made.bears);
   }
 
-  -- what such a call's trace and its receipts are by in a run that goes on from there
-  abbrev FitsAs : Answer → List (ℕ × Turn) → Type 0
-  FitsAs b turns = (e : Ending) → Follows m.pass e → IsJoined s e → (begin last : ℕ) (arm : Armed) (start : List Action) (stamp : ℕ) (notes : List PlacedEntry)
-      → stamp ≡ length made.enters.commits.adds.before → IsKept (witness_of s e) (moves_spans e) (signal_spans e) l.label
-      (turning reading.stamp begin last (rearming_actions timer start stamp (entry arm)) turns) notes call b (seen_by l.pass) (seen_by m.pass)
-      → (moves_spans e).first l.label ≤ begin → IsRearmed (witness_of s e) l.label notes reading.stamp begin last timer arm start stamp
-      → FitsCall (witness_of s e) l.label call b (seen_by l.pass) (seen_by m.pass)
+  module _ (noted : object_entry_noted (rearming_call r reading made.arm) reply ≡ Some (entry (arm_noted made.arm)))
+      (no_skip : skip_generation (rearming_call r reading made.arm) reply ≡ None)
+      (shows : (clock : List ClockLine)
+      → ShowsObjectCall clock (rearming_call r (reading_at clock reading.stamp) made.arm) reply (entry (arm_noted made.arm))) where
+    as_noted : IsNotedAs (ClockHas reading) (rearming_call r reading made.arm) reply (entry (arm_noted made.arm))
+    as_noted = noted_at reading (λ r'. rearming_call r r' made.arm) reply (entry (arm_noted made.arm)) noted no_skip shows
 
-  -- law: a lane keeps a call on an object that may arm the object's timer again and made an entry, where such calls fit
-  pub keeps_rearming_with : object_entry_noted (rearming_call r reading made.arm) reply ≡ Some (entry (arm_noted made.arm))
-      → skip_generation (rearming_call r reading made.arm) reply ≡ None
-      → ((clock : List ClockLine)
-      → ShowsObjectCall clock (rearming_call r (reading_at clock reading.stamp) made.arm) reply (entry (arm_noted made.arm)))
-      → IsNoTrigger (entry (arm_noted made.arm)) → (b : Answer) (turns : List (ℕ × Turn))
-      → TurnsPart s l.pass.signals.knows m.pass.signals.knows (popped_by b) turns → FitsAs b turns → KeepsCall s l call b m
-  keeps_rearming_with noted no_skip shows never b turns turned fits =
-      let begins = begins_refl made.begun.seen in
-      let unpushed = made_unpushed m next made.enters made.turn part.does begins (entry (arm_noted made.arm)) never in
-      let told : List Turn → Type 0 = λ ts. TurnsPart s l.pass.signals.knows m.pass.signals.knows (popped_by b ++ ts) turns in
-      keeps_made m next made.enters made.turn part.does begins reads notes
-      (noted_at reading (λ r'. rearming_call r r' made.arm) reply (entry (arm_noted made.arm)) noted no_skip shows) b turns
-      (subst told (sym unpushed) (subst (λ ts. TurnsPart s l.pass.signals.knows m.pass.signals.knows ts turns) (sym (append-nil (popped_by b))) turned))
-      (λ e follows joined kept low. fits e follows joined _ _ (arm_noted made.arm) part.does.start _ _ refl kept low (rearmed follows joined))
+    -- law: such a turn is a part of its call
+    pub rearming_part : IsPart s (ClockHas reading) l.label l.pass.timers.known l.pass.objects m.pass.timers.known m.pass.objects
+        (rearming_actions timer part.does.start (length made.enters.commits.adds.before) (entry (arm_noted made.arm)))
+        (receipts m next made.enters made.turn part.does (begins_refl made.begun.seen)) (notes_of l.label log object_log)
+    rearming_part = made_part m next made.enters made.turn part.does (begins_refl made.begun.seen) notes as_noted
 
-  -- law: so one that left the queue of signals alone
-  pub keeps_rearming : object_entry_noted (rearming_call r reading made.arm) reply ≡ Some (entry (arm_noted made.arm))
-      → skip_generation (rearming_call r reading made.arm) reply ≡ None
-      → ((clock : List ClockLine)
-      → ShowsObjectCall clock (rearming_call r (reading_at clock reading.stamp) made.arm) reply (entry (arm_noted made.arm)))
-      → IsNoTrigger (entry (arm_noted made.arm)) → LeavesSignals l.pass m.pass → (b : Answer) → popped_by b ≡ []
-      → ((e : Ending) (begin last : ℕ) (arm : Armed) (start : List Action) (stamp : ℕ) (notes : List PlacedEntry)
-      → IsKept (witness_of s e) (moves_spans e) (signal_spans e) l.label
-      (plain reading.stamp begin last (rearming_actions timer start stamp (entry arm))) notes call b (seen_by l.pass) (seen_by m.pass)
-      → (moves_spans e).first l.label ≤ begin → IsRearmed (witness_of s e) l.label notes reading.stamp begin last timer arm start stamp
-      → FitsCall (witness_of s e) l.label call b (seen_by l.pass) (seen_by m.pass))
-      → KeepsCall s l call b m
-  keeps_rearming noted no_skip shows never signals b popped fits =
-      keeps_rearming_with noted no_skip shows never b []
-      (subst (λ ts. TurnsPart s l.pass.signals.knows m.pass.signals.knows ts []) (sym popped) (turns_none (ap (λ u. u.knows) signals)))
-      (λ e follows joined begin last arm start stamp notes is kept low again. fits e begin last arm start stamp notes kept low again)
+    -- law: a lane keeps a call on an object that may arm the object's timer again and made an entry, where such calls fit
+    pub keeps_rearming : LeavesSignals l.pass m.pass → (b : Answer)
+        → ((e : Ending) (begin last : ℕ) (arm : Armed) (start : List Action) (stamp : ℕ) (notes : List PlacedEntry)
+        → IsKept (witness_of s e) (moves_spans e) l.label
+        (plain reading.stamp begin last (rearming_actions timer start stamp (entry arm))) notes call b (seen_by l.pass) (seen_by m.pass)
+        → (moves_spans e).first l.label ≤ begin → IsRearmed (witness_of s e) l.label notes reading.stamp begin last timer [] arm start stamp
+        → FitsCall (witness_of s e) l.label call b (seen_by l.pass) (seen_by m.pass))
+        → KeepsCall s l call b m
+    keeps_rearming signals b fits =
+        keeps_made m next made.enters made.turn part.does (begins_refl made.begun.seen) notes as_noted reads signals b
+        (λ e follows joined kept low. fits e _ _ (arm_noted made.arm) part.does.start _ _ kept low (rearmed follows joined))
 
 -- ---- the calls
 
@@ -176,13 +156,13 @@ keeps_accept {s} {x} {l} {m} {a} {timer} next called = subst (λ b. KeepsCall s 
         keeps_rearming m next c.reads c.notes c.does (λ arm. object_entries.Accept c.reading.stamp arm reply)
         (ap (option_map (λ (r : AcceptReply). object_entries.Accept c.reading.stamp (arm_noted c.does.arm) r)) back) refl (λ clock.
         ap (λ k. record { call = object_calls.Accept (reading_at clock c.reading.stamp) k; reply = replies.Accept (accept_shown reply) })
-        (arm_back c.does.arm)) tt c.signals (answer_of_accept reply) (popped_accept reply)
+        (arm_back c.does.arm)) c.signals (answer_of_accept reply)
         (λ e begin last arm start stamp notes kept low rearmed. accept_made reply kept low rearmed)
 
     by_answer : (g : AcceptAnswer) → CallsObject x l m a (λ old new reading. Accepts x.objects x.timers.about old new timer reading g)
         → KeepsCall s l (calls.Accept timer) (accept_told g) m
     by_answer (accept_answers.Spent n) c =
-        keeps_full next (answers.Spent n) refl timer n c.does (clock_left c.reads.same) c.signals c.notes (λ e. refl) (λ e saw. saw)
+        keeps_full next (answers.Spent n) timer n c.does (clock_left c.reads.same) c.signals c.notes (λ e. refl) (λ e saw. saw)
     by_answer (accept_answers.Accepted overrun) c = accepted (acceptances.Accepted overrun) refl c
     by_answer accept_answers.NoSignal c = accepted acceptances.NoSignal refl c
 
@@ -200,15 +180,15 @@ keeps_read {s} {x} {l} {m} {a} {timer} {len} next called =
         keeps_rearming m next c.reads c.notes c.does.1 (λ arm. object_entries.Read c.reading.stamp arm reply)
         (ap (option_map (λ (r : ReadReply). object_entries.Read c.reading.stamp (arm_noted c.does.1.arm) r)) back) refl (λ clock.
         ap (λ k. record { call = object_calls.Read (reading_at clock c.reading.stamp) k; reply = replies.Read (read_shown reply) })
-        (arm_back c.does.1.arm)) tt c.signals (answer_of_read reply) (popped_read reply)
+        (arm_back c.does.1.arm)) c.signals (answer_of_read reply)
         (λ e begin last arm start stamp notes kept low rearmed. read_made len reply kept low rearmed c.does.0)
 
     by_answer : (g : ReadAnswer) → CallsObject x l m a (λ old new reading. ReadsFd x.objects x.timers.about old new timer len reading g)
         → KeepsCall s l (calls.Read timer len) (read_told g) m
     by_answer read_answers.ShortBuffer c =
-        keeps_same next answers.Invalid refl c.does.1 (clock_left c.reads.same) c.signals c.notes (λ e. (refl, c.does.0)) (λ e. tt)
+        keeps_same next answers.Invalid c.does.1 (clock_left c.reads.same) c.signals c.notes (λ e. (refl, c.does.0)) (λ e. tt)
     by_answer (read_answers.Spent n) c =
-        keeps_full next (answers.Spent n) refl timer n c.does.1 (clock_left c.reads.same) c.signals c.notes (λ e. (refl, c.does.0))
+        keeps_full next (answers.Spent n) timer n c.does.1 (clock_left c.reads.same) c.signals c.notes (λ e. (refl, c.does.0))
         (λ e saw. saw)
     by_answer (read_answers.Count total) c = read (reads.Count total) refl c
     by_answer read_answers.Canceled c = read reads.Canceled refl c
@@ -221,11 +201,11 @@ pub keeps_gettime-fd : {s : Script} {x : WorldOf} {l m : LaneOf} {a : Answer} {t
     → KeepsCall s l (calls.Gettime timer) a m
 keeps_gettime-fd {s = s} {l = l} {m = m} {timer = timer} next kind (gettimes.Spent n) c =
     subst (λ b. KeepsCall s l (calls.Gettime timer) b m) (sym c.does.1)
-    (keeps_full next (answers.Spent n) refl timer n c.does.0 (clock_left c.reads.same) c.signals c.notes
+    (keeps_full next (answers.Spent n) timer n c.does.0 (clock_left c.reads.same) c.signals c.notes
     (λ e. (refl, subst IsFd (sym kind) tt)) (λ e saw. saw))
 keeps_gettime-fd {s = s} {l = l} {m = m} {timer = timer} {base = base} next kind (gettimes.Left left interval stamp) c =
     subst (λ b. KeepsCall s l (calls.Gettime timer) b m) (sym c.does.1)
     (keeps_rearming m next c.reads c.notes c.does.0.0 (λ arm. object_entries.Gettime c.reading.stamp arm left interval) refl refl
     (λ clock. ap (λ k. record { call = object_calls.Gettime (reading_at clock c.reading.stamp) k; reply = (replies.Gettime (lefts.Left left interval)) })
-    (arm_back c.does.0.0.arm)) tt c.signals
-    (answers.Left left interval) refl (λ e begin last arm start stamp notes kept low rearmed. gettime_made base left interval kept low rearmed kind))
+    (arm_back c.does.0.0.arm)) c.signals
+    (answers.Left left interval) (λ e begin last arm start stamp notes kept low rearmed. gettime_made base left interval kept low rearmed kind))

@@ -27,7 +27,6 @@ use Rattle.call_laws.proofs.CallKept.{clock_left}
 use Rattle.call_laws.proofs.SettimeNoted.{SettimeNoted, settime_noted}
 use Rattle.call_laws.proofs.SettimeParts.{IsRefusal, checked, same_flags}
 use Rattle.call_laws.proofs.Sights.{keeps_full, keeps_same}
-use Rattle.call_laws.proofs.Signals.{popped_settime}
 
 -- law: a lane keeps a settime
 pub keeps_settime : {s : Script} {x : WorldOf} {l m : LaneOf} {a : Answer} {timer flags : ℕ} {value interval : TimeSpec}
@@ -59,8 +58,7 @@ keeps_settime {s = s} {x = x} {l = l} {m = m} {a = a} {timer = timer} {flags = f
         subst (λ b. KeepsCall s l (calls.Settime timer flags value interval) b m) (sym noted.answers)
         (keeps_anew m next c.reads c.signals c.notes made (start_of flags value)
         (wants_unless (nat_eq (time_of value) 0) (record { mode = mode_by flags; ns = nanoseconds_of value }))
-        (λ armed. object_entries.Settime flags (nanoseconds_of value) (nanoseconds_of interval) c.reading.stamp armed noted.told) noted.noted tt
-        (answer_of_settime noted.told) (popped_settime noted.told)
+        (λ armed. object_entries.Settime flags (nanoseconds_of value) (nanoseconds_of interval) c.reading.stamp armed noted.told) noted.noted (answer_of_settime noted.told)
         (λ e begin last cancel arm start stamp notes kept low is armed. settime_made noted.told kept low is (taken valid) (noted.refused (witness_of s e) timer is.ends armed)))
 
     Made : SettimeAnswer → Type 0
@@ -71,7 +69,7 @@ keeps_settime {s = s} {x = x} {l = l} {m = m} {a = a} {timer = timer} {flags = f
     by_answer : (answer : SettimeAnswer) → Valid → Made answer
         → KeepsCall s l (calls.Settime timer flags value interval) (settime_told answer) m
     by_answer (settings.Spent n) valid full =
-        keeps_full next (answers.Spent n) refl timer n full (clock_left c.reads.same) c.signals c.notes (λ e. (refl, taken valid)) (λ e saw. saw)
+        keeps_full next (answers.Spent n) timer n full (clock_left c.reads.same) c.signals c.notes (λ e. (refl, taken valid)) (λ e saw. saw)
     by_answer settings.BadFlags valid made = absurd made
     by_answer settings.BadTime valid made = absurd made
     by_answer answer valid made = set answer made valid
@@ -83,5 +81,5 @@ keeps_settime {s = s} {x = x} {l = l} {m = m} {a = a} {timer = timer} {flags = f
     by_arguments None valid made = by_answer called.0 valid made
     by_arguments (Some refusal) bad refused =
         subst (λ b. KeepsCall s l (calls.Settime timer flags value interval) b m) (sym (ap settime_told refused.0 ∙ bad.0))
-        (keeps_same next answers.Invalid refl refused.1 (clock_left c.reads.same) c.signals c.notes
+        (keeps_same next answers.Invalid refused.1 (clock_left c.reads.same) c.signals c.notes
         (λ e. (refl, λ v. bad.1 (subst (λ mask. AreValid (bits_beyond mask flags) value interval) (sym (same_flags s x timer next.world)) v))) (λ e. tt))

@@ -42,7 +42,6 @@ use Rattle.call_laws.proofs.Noted.{with_done-joins}
 use Rattle.call_laws.proofs.ObjectLooks.{keeps_look, sleeper_looked}
 use Rattle.call_laws.proofs.SleepNoted.{InterruptNoted, SleepNoted, interrupt_noted, sleep_noted}
 use Rattle.call_laws.proofs.Sights.{keeps_full, keeps_same}
-use Rattle.call_laws.proofs.Signals.{popped_interrupt, popped_sleep}
 
 -- ---- a sleep
 
@@ -84,15 +83,14 @@ keeps_sleep {s = s} {x = x} {l = l} {m = m} {a = a} {timer = timer} {flags = fla
         subst (λ b. KeepsCall s l (calls.Sleep timer flags time) b m) (sym noted.answers)
         (keeps_anew m next c.reads c.signals c.notes made (start_of flags time)
         (wants_unless (has_come (decl_at x.objects timer).clock flags (time_of time) c.reading) (record { mode = mode_by flags; ns = nanoseconds_of time }))
-        (λ armed. object_entries.Sleep flags (nanoseconds_of time) c.reading.stamp armed noted.told) noted.noted tt (answer_of_sleep noted.told)
-        (popped_sleep noted.told)
+        (λ armed. object_entries.Sleep flags (nanoseconds_of time) c.reading.stamp armed noted.told) noted.noted (answer_of_sleep noted.told)
         (λ e begin last cancel arm start stamp notes kept low is armed.
         sleep_made noted.told kept low is valid (noted.refused (witness_of s e) timer is.ends armed)))
 
     occupied : (n : ℕ) → FindsSleeper x.objects (lane_caller l.pass [] []) (lane_caller m.pass c.log c.object_log) timer n false
         → IsProperSleep flags time → KeepsCall s l (calls.Sleep timer flags time) (answers.Occupied n) m
     occupied n found valid =
-        keeps_look m next (answers.Occupied n) refl found.1 (clock_left c.reads.same) c.signals c.notes
+        keeps_look m next (answers.Occupied n) found.1 (clock_left c.reads.same) c.signals c.notes
         (λ e. (refl, (valid, subst (λ limit. n < limit) next.world.limit found.2)))
         (λ e follows point is. (
           point,
@@ -103,7 +101,7 @@ keeps_sleep {s = s} {x = x} {l = l} {m = m} {a = a} {timer = timer} {flags = fla
     by_answer begins.BadFlags valid made = absurd made
     by_answer begins.BadTime valid made = absurd made
     by_answer (begins.Spent n) valid full =
-        keeps_full next (answers.Spent n) refl timer n full (clock_left c.reads.same) c.signals c.notes (λ e. (refl, valid)) (λ e saw. saw)
+        keeps_full next (answers.Spent n) timer n full (clock_left c.reads.same) c.signals c.notes (λ e. (refl, valid)) (λ e saw. saw)
     by_answer (begins.Occupied n) valid found = occupied n found valid
     by_answer answer valid made = slept answer made valid
 
@@ -113,7 +111,7 @@ keeps_sleep {s = s} {x = x} {l = l} {m = m} {a = a} {timer = timer} {flags = fla
     by_arguments None valid made = by_answer called.0 valid made
     by_arguments (Some refusal) bad refused =
         subst (λ b. KeepsCall s l (calls.Sleep timer flags time) b m) (sym (ap sleep_told refused.0 ∙ bad.0))
-        (keeps_same next answers.Invalid refl refused.1 (clock_left c.reads.same) c.signals c.notes (λ e. (refl, bad.1)) (λ e. tt))
+        (keeps_same next answers.Invalid refused.1 (clock_left c.reads.same) c.signals c.notes (λ e. (refl, bad.1)) (λ e. tt))
 
 -- ---- an interrupt
 
@@ -136,15 +134,15 @@ keeps_interrupt {s = s} {x = x} {l = l} {m = m} {a = a} {timer = timer} next cal
         (interrupt_noted c.reading answer made.enters.commits.state made.enters.may made.enters.reply) in
         subst (λ b. KeepsCall s l (calls.Interrupt timer) b m) (sym noted.answers)
         (keeps_anew m next c.reads c.signals c.notes made None (inl refl) (λ (armed : Armed). object_entries.Interrupt c.reading.stamp noted.told) noted.noted
-        tt (answer_of_interrupt noted.told) (popped_interrupt noted.told)
+        (answer_of_interrupt noted.told)
         (λ e begin last cancel arm start stamp notes kept low is armed. interrupt_made noted.told kept low is))
 
     by_answer : (answer : InterruptAnswer)
         → Interrupts x.objects x.timers.about (lane_caller l.pass [] []) (lane_caller m.pass c.log c.object_log) timer c.reading answer
         → KeepsCall s l (calls.Interrupt timer) (interrupt_told answer) m
-    by_answer (ends.Spent n) full = keeps_full next (answers.Spent n) refl timer n full (clock_left c.reads.same) c.signals c.notes (λ e. refl) (λ e saw. saw)
+    by_answer (ends.Spent n) full = keeps_full next (answers.Spent n) timer n full (clock_left c.reads.same) c.signals c.notes (λ e. refl) (λ e saw. saw)
     by_answer (ends.Awake n) found =
-        keeps_look m next (answers.Awake n) refl found.1 (clock_left c.reads.same) c.signals c.notes (λ e. (
+        keeps_look m next (answers.Awake n) found.1 (clock_left c.reads.same) c.signals c.notes (λ e. (
           refl,
           subst
               (λ limit. n < limit) next.world.limit found.2,
@@ -181,11 +179,11 @@ keeps_slept {s = s} {x = x} {l = l} {m = m} {a = a} {timer = timer} next called 
 
     by_answer : (answer : SleptAnswer) → found.answer ≡ answer → KeepsCall s l (calls.Slept timer) (slept_told answer found.stamp) m
     by_answer looks.Sleeping told =
-        keeps_look m next (answers.Sleeping found.stamp) refl c.looks.1 (clock_left c.clock) c.signals notes (λ e. refl)
+        keeps_look m next (answers.Sleeping found.stamp) c.looks.1 (clock_left c.clock) c.signals notes (λ e. refl)
         (λ e follows point is. (point, sleep_is looks.Sleeping told e is))
     by_answer looks.Slept told =
-        keeps_look m next (answers.SleptAt found.stamp) refl c.looks.1 (clock_left c.clock) c.signals notes (λ e. refl)
+        keeps_look m next (answers.SleptAt found.stamp) c.looks.1 (clock_left c.clock) c.signals notes (λ e. refl)
         (λ e follows point is. (point, sleep_is looks.Slept told e is))
     by_answer looks.Awake told =
-        keeps_look m next (answers.Awake found.stamp) refl c.looks.1 (clock_left c.clock) c.signals notes (λ e. refl)
+        keeps_look m next (answers.Awake found.stamp) c.looks.1 (clock_left c.clock) c.signals notes (λ e. refl)
         (λ e follows point is. (point, sleep_is looks.Awake told e is))

@@ -48,11 +48,11 @@ keeps_cancel {s = s} {x = x} {l = l} {m = m} {timer = timer} next called =
         → m.notes ≡ with_done l.notes l.label (receipts_of timer (timer_then x.timers.about c.at timer).stamp (cancel_entries answer)) []
         → KeepsCall s l (calls.Cancel timer) (cancel_told answer) m
     by_answer (cancels.Idle n) c notes =
-        keeps_sight next (answers.Idle n) refl (looks_at c.made called.objects (clock_left called.clock) called.signals (notes_alone l m refl refl notes))
+        keeps_sight next (answers.Idle n) (looks_at c.made called.objects (clock_left called.clock) called.signals (notes_alone l m refl refl notes))
         (λ e. refl)
         (λ e follows joined has. saw_quiet next.world.timers joined follows.timers c.made n observations.Idle c.fits.1 c.fits.0)
     by_answer (cancels.Running g n) c notes =
-        keeps_sight next (answers.Running g n) refl (looks_at c.made called.objects (clock_left called.clock) called.signals
+        keeps_sight next (answers.Running g n) (looks_at c.made called.objects (clock_left called.clock) called.signals
         (notes_alone l m refl refl notes)) (λ e. refl)
         (λ e follows joined has. saw_quiet next.world.timers joined follows.timers c.made n (observations.Running g) c.fits.1 c.fits.0)
     by_answer (cancels.Cancelled g n) c notes =
@@ -60,7 +60,7 @@ keeps_cancel {s = s} {x = x} {l = l} {m = m} {timer = timer} next called =
         let entry : Entry = record { event = events.Cancel; reply = replies.Cancel g } in
         keeps_entered (λ clock. Unit) next m (answers.Cancelled g)
         (plain (length (writes m.pass.clock.knows)) (length l.pass.timers.known.seen) (length m.pass.timers.known.seen) (Entered timer number entry ∷ []))
-        c.made (λ clock so. (refl, tt)) (λ e goes. tt) (clock_left called.clock) called.objects called.signals notes refl refl refl refl refl
+        c.made (λ clock so. (refl, tt)) (λ e goes. tt) (clock_left called.clock) called.objects called.signals notes refl refl refl
         (λ its e follows joined has kept low. cancelled_made timer number g kept low)
 
 -- ---- start
@@ -79,7 +79,7 @@ keeps_start {s = s} {x = x} {l = l} {m = m} {timer = timer} {request = request} 
         (start_entries (timer_then x.timers.about c.at timer) (asked_in request reading) c.sent c.last answer)) []
         → KeepsCall s l (calls.Start timer request) (start_told answer) m
     by_answer (starts.Spent n) c notes =
-        keeps_sight next (answers.Spent n) refl (looks_at c.made called.objects (clock_left called.reads.same) called.signals (notes_alone l m refl refl notes))
+        keeps_sight next (answers.Spent n) (looks_at c.made called.objects (clock_left called.reads.same) called.signals (notes_alone l m refl refl notes))
         (λ e. refl) (λ e follows joined has. (
           saw_quiet next.world.timers joined follows.timers c.made n observations.Spent c.fits.2 c.fits.1,
           ap (λ (u : Timer). u.moving) (timer_quiet next.world.timers joined follows.timers c.made) ∙ c.fits.0,
@@ -96,7 +96,7 @@ keeps_start {s = s} {x = x} {l = l} {m = m} {timer = timer} {request = request} 
         (answers.Started arming.number arming.placement.base (was_armed_before arming.outs arming.was_armed))
         (plain reading.stamp (length v) (length w) (arming_actions timer request reading.stamp arming)) c.made
         (λ clock has. start_reads timer request reading u c.sent c.last clock has) (reading_goes_on l.pass m.pass reading called.reads)
-        (clock_left called.reads.same) called.objects called.signals notes (entries_so timer request reading u c.sent c.last) refl called.reads.count refl refl
+        (clock_left called.reads.same) called.objects called.signals notes (entries_so timer request reading u c.sent c.last) refl called.reads.count
         (λ its e follows joined has kept low. let sight = sight_of (witness_of s e) (length v) (length w) in
         started_made timer request arming kept low (is_arming sight timer s.limit request.base u (asked_in request reading) c.sent c.last few
         (sent_seen s x.timers.about next.world.timers e joined v w follows.timers timer u request.base c.sent c.last c.on_way))))

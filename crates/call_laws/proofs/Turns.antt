@@ -55,7 +55,7 @@ next_begun {s = s} reads next = record {
 
 -- law: a call that takes no reading is kept in its turn as by itself, and so is one whose reading is shown
 pub turn_by_itself : {s : Script} {l m : LaneOf} {call : Call} {a : Answer} (kept : KeepsCall s l call a m)
-    → ((e : Ending) → Follows m.pass e → HasLog e l.label (log_of l.pass m.pass kept.notes kept.trace) → IsJoined s e
+    → ((e : Ending) → Follows m.pass e → HasLog e l.label (log_of l.pass m.pass kept.notes kept.trace kept.turned) → IsJoined s e
     → FitsCall (witness_of s e) l.label call a (seen_by l.pass) (seen_by m.pass) → ReadsInTurn (witness_of s e) l.label call (length l.pass.timers.known.seen))
     → KeepsTurn s l call a m
 turn_by_itself {l = l} kept read = record {

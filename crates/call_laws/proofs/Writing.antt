@@ -39,7 +39,7 @@ use Rattle.run_history.specs.Runs.{CallLog, Ending}
 use Rattle.run_history.proofs.Lists.{at_left, at_seam}
 use Rattle.run_history.proofs.OthersMade.{plain, wrote_made}
 use Rattle.lane_notes.specs.Called.{CallsWrite, LaneOf, LeavesSignals, ReadsFirst, written_line, with_write_told, write_told}
-use Rattle.call_laws.proofs.Signals.{falls_between, turns_none, TurnsPart}
+use Rattle.call_laws.proofs.Signals.{turns_none, TurnsPart}
 use Rattle.signal_queue.specs.Rules.{turns}
 use Rattle.std.specs.List.{AllByRecursion}
 use Rattle.lane_notes.proofs.Kept.{IsNoteSeen, label_of, list_of, WriteNotes, IsNextCall, KeepsCall, KeepsTurn, StandAt, log_of, seen_by, SeesOn}
@@ -82,7 +82,7 @@ refused_kept : {s : Script} {x : WorldOf} {b m : LaneOf} {write : Write} (next :
 refused_kept {b = b} {m = m} {write = write} next (faults.ClockRange would_be) refused same notes =
     let ws = writes m.pass.clock.knows in
     let cause = (refused.range would_be).0 refl in
-    keeps_sight next (answers.Range would_be) refl (looks_same b m same notes) (λ e. refl) (λ e follows joined has. record {
+    keeps_sight next (answers.Range would_be) (looks_same b m same notes) (λ e. refl) (λ e follows joined has. record {
       counted = omega (arith, writes_within e ws follows.clock, follows.few);
       late = cause.1;
       greatest = cause.2 ∙ ap (λ r. greatest (after_write r write)) (sym (reading_of_seen e ws follows.clock));
@@ -90,7 +90,7 @@ refused_kept {b = b} {m = m} {write = write} next (faults.ClockRange would_be) r
 refused_kept {b = b} {m = m} next faults.ClockSpent refused same notes =
     let ws = writes m.pass.clock.knows in
     let full : last_stamp ≤ (seen_reading m.pass.clock.knows).stamp = refused.spent.0 refl in
-    keeps_looking next answers.ClockSpent refl (looks_same b m same notes)
+    keeps_looking next answers.ClockSpent (looks_same b m same notes)
     (λ e follows joined has kept low. absurd (omega (arith, full, stamp_after ws, writes_within e ws follows.clock, follows.few)))
 
 -- ---- one that it took
@@ -151,7 +151,7 @@ module _ (s : Script) (x : WorldOf) (l m : LaneOf) (write : Write) (next : IsNex
     signals = begins_same (ap (λ u. turns u.knows) signals);
   }
 
-  stands : StandAt q (log_of p q (receipt_of ∷ []) did)
+  stands : StandAt q (log_of p q (receipt_of ∷ []) did [])
   stands = record {
     rise = (low, tt);
     below = (high, tt);
@@ -178,7 +178,7 @@ module _ (s : Script) (x : WorldOf) (l m : LaneOf) (write : Write) (next : IsNex
   none_turned : TurnsPart s p.signals.knows q.signals.knows [] []
   none_turned = turns_none (ap (λ u. u.knows) signals)
 
-  logged : IsRightLog s (log_of p q (receipt_of ∷ []) did) (calls.Clock write) (answers.Clock r.stamp) (seen_by p) (seen_by q)
+  logged : IsRightLog (log_of p q (receipt_of ∷ []) did []) (seen_by p) (seen_by q)
   logged = record {
     forward = omega (arith, low, high);
     last = omega arith;
@@ -188,8 +188,6 @@ module _ (s : Script) (x : WorldOf) (l m : LaneOf) (write : Write) (next : IsNex
     writes = (omega (arith, number), tt);
     clock_steps = (behind, (omega (arith, number), omega (arith, w.count)));
     move_steps = (omega arith, omega arith);
-    turns = none_turned.are;
-    signal_steps = falls_between none_turned.span;
   }
 
   shown : reading_after (take r.stamp ws) ≡ r
@@ -199,6 +197,7 @@ module _ (s : Script) (x : WorldOf) (l m : LaneOf) (write : Write) (next : IsNex
   took_kept = record {
     notes = receipt_of ∷ [];
     trace = did;
+    turned = [];
     added = write_notes r.stamp line;
     sees = sees;
     joins = notes ∙ write_joins l.notes r.stamp line;
@@ -221,7 +220,7 @@ module _ (s : Script) (x : WorldOf) (l m : LaneOf) (write : Write) (next : IsNex
       objects = λ i n. no_places (is_place i n) p.objects.knows.pass.mine q.objects.knows.pass.mine (ap (λ o. o.knows.pass.mine) objects);
       clock = λ n. ap (count (is_place 0 n)) w.place ∙ total-append (λ k. one_if (is_place 0 n k)) p.clock.knows.pass.mine ((0, r.stamp) ∷ []);
     };
-    seen = of_write (λ j. IsNoteSeen j q (log_of p q (receipt_of ∷ []) did)) (record { stamp = r.stamp; line = line }) (record {
+    seen = of_write (λ j. IsNoteSeen j q (log_of p q (receipt_of ∷ []) did [])) (record { stamp = r.stamp; line = line }) (record {
       before = many;
       number = number;
       inside = (behind, omega (arith, number, w.count));
@@ -229,9 +228,9 @@ module _ (s : Script) (x : WorldOf) (l m : LaneOf) (write : Write) (next : IsNex
       shows = subst (ShowsReading line) (sym shown) (record { mono = refl; real = refl; boot = refl; changes = refl });
     });
     stand = stands;
-    turned = record { rise = tt; below = tt; each = tt };
+    turns = record { rise = tt; each = tt; are = refl };
     turn_places = none_turned.mine;
-    promised = promised_from next m (receipt_of ∷ []) did (answers.Clock r.stamp) logged
+    promised = promised_from next m (receipt_of ∷ []) did [] (answers.Clock r.stamp) logged
         (λ e follows joined has kept first. wrote_made r.stamp write kept (omega (arith, first, low)) (omega (arith, high)) (omega arith, tt));
   }
 

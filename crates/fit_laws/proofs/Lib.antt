@@ -8,5 +8,9 @@ pub mod OwnPoints
 pub mod Moments
 pub mod Readings
 pub mod Replies
+pub mod SignalCalls
+pub mod SignalDeeds
+pub mod SignalLaws
 pub mod SignalLists
 pub mod Signals
+pub mod SignalTurns

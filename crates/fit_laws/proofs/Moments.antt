@@ -9,7 +9,6 @@ use Rattle.seq_timer.specs.Systems.{rises_of}
 use Rattle.record_text.specs.declared.record.Answer.{Answer}
 use Rattle.record_text.specs.declared.record.ClockLine.{ClockLine}
 use Rattle.record_text.specs.declared.record.Label.{Label}
-use Rattle.record_text.specs.declared.record.RunRecord.{RunRecord}
 use Rattle.script_text.specs.declared.script.Call.{Call}
 use Rattle.run_history.specs.Actions.{Action, also}
 use Rattle.run_history.specs.Order.{is_label, made_by}
@@ -20,7 +19,7 @@ use Rattle.run_history.specs.Witnesses.{CountersList, IsOneHistory, Move, OfBase
 use Rattle.run_history.proofs.Labels.{label_itself}
 use Rattle.fit_laws.proofs.EachTimer.{stands}
 use Rattle.fit_laws.proofs.OwnParts.{count_moves, on_here, on_rises, own_rises}
-use Rattle.fit_laws.proofs.OwnPoints.{before_there, stamp_then}
+use Rattle.fit_laws.proofs.OwnPoints.{before_there, lists_in, stamp_then}
 
 -- ---- counts
 
@@ -141,8 +140,8 @@ all_there o c (suc n) k (m ∷ ms) line all =
     here (suc k) line further = let rest = further k line in omega (arith, rest)
 
 -- the line of this number in a list, where the first is numbered 0, bears this label
-abbrev pub IsLineOf : RunRecord → Owner → ℕ → Label → Type 0
-IsLineOf r o k c = slice_get (map (λ m. m.label) (moves_from 0 (lines_at r o))) k ≡ Some c
+abbrev pub IsLineOf : Witness → Owner → ℕ → Label → Type 0
+IsLineOf w o k c = slice_get (map (λ m. m.label) (moves_from 0 (lines_at (lists_in w) o))) k ≡ Some c
 
 -- at this moment a call has made all its entries
 abbrev pub HasAll : Witness → Label → ℕ → Type 0
@@ -178,23 +177,23 @@ seen_more {w} {c} fits =
 
 module _ (w : Witness) (history : IsOneHistory w) where
   -- law: at a moment at which a call has made no entry a list doesn't reach to a line of it
-  pub none_yet : (o : Owner) (c : Label) (k n : ℕ) → IsLineOf w.run o k c → IsMoment w c [] n → length (moves_on o (take n w.moves)) ≤ k
+  pub none_yet : (o : Owner) (c : Label) (k n : ℕ) → IsLineOf w o k c → IsMoment w c [] n → length (moves_on o (take n w.moves)) ≤ k
   none_yet o c k n line begins = not_yet o c n k w.moves (ap (λ ms. slice_get (map (λ m. m.label) ms) k) (history.all o) ∙ line) begins.so_many
 
   -- law: an object's list neither
-  pub none_made : (i : ℕ) (c : Label) (k n : ℕ) → IsLineOf w.run (CountersList (suc i)) k c → IsMoment w c [] n → turns_along w n i ≤ k
+  pub none_made : (i : ℕ) (c : Label) (k n : ℕ) → IsLineOf w (CountersList (suc i)) k c → IsMoment w c [] n → turns_along w n i ≤ k
   none_made i c k n line begins = omega (arith, rises_counted w (suc i) n, none_yet (CountersList (suc i)) c k n line begins)
 
   -- law: at a moment at which a call has made all its entries a list reaches past each line of it
-  pub all_yet : (o : Owner) (c : Label) (k n : ℕ) → IsLineOf w.run o k c → HasAll w c n → k < length (moves_on o (take n w.moves))
+  pub all_yet : (o : Owner) (c : Label) (k n : ℕ) → IsLineOf w o k c → HasAll w c n → k < length (moves_on o (take n w.moves))
   all_yet o c k n line all = all_there o c n k w.moves (ap (λ ms. slice_get (map (λ m. m.label) ms) k) (history.all o) ∙ line) all
 
   -- law: an object's list too
-  pub all_made : (i : ℕ) (c : Label) (k n : ℕ) → IsLineOf w.run (CountersList (suc i)) k c → HasAll w c n → k < turns_along w n i
+  pub all_made : (i : ℕ) (c : Label) (k n : ℕ) → IsLineOf w (CountersList (suc i)) k c → HasAll w c n → k < turns_along w n i
   all_made i c k n line all = omega (arith, rises_counted w (suc i) n, all_yet (CountersList (suc i)) c k n line all)
 
   -- law: a timer's too
-  pub all_entered_by : length w.run.timers ≡ length w.script.timers → (t : ℕ) (c : Label) (k n : ℕ) → IsLineOf w.run (TimersList t) k c → HasAll w c n
+  pub all_entered_by : length w.run.timers ≡ length w.script.timers → (t : ℕ) (c : Label) (k n : ℕ) → IsLineOf w (TimersList t) k c → HasAll w c n
       → k < (timer_along w n t).stamp
   all_entered_by timers t c k n line all = omega (arith, stamp_then w history timers n t, all_yet (TimersList t) c k n line all)
 
@@ -203,7 +202,7 @@ module _ (w : Witness) (history : IsOneHistory w) where
   all_later c a b le all = let rise = own_rises c w.moves a b le in omega (arith, all, rise)
 
   -- law: where a list reaches past a line of a call, the call has made an entry
-  pub some_made : (o : Owner) (c : Label) (k n : ℕ) → IsLineOf w.run o k c → k < length (moves_on o (take n w.moves))
+  pub some_made : (o : Owner) (c : Label) (k n : ℕ) → IsLineOf w o k c → k < length (moves_on o (take n w.moves))
       → 0 < length (own_moves c (take n w.moves))
   some_made o c k n line reached = ⊎_elim
       (λ (some : 0 < length (own_moves c (take n w.moves))). some)

@@ -27,7 +27,7 @@ use Rattle.timer_setting.specs.declared.arming.Wanted.{Wanted}
 use Rattle.record_text.specs.declared.record.TimerLine.{TimerLine}
 use Rattle.record_text.specs.declared.record.Armed.{Armed}
 use Rattle.record_text.specs.declared.record.Armed.TheVariants as armings
-use Rattle.run_history.specs.Actions.{Action, Began, Entered, Looked, Made, Shifted, Skipped, Wrote, also, entered, own}
+use Rattle.run_history.specs.Actions.{Action, Began, Entered, Looked, Made, Shifted, Signalled, Skipped, Wrote, also, entered, own}
 use Rattle.run_history.specs.Histories.{answers_of, history_from, history_of, lines_of_timer, reading_at}
 use Rattle.script_text.specs.Declarations.{declared_of, terms_of, kind_of, asked_slack, without_slack}
 use Rattle.run_history.specs.ObjectCalls.{Arms, ArmsAs, MakesAnew, MakesRearming, cancels}
@@ -49,7 +49,7 @@ use Rattle.script_text.specs.declared.script.Round.{Round}
 use Rattle.script_text.specs.declared.script.Script.{Script}
 use Rattle.script_text.specs.declared.script.StartRequest.{StartRequest}
 use Rattle.run_history.specs.Calls.{call_row}
-use Rattle.run_history.specs.Deeds.{Anew, Cancels, Deed, Did, Evacuates, IsBody, IsExpiryRun, IsTrigger, Never, Nothing, Rearms, Runs, Shifts, Starts, Where, Writes, fires}
+use Rattle.run_history.specs.Deeds.{Anew, Cancels, Deed, Did, Evacuates, IsBody, IsExpiryRun, IsTrigger, Never, Nothing, Pops, Rearms, Runs, Shifts, Starts, Where, Writes, fires}
 use Rattle.run_history.specs.Witnesses.{Evacuation, Fired}
 use Rattle.fit_laws.specs.EachTimer.{FitsTimers, HasTimers}
 use Rattle.run_history.specs.Fits.{Fits}
@@ -129,6 +129,7 @@ entered_none t (Began i stamp ∷ ds) none = entered_none t ds none.1
 entered_none t (Made i number entry ∷ ds) none = entered_none t ds none.1
 entered_none t (Skipped i number generation ∷ ds) none = entered_none t ds none.1
 entered_none t (Shifted base number event ∷ ds) none = entered_none t ds none.1
+entered_none t (Signalled counter number signal ∷ ds) none = entered_none t ds none.1
 
 moves_none : (timer : ℕ) (outs : List SentTo) → AllNone (moves timer outs)
 moves_none timer [] = tt
@@ -150,6 +151,7 @@ CallAsksNone other = Unit {0}
 abbrev DeedAsksNone : Deed → Type 0
 DeedAsksNone (Starts timer request generation on was_armed) = asked_slack request ≡ 0
 DeedAsksNone (Evacuates heir count end IsCount) = ⊥
+DeedAsksNone (Pops signal did) = DeedAsksNone did
 DeedAsksNone (Where did IsSo) = DeedAsksNone did
 DeedAsksNone did = Unit {0}
 
@@ -205,7 +207,7 @@ module _ (sight : Sight) (s : Script) where
       ⊎_elim (λ trigger. subst AllNone (sym trigger.2) (tt, (tt, tt))) (λ skipped. subst AllNone (sym skipped.1) (tt, tt)) is.0
 
   -- a callback that starts its timer asks for no slack
-  body_none : (kind : Kind) (reading : ℕ) (f : Fired) → IsBody sight s.limit kind reading f → AllNone f.body
+  body_none : (kind : Kind) (reading : ℕ) (f : Fired) → IsBody sight s kind reading f → AllNone f.body
   body_none (kinds.Raw context callbacks.Once) reading f is = nothing_none f.body is.0
   body_none (kinds.Raw context (callbacks.Every interval)) reading f is =
       ⊎_elim (λ forward. subst AllNone (sym forward.2) (tt, tt))
@@ -217,10 +219,12 @@ module _ (sight : Sight) (s : Script) where
   body_none (kinds.Posix base) reading f is = trigger_none reading f is
   body_none (kinds.Fd base) reading f is = trigger_none reading f is
   body_none (kinds.Queued base) reading f is =
-      ⊎_elim (trigger_none reading f) (λ full. subst AllNone (sym full.0.1) (tt, (tt, tt))) is
+      ⊎_elim (λ told. subst AllNone (sym told.1) (tt, (tt, tt)))
+      (λ other. ⊎_elim (λ sent. subst AllNone (sym sent.2) (tt, (tt, (tt, tt))))
+      (λ rest. ⊎_elim (λ full. subst AllNone (sym full.1) (tt, (tt, tt))) (λ skipped. subst AllNone (sym skipped.1) (tt, tt)) rest) other) is.0
   body_none (kinds.Sleeper base) reading f is = trigger_none reading f is
 
-  fired_none : (base reading : ℕ) (fired : List Fired) → AllByRecursion (λ f. IsBody sight s.limit (kind_of s f.timer) reading f) fired
+  fired_none : (base reading : ℕ) (fired : List Fired) → AllByRecursion (λ f. IsBody sight s (kind_of s f.timer) reading f) fired
       → AllNone (flat_map (fires base reading) fired)
   fired_none base reading [] bodies = tt
   fired_none base reading (f ∷ fired) bodies =
@@ -244,6 +248,8 @@ module _ (sight : Sight) (s : Script) where
   did_none reading (Rearms timer entry) fired moved actions none did = rearming_made_none did
   did_none reading (Evacuates heir count end IsCount) fired moved actions none did = absurd none
   did_none reading (Shifts base stamp event) fired moved actions none did = subst AllNone (sym did) (tt, tt)
+  did_none reading (Pops signal rest) fired moved actions none did =
+      subst AllNone (sym did.2) (tt, did_none reading rest fired moved did.1 none did.3)
   did_none reading (Where rest IsSo) fired moved actions none did = did_none reading rest fired moved actions none did.0
 
 -- ---- the record

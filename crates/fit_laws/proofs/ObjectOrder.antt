@@ -1,19 +1,38 @@
 -- In a record that fits each entry of an object bears the label of a call, and these keep the order of calls.
-use Rattle.std.proofs.Common.{◌≡◌, ℕ, ◌+◌, suc, false, List, [], ◌∷◌, refl, ap, map, ◌∙◌, subst}
+use Rattle.std.proofs.Common.{◌≡◌, ◌<◌, ◌≤◌, ℕ, ◌+◌, suc, false, List, [], ◌∷◌, ◌++◌, length, arith, refl, ap, map, sym, ◌∙◌, subst}
 use Rattle.std.specs.List.{AllByRecursion}
+use Rattle.std.proofs.Math.Logic.{⊎_elim}
+use Rattle.std.proofs.lemmas.Bool.{cases_lt}
+use Rattle.std.proofs.lemmas.List.{append-nil, get_or_past}
 use Rattle.record_text.specs.declared.record.Label.{Label}
 use Rattle.record_text.specs.declared.record.ObjectLine.{ObjectLine}
-use Rattle.record_text.specs.declared.record.RunRecord.{RunRecord}
 use Rattle.script_text.specs.declared.script.Script.{Script}
-use Rattle.run_history.specs.Fits.{Fits}
+use Rattle.run_history.specs.Fits.{FitsIn}
 use Rattle.run_history.specs.Objects.{lines_of_object, object_labels}
 use Rattle.run_history.specs.Order.{is_before, IsInOrder, IsLabel}
-use Rattle.run_history.specs.Witnesses.{CountersList, IsOneHistory, Witness, line_of_object, moves_from, moves_on, twice, witness_with}
+use Rattle.run_history.specs.Witnesses.{CountersList, Witness, line_of_object, line_of_signal, lines_at, moves_from, moves_on, twice}
 use Rattle.fit_laws.proofs.OwnParts.{all_on, order_on}
+use Rattle.fit_laws.proofs.OwnPoints.{lists_in}
 
--- an object's moves bear the labels of its lines, each of two moves
-labels_on : (w : Witness) (i : ℕ) → IsOneHistory w → map (λ m. m.label) (moves_on (CountersList (suc i)) w.moves) ≡ twice (object_labels w.run i)
-labels_on w i one = ap (map (λ m. m.label)) (one.all (CountersList (suc i))) ∙ of_lines 0 (lines_of_object w.run i)
+-- the lines of an object of the script are its record's, each twice
+pub own_lines : (w : Witness) → FitsIn w → (i : ℕ) → i < length w.script.timers
+    → lines_at (lists_in w) (CountersList (suc i)) ≡ twice (map (line_of_object i) (lines_of_object w.run i))
+own_lines w f i its =
+    let lines = twice (map (line_of_object i) (lines_of_object w.run i)) in
+    ap (λ ls. lines ++ map (line_of_signal (suc i)) ls) (f.signals.others i its) ∙ append-nil lines
+
+-- past those there are none
+pub no_lines : (w : Witness) → FitsIn w → (i : ℕ) → length w.script.timers ≤ i → lines_of_object w.run i ≡ []
+no_lines w f i past = get_or_past w.run.objects i [] (omega (arith, f.objects, past))
+
+-- what holds along the labels of a list's moves holds along an object's lines, where it holds of none, and of those of which each stands twice
+along_lines : (P : List Label → Type 0) (w : Witness) (f : FitsIn w) (i : ℕ) → P []
+    → ((xs : List Label) → P (twice xs) → P xs) → P (map (λ m. m.label) (moves_on (CountersList (suc i)) w.moves)) → P (object_labels w.run i)
+along_lines P w f i none once all = ⊎_elim
+    (λ (its : i < length w.script.timers). once (object_labels w.run i) (subst P (ap (map (λ m. m.label))
+    (f.history.all (CountersList (suc i)) ∙ ap (moves_from 0) (own_lines w f i its)) ∙ of_lines 0 (lines_of_object w.run i)) all))
+    (λ (past : length w.script.timers ≤ i). subst (λ ls. P (map (λ line. line.label) ls)) (sym (no_lines w f i past)) none)
+    (cases_lt i (length w.script.timers))
   where
     of_lines : (b : ℕ) (lines : List ObjectLine)
         → map (λ m. m.label) (moves_from b (twice (map (line_of_object i) lines))) ≡ twice (map (λ line. line.label) lines)
@@ -29,13 +48,12 @@ order_once s [] order = tt
 order_once s (x ∷ xs) order = (all_once (λ y. is_before s y x ≡ false) xs order.0.1, order_once s xs order.1.1)
 
 -- law: each entry of an object bears the label of a call
-pub objects_called : (s : Script) (r : RunRecord) → Fits s r → (i : ℕ) → AllByRecursion (IsLabel s) (object_labels r i)
-objects_called s r (moves, signals, traces, fits) i =
-    all_once (IsLabel s) (object_labels r i) (subst (AllByRecursion (IsLabel s)) (labels_on (witness_with s r moves signals traces) i fits.history)
-    (all_on (IsLabel s) (CountersList (suc i)) moves fits.move_calls))
+pub objects_called : (w : Witness) → FitsIn w → (i : ℕ) → AllByRecursion (IsLabel w.script) (object_labels w.run i)
+objects_called w f i =
+    along_lines (AllByRecursion (IsLabel w.script)) w f i tt (all_once (IsLabel w.script))
+    (all_on (IsLabel w.script) (CountersList (suc i)) w.moves f.move_calls)
 
 -- law: and they keep the order of calls
-pub objects_in_order : (s : Script) (r : RunRecord) → Fits s r → (i : ℕ) → IsInOrder s (object_labels r i)
-objects_in_order s r (moves, signals, traces, fits) i =
-    order_once s (object_labels r i)
-    (subst (IsInOrder s) (labels_on (witness_with s r moves signals traces) i fits.history) (order_on s (CountersList (suc i)) moves fits.order))
+pub objects_in_order : (w : Witness) → FitsIn w → (i : ℕ) → IsInOrder w.script (object_labels w.run i)
+objects_in_order w f i =
+    along_lines (IsInOrder w.script) w f i tt (order_once w.script) (order_on w.script (CountersList (suc i)) w.moves f.order)

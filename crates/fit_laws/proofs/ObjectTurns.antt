@@ -9,19 +9,20 @@ use Rattle.run_history.specs.Actions.{also}
 use Rattle.run_history.specs.Fits.{FitsIn}
 use Rattle.run_history.specs.Objects.{lines_of_object}
 use Rattle.run_history.specs.Truths.{HadEntries}
-use Rattle.run_history.specs.Witnesses.{CountersList, Move, Owner, ShownLine, Witness, is_owner, line_of_object, lines_at, moves_from, moves_on, owner_of, twice}
+use Rattle.run_history.specs.Witnesses.{CountersList, Move, Owner, ShownLine, Witness, is_owner, line_of_object, moves_from, moves_on, owner_of, twice}
 use Rattle.fit_laws.specs.ObjectTurns.{TurnBeginsAt, TurnEndsAt}
 use Rattle.fit_laws.proofs.Moments.{rises_counted}
+use Rattle.fit_laws.proofs.ObjectOrder.{own_lines}
 use Rattle.fit_laws.proofs.OwnPoints.{before_there}
 use Rattle.fit_laws.proofs.OwnParts.{before_at, on_here, on_place, on_rises}
 
 -- a move of a list stands in the order, behind so many of the list
-record StandsOn (o : Owner) (k : ℕ) (m : Move) (ms : List Move) : Type 0 where
-  place : ℕ
-  there : slice_get ms place ≡ Some m
-  count : length (moves_on o (take place ms)) ≡ k
+pub record StandsOn (o : Owner) (k : ℕ) (m : Move) (ms : List Move) : Type 0 where
+  pub place : ℕ
+  pub there : slice_get ms place ≡ Some m
+  pub count : length (moves_on o (take place ms)) ≡ k
 
-on_found : (o : Owner) (k : ℕ) (m : Move) (ms : List Move) → slice_get (moves_on o ms) k ≡ Some m → StandsOn o k m ms
+pub on_found : (o : Owner) (k : ℕ) (m : Move) (ms : List Move) → slice_get (moves_on o ms) k ≡ Some m → StandsOn o k m ms
 on_found o k m [] at = absurd (cc)
 on_found o k m (x ∷ ms) at =
     elim (is_owner (owner_of x.shown) o) as (λ b. is_owner (owner_of x.shown) o ≡ b → slice_get (also b x (moves_on o ms)) k ≡ Some m
@@ -55,14 +56,14 @@ second_of b zero (suc (suc p)) (l ∷ lines) m even at = absurd (omega (arith, e
 second_of b (suc k) (suc (suc p)) (l ∷ lines) m even at = second_of (b + 1 + 1) k p lines m (omega (arith, even)) at
 
 -- law: a turn that began before such a moment has ended before it
-pub turn_ended : (w : Witness) → FitsIn w → (i entries n : ℕ) → HadEntries w i entries n → (c : Label) (stamp begun : ℕ) → TurnBeginsAt w i c stamp begun
-    → begun < n → (ended : ℕ) × (begun < ended) × (ended < n) × TurnEndsAt w i c stamp ended
-turn_ended w f i entries n had c stamp begun turn less =
+pub turn_ended : (w : Witness) → FitsIn w → (i entries n : ℕ) → i < length w.script.timers → HadEntries w i entries n → (c : Label) (stamp begun : ℕ)
+    → TurnBeginsAt w i c stamp begun → begun < n → (ended : ℕ) × (begun < ended) × (ended < n) × TurnEndsAt w i c stamp ended
+turn_ended w f i entries n its had c stamp begun turn less =
     let o = CountersList (suc i) in
     let lines = map (line_of_object i) (lines_of_object w.run i) in
     let before : ℕ → ℕ = λ p. length (moves_on o (take p w.moves)) in
-    let all = f.history.all o in
-    let at : slice_get (moves_from 0 (lines_at w.run o)) (before begun) ≡ Some turn.move =
+    let all = f.history.all o ∙ ap (moves_from 0) (own_lines w f i its) in
+    let at : slice_get (moves_from 0 (twice lines)) (before begun) ≡ Some turn.move =
     ap (λ ms. slice_get ms (before begun)) (sym all) ∙ on_place o begun w.moves turn.move turn.there (ap owner_of turn.is) in
     let even : before begun ≡ stamp + stamp = sym (before_there w f.history begun turn.move o turn.there (ap owner_of turn.is)) ∙ turn.count in
     let next = second_of 0 stamp (before begun) lines turn.move even at in
@@ -81,7 +82,7 @@ turn_ended w f i entries n had c stamp begun turn less =
         there = s.there;
         label = next.2 ∙ turn.label;
         is = next.3 ∙ turn.is;
-        count = sym (none (suc (before begun)) ∙ before_at 0 (suc (before begun)) (lines_at w.run o) next.0 next.1) ∙ add_one (before begun) even;
+        count = sym (none (suc (before begun)) ∙ before_at 0 (suc (before begun)) (twice lines) next.0 next.1) ∙ add_one (before begun) even;
       },
     )
   where

@@ -8,7 +8,7 @@ use Rattle.std.proofs.lemmas.List.{take-map}
 use Rattle.record_text.specs.declared.record.Entry.{Entry}
 use Rattle.record_text.specs.declared.record.Label.{Label}
 use Rattle.record_text.specs.declared.record.TimerLine.{TimerLine}
-use Rattle.run_history.specs.Actions.{Action, also, Began, Entered, entered, Looked, Made, own, Shifted, Skipped, Wrote}
+use Rattle.run_history.specs.Actions.{Action, also, Began, Entered, entered, Looked, Made, own, Shifted, Signalled, Skipped, Wrote}
 use Rattle.run_history.specs.Order.{is_before, is_label, IsInOrder, made_by}
 use Rattle.script_text.specs.declared.script.Script.{Script}
 use Rattle.run_history.specs.Witnesses.{Move, OfBase, OfRise, OfTimer, Owner, Shown, ShownLine, TimersList, is_owner, line_of_timer, moves_from, moves_on, owner_of}
@@ -77,6 +77,19 @@ on_here o (suc p) (x ∷ ms) m there of =
     as (λ b. length (also b x (moves_on o (take (suc p) ms))) ≡ suc (length (also b x (moves_on o (take p ms))))) [
       | true ↦ ap suc (on_here o p ms m there of)
       | false ↦ on_here o p ms m there of
+    ]
+
+-- and another list doesn't
+pub stays : (o : Owner) (p : ℕ) (ms : List Move) (m : Move) → slice_get ms p ≡ Some m → is_owner (owner_of m.shown) o ≡ false
+    → length (moves_on o (take (suc p) ms)) ≡ length (moves_on o (take p ms))
+stays o p [] m there not = absurd (cc)
+stays o zero (x ∷ ms) m there not =
+    ap (λ b. length (also b x [])) (ap (λ (y : Move). is_owner (owner_of y.shown) o) (same_Some x m there) ∙ not)
+stays o (suc p) (x ∷ ms) m there not =
+    elim (is_owner (owner_of x.shown) o)
+    as (λ b. length (also b x (moves_on o (take (suc p) ms))) ≡ length (also b x (moves_on o (take p ms)))) [
+      | true ↦ ap suc (stays o p ms m there not)
+      | false ↦ stays o p ms m there not
     ]
 
 -- a line taken as a move says its own place
@@ -188,6 +201,7 @@ of_timer-entered t (Began i stamp ∷ ds) = of_timer-entered t ds
 of_timer-entered t (Made i number entry ∷ ds) = of_timer-entered t ds
 of_timer-entered t (Skipped i number generation ∷ ds) = of_timer-entered t ds
 of_timer-entered t (Shifted base number event ∷ ds) = of_timer-entered t ds
+of_timer-entered t (Signalled counter number signal ∷ ds) = of_timer-entered t ds
 
 -- an entry of another list adds nothing
 part_else : (t number : ℕ) (shown : Shown) (rest : List (ℕ × Entry)) → is_owner (owner_of shown) (TimersList t) ≡ false

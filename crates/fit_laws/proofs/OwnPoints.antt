@@ -27,7 +27,7 @@ use Rattle.run_history.specs.Actions.{Action, entered, own}
 use Rattle.run_history.specs.Histories.{history_from, history_of, lines_of_timer, reading_at, timer_after, timer_labels}
 use Rattle.script_text.specs.Declarations.{declared_as, declared_of, terms_of, declareds_of}
 use Rattle.run_history.specs.Order.{is_before, IsInOrder, made_by}
-use Rattle.run_history.specs.Witnesses.{Witness, entries_in, entry_of_move, entry_of_shown, IsOneHistory, labels, line_of_timer, lines_at, Move, moves_from, moves_on, OfTimer, Owner, owner_of, Shown, TimersList, timer_along}
+use Rattle.run_history.specs.Witnesses.{Witness, entries_in, entry_of_move, entry_of_shown, IsOneHistory, labels, line_of_timer, lines_at, Move, moves_from, moves_on, OfTimer, Owner, owner_of, RunLists, Shown, TimersList, timer_along}
 use Rattle.fit_laws.specs.EachTimer.{IsOwnPoint, WasSo}
 use Rattle.run_history.specs.Traces.{all_entered, own_moves}
 use Rattle.run_history.specs.Truths.{IsMoment, Saw}
@@ -47,12 +47,16 @@ split_at (y ∷ xs) (suc p) x at = ap (λ zs. y ∷ zs) (split_at xs p x at)
 abbrev pub seen : Witness → ℕ → ℕ → ℕ
 seen w n t = length (moves_on (TimersList t) (take n w.moves))
 
+-- the lists of a witness
+abbrev pub lists_in : Witness → RunLists
+lists_in w = record { run = w.run; signals = w.signals }
+
 -- where a move stands its list has as many moves as it says
 pub before_there : (w : Witness) → IsOneHistory w → (p : ℕ) (m : Move) (o : Owner) → slice_get w.moves p ≡ Some m → owner_of m.shown ≡ o
     → m.before ≡ length (moves_on o (take p w.moves))
 before_there w one p m o there of =
     let many = length (moves_on o (take p w.moves)) in
-    sym (none many ∙ before_at 0 many (lines_at w.run o) m (ap (λ ms. slice_get ms many) (sym (one.all o)) ∙ on_place o p w.moves m there of))
+    sym (none many ∙ before_at 0 many (lines_at (lists_in w) o) m (ap (λ ms. slice_get ms many) (sym (one.all o)) ∙ on_place o p w.moves m there of))
   where
     none : (n : ℕ) → n ≡ 0 + n
     none n = omega arith

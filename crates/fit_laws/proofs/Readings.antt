@@ -128,7 +128,7 @@ reads_before_entries w f c takes entry write number made written order =
 
 module _ (w : Witness) (history : IsOneHistory w) where
   -- law: a call began before each moment at which a timer had an entry of it
-  pub began_before : length w.run.timers ≡ length w.script.timers → (c : Label) (t k n stamp : ℕ) → IsLineOf w.run (TimersList t) k c
+  pub began_before : length w.run.timers ≡ length w.script.timers → (c : Label) (t k n stamp : ℕ) → IsLineOf w (TimersList t) k c
       → IsMoment w c [] (w.traces c).first → (timer_along w n t).stamp ≡ stamp → k < stamp → (w.traces c).first < n
   began_before timers c t k n stamp line begins seen reached = ⊎_elim
       (λ (less : (w.traces c).first < n). less)
@@ -143,7 +143,7 @@ module _ (w : Witness) (history : IsOneHistory w) where
       (cases_lt (w.traces c).first n)
 
   -- law: no call reads a write of a call that began no earlier
-  pub reads_no_later : (c d : Label) (from k : ℕ) → HasRead w c from → IsLineOf w.run (CountersList 0) k d → IsMoment w d [] (w.traces d).first
+  pub reads_no_later : (c d : Label) (from k : ℕ) → HasRead w c from → IsLineOf w (CountersList 0) k d → IsMoment w d [] (w.traces d).first
       → (w.traces c).first ≤ (w.traces d).first → (w.traces c).at ≤ k
   reads_no_later c d from k read line begins order =
       let rise = writes_rise w read.moment (w.traces d).first (omega (arith, read.no_later, order)) in

@@ -1,4 +1,4 @@
--- Lists of signals that differ, and pushes and pops by their places.
+-- Lists of signals that differ, and parts of lists by the numbers of their items.
 use Rattle.std.proofs.Common.{◌≡◌, ◌<◌, ◌≤◌, ◌⊎◌, ℕ, ◌+◌, zero, suc, true, false, List, [], ◌∷◌, ◌++◌, Some, length, map, take, drop, arith, refl, sym, ap, ◌∙◌, subst, inl, inr, length-append}
 use Rattle.std.specs.List.{AllByRecursion, slice_get}
 use Rattle.std.proofs.Math.Logic.{⊎_elim}
@@ -6,15 +6,9 @@ use Rattle.std.proofs.lemmas.List.{take-append-drop}
 use Rattle.std.proofs.lemmas.Option.{same_Some}
 use Rattle.record_text.specs.declared.record.Label.{Label}
 use Rattle.signal_queue.specs.declared.signal.Signal.{Signal}
-use Rattle.signal_queue.specs.declared.signal.Turn.{Turn}
-use Rattle.signal_queue.specs.declared.signal.Turn.TheVariants.{Popped, Pushed}
-use Rattle.signal_queue.specs.Turns.{AreTurns, popped, pushed, waiting_after}
-use Rattle.signal_queue.proofs.Turns.{legal_first, pushed-append, whole}
 use Rattle.run_history.specs.Actions.{also, own}
 use Rattle.run_history.specs.Order.{is_label}
-use Rattle.run_history.specs.Signals.{SignalMove, turns_in}
-use Rattle.run_history.proofs.Items.{Among, StandsIn, stands_own}
-use Rattle.run_history.proofs.Labels.{label_itself}
+use Rattle.run_history.proofs.Items.{Among, at_among, StandsIn}
 use Rattle.fit_laws.specs.Signals.{AreDistinct}
 
 -- ---- members of lists
@@ -140,159 +134,65 @@ few_among (x ∷ xs) ys are each =
     (among_either z at.0 (x ∷ at.1) (subst (Among z) at.2 (each z (inr here))))) in
     omega (arith, rest, ap length at.2, length-append at.0 (x ∷ at.1), length-append at.0 at.1)
 
--- where a signal stands once, the same stand before it
-pub same_before : (y : Signal) (xs after us rest : List Signal) → AreDistinct (xs ++ y ∷ after) → xs ++ y ∷ after ≡ us ++ y ∷ rest → xs ≡ us
-same_before y [] after [] rest are same = refl
-same_before y [] after (u ∷ us) rest are same =
-    let tail : after ≡ us ++ y ∷ rest = cc in
-    absurd (none_among y after are.0 (subst (Among y) (sym tail) (among_right y us (y ∷ rest) (inl refl))))
-same_before y (x ∷ xs) after [] rest are same =
-    let head : x ≡ y = cc in
-    absurd (none_among x (xs ++ y ∷ after) are.0 (among_right x xs (y ∷ after) (inl head)))
-same_before y (x ∷ xs) after (u ∷ us) rest are same =
-    let head : x ≡ u = cc in
-    let tail : xs ++ y ∷ after ≡ us ++ y ∷ rest = cc in
-    ap (λ z. z ∷ xs) head ∙ ap (λ zs. u ∷ zs) (same_before y xs after us rest are.1 tail)
-
--- ---- pushes and pops
-
-pub pushed_is : (x : Signal) (ts : List Turn) → Among x (pushed ts) → Among (Pushed x) ts
-pushed_is x [] here = absurd here
-pushed_is x (Pushed y ∷ ts) here = ⊎_elim (λ (is : x ≡ y). inl (ap Pushed is)) (λ more. inr (pushed_is x ts more)) here
-pushed_is x (Popped y ∷ ts) here = inr (pushed_is x ts here)
-
-pub is_pushed : (x : Signal) (ts : List Turn) → Among (Pushed x) ts → Among x (pushed ts)
-is_pushed x [] here = absurd here
-is_pushed x (Pushed y ∷ ts) here = ⊎_elim (λ (is : Pushed x ≡ Pushed y). inl cc) (λ more. inr (is_pushed x ts more)) here
-is_pushed x (Popped y ∷ ts) here = ⊎_elim (λ (is : Pushed x ≡ Popped y). absurd (cc)) (λ more. is_pushed x ts more) here
-
-pub popped_is : (x : Signal) (ts : List Turn) → Among x (popped ts) → Among (Popped x) ts
-popped_is x [] here = absurd here
-popped_is x (Popped y ∷ ts) here = ⊎_elim (λ (is : x ≡ y). inl (ap Popped is)) (λ more. inr (popped_is x ts more)) here
-popped_is x (Pushed y ∷ ts) here = inr (popped_is x ts here)
-
-pub is_popped : (x : Signal) (ts : List Turn) → Among (Popped x) ts → Among x (popped ts)
-is_popped x [] here = absurd here
-is_popped x (Popped y ∷ ts) here = ⊎_elim (λ (is : Popped x ≡ Popped y). inl cc) (λ more. inr (is_popped x ts more)) here
-is_popped x (Pushed y ∷ ts) here = ⊎_elim (λ (is : Popped x ≡ Pushed y). absurd (cc)) (λ more. is_popped x ts more) here
-
--- law: what was pushed in the first so many turns is what was popped in them, and what waits then
-pub whole_at : (room n : ℕ) (ts : List Turn) → AreTurns room [] ts → pushed (take n ts) ≡ popped (take n ts) ++ waiting_after [] (take n ts)
-whole_at room n ts are =
-    whole room [] (take n ts) (legal_first room [] (take n ts) (drop n ts) (subst (AreTurns room []) (sym (take-append-drop n ts)) are))
-
--- law: a push finds room
-pub room_found : (room : ℕ) (waiting : List Signal) (before after : List Turn) (s : Signal) → AreTurns room waiting (before ++ Pushed s ∷ after)
-    → length (waiting_after waiting before) < room
-room_found room waiting [] after s are = are.0
-room_found room waiting (Pushed t ∷ before) after s are = room_found room (waiting ++ t ∷ []) before after s are.1
-room_found room [] (Popped t ∷ before) after s are = absurd are
-room_found room (w ∷ waiting) (Popped t ∷ before) after s are = room_found room waiting before after s are.1
-
--- law: where all pushes differ, so do those of the first so many turns
-pub distinct_first : (n : ℕ) (ts : List Turn) → AreDistinct (pushed ts) → AreDistinct (pushed (take n ts))
-distinct_first n ts are = distinct_left (pushed (take n ts)) (pushed (drop n ts))
-    (subst AreDistinct (ap pushed (sym (take-append-drop n ts)) ∙ pushed-append (take n ts) (drop n ts)) are)
-
--- ---- their places
-
--- a turn of a call stands at this place
-pub record HasTurnAt (ms : List SignalMove) (p : ℕ) (c : Label) (turn : Turn) : Type 0 where
-  pub move : SignalMove
-  pub there : slice_get ms p ≡ Some move
-  pub label : move.label ≡ c
-  pub is : move.turn ≡ turn
-
--- a turn stands among the first so many, with its call
-pub record HasTurn (ms : List SignalMove) (n : ℕ) (turn : Turn) : Type 0 where
-  pub place : ℕ
-  pub early : place < n
-  pub call : Label
-  pub at : HasTurnAt ms place call turn
-
-pub one_later : {ms : List SignalMove} {p : ℕ} {c : Label} {turn : Turn} (m : SignalMove) → HasTurnAt ms p c turn → HasTurnAt (m ∷ ms) (suc p) c turn
-one_later m t = record { move = t.move; there = t.there; label = t.label; is = t.is }
-
-pub one_sooner : {ms : List SignalMove} {p : ℕ} {c : Label} {turn : Turn} {m : SignalMove} → HasTurnAt (m ∷ ms) (suc p) c turn → HasTurnAt ms p c turn
-one_sooner t = record { move = t.move; there = t.there; label = t.label; is = t.is }
-
-pub turn_first : (ms : List SignalMove) (n : ℕ) (turn : Turn) → Among turn (take n (turns_in ms)) → HasTurn ms n turn
-turn_first [] zero turn here = absurd here
-turn_first [] (suc n) turn here = absurd here
-turn_first (m ∷ ms) zero turn here = absurd here
-turn_first (m ∷ ms) (suc n) turn here = ⊎_elim
-    (λ (is : turn ≡ m.turn). record {
-      place = 0;
-      early = omega arith;
-      call = m.label;
-      at = record { move = m; there = refl; label = refl; is = sym is };
-    })
-    (λ more. let t = turn_first ms n turn more in record {
-      place = suc t.place;
-      early = omega (arith, t.early);
-      call = t.call;
-      at = one_later m t.at;
-    }) here
-
-pub first_turn : (ms : List SignalMove) (n p : ℕ) (c : Label) (turn : Turn) → HasTurnAt ms p c turn → p < n → Among turn (take n (turns_in ms))
-first_turn [] n p c turn t less = absurd (let at = t.there in cc)
-first_turn (m ∷ ms) zero p c turn t less = absurd (omega (arith, less))
-first_turn (m ∷ ms) (suc n) zero c turn t less = inl (sym (ap (λ (x : SignalMove). x.turn) (same_Some m t.move t.there) ∙ t.is))
-first_turn (m ∷ ms) (suc n) (suc p) c turn t less =
-    inr (first_turn ms n p c turn (one_sooner t) (omega (arith, less)))
-
--- a turn of a call is one of its own
-pub turn_among : (ms : List SignalMove) (p : ℕ) (c : Label) (turn : Turn) → HasTurnAt ms p c turn → Among (p, turn) (own (λ m. m.label) (λ m. m.turn) c 0 ms)
-turn_among ms p c turn t =
-    let mine : is_label c t.move.label ≡ true = ap (is_label c) t.label ∙ label_itself c in
-    let among = stands_own (λ (m : SignalMove). m.label) (λ (m : SignalMove). m.turn) c 0 p ms t.move t.there mine in
-    subst (λ (n : ℕ). Among (n, turn) (own (λ (m : SignalMove). m.label) (λ (m : SignalMove). m.turn) c 0 ms)) (none p)
-    (subst (λ (y : Turn). Among (0 + p, y) (own (λ (m : SignalMove). m.label) (λ (m : SignalMove). m.turn) c 0 ms)) t.is among)
+-- numbered signals that differ have each one number
+pub one_number : (n m : ℕ) (x : Signal) (xs : List (ℕ × Signal)) → AreDistinct (map (λ e. e.1) xs) → Among (n, x) xs → Among (m, x) xs → n ≡ m
+one_number n m x [] are one two = absurd one
+one_number n m x (e ∷ xs) are one two = ⊎_elim
+    (λ (a : (n, x) ≡ e). ⊎_elim
+    (λ (b : (m, x) ≡ e). ap (λ (y : ℕ × Signal). y.0) (a ∙ sym b))
+    (λ more. absurd (none_among e.1 (map (λ e. e.1) xs) are.0 (subst (λ y. Among y (map (λ e. e.1) xs)) (second a) (among_numbered m x xs more)))) two)
+    (λ here. ⊎_elim
+    (λ (b : (m, x) ≡ e). absurd (none_among e.1 (map (λ e. e.1) xs) are.0 (subst (λ y. Among y (map (λ e. e.1) xs)) (second b) (among_numbered n x xs here))))
+    (λ more. one_number n m x xs are.1 here more) two) one
   where
-    none : (n : ℕ) → 0 + n ≡ n
-    none n = omega arith
+    second : {k : ℕ} → (k, x) ≡ e → x ≡ e.1
+    second is = ap (λ (y : ℕ × Signal). y.1) is
 
--- the turns before a place, the one there, and those behind it
-pub split_turns : (ms : List SignalMove) (p : ℕ) (c : Label) (turn : Turn) → HasTurnAt ms p c turn
-    → turns_in ms ≡ take p (turns_in ms) ++ turn ∷ drop (suc p) (turns_in ms)
-split_turns [] p c turn t = absurd (let at = t.there in cc)
-split_turns (m ∷ ms) zero c turn t = ap (λ x. x ∷ turns_in ms) (ap (λ (x : SignalMove). x.turn) (same_Some m t.move t.there) ∙ t.is)
-split_turns (m ∷ ms) (suc p) c turn t =
-    ap (λ xs. m.turn ∷ xs) (split_turns ms p c turn (one_sooner t))
+-- ---- parts of a list
 
--- the same among the first so many
-pub split_first : (ms : List SignalMove) (p n : ℕ) (c : Label) (turn : Turn) → HasTurnAt ms p c turn → p < n
-    → take n (turns_in ms) ≡ take p (turns_in ms) ++ turn ∷ drop (suc p) (take n (turns_in ms))
-split_first [] p n c turn t less = absurd (let at = t.there in cc)
-split_first (m ∷ ms) p zero c turn t less = absurd (omega (arith, less))
-split_first (m ∷ ms) zero (suc n) c turn t less =
-    ap (λ x. x ∷ take n (turns_in ms)) (ap (λ (x : SignalMove). x.turn) (same_Some m t.move t.there) ∙ t.is)
-split_first (m ∷ ms) (suc p) (suc n) c turn t less =
-    ap (λ xs. m.turn ∷ xs) (split_first ms p n c turn (one_sooner t) (omega (arith, less)))
+-- the items from one number on, and before another
+abbrev pub part : {X : Type 0} → ℕ → ℕ → List X → List X
+part a b xs = drop a (take b xs)
 
--- a pop's signal is one of those that were popped
-pop_among : (ms : List SignalMove) (p : ℕ) (c : Label) (x : Signal) → HasTurnAt ms p c (Popped x) → Among x (popped (turns_in ms))
-pop_among ms p c x t = is_popped x (turns_in ms) (subst (Among (Popped x)) (sym (split_turns ms p c (Popped x) t))
-    (among_right (Popped x) (take p (turns_in ms)) _ (inl refl)))
+pub among_part : {X : Type 0} (a b k : ℕ) (xs : List X) (x : X) → slice_get xs k ≡ Some x → a ≤ k → k < b → Among x (part a b xs)
+among_part a b k [] x at from to = absurd (cc)
+among_part a zero k (y ∷ xs) x at from to = absurd (omega (arith, to))
+among_part zero (suc b) zero (y ∷ xs) x at from to = inl (sym (same_Some y x at))
+among_part zero (suc b) (suc k) (y ∷ xs) x at from to = inr (among_part zero b k xs x at (omega arith) (omega (arith, to)))
+among_part (suc a) (suc b) zero (y ∷ xs) x at from to = absurd (omega (arith, from))
+among_part (suc a) (suc b) (suc k) (y ∷ xs) x at from to = among_part a b k xs x at (omega (arith, from)) (omega (arith, to))
 
--- the first turn's signal isn't popped again
-first_only : (m : SignalMove) (ms : List SignalMove) (p : ℕ) (c d : Label) (x : Signal) → AreDistinct (popped (turns_in (m ∷ ms)))
-    → HasTurnAt (m ∷ ms) 0 c (Popped x) → HasTurnAt ms p d (Popped x) → ⊥
-first_only m ms p c d x are one two =
-    let is : m.turn ≡ Popped x = ap (λ (y : SignalMove). y.turn) (same_Some m one.move one.there) ∙ one.is in
-    none_among x (popped (turns_in ms)) (subst (λ t. AreDistinct (popped (t ∷ turns_in ms))) is are).0 (pop_among ms p d x two)
+pub part_among : {X : Type 0} (a b : ℕ) (xs : List X) (x : X) → Among x (part a b xs) → (k : ℕ) × (slice_get xs k ≡ Some x) × (a ≤ k) × (k < b)
+part_among zero zero [] x here = absurd here
+part_among zero (suc b) [] x here = absurd here
+part_among (suc a) zero [] x here = absurd here
+part_among (suc a) (suc b) [] x here = absurd here
+part_among zero zero (y ∷ xs) x here = absurd here
+part_among (suc a) zero (y ∷ xs) x here = absurd here
+part_among zero (suc b) (y ∷ xs) x here = ⊎_elim
+    (λ (is : x ≡ y). (0, ap Some (sym is), omega arith, omega arith))
+    (λ more. let rest = part_among zero b xs x more in (suc rest.0, rest.1, omega arith, omega (arith, rest.3))) here
+part_among (suc a) (suc b) (y ∷ xs) x here =
+    let rest = part_among a b xs x here in (suc rest.0, rest.1, omega (arith, rest.2), omega (arith, rest.3))
 
-behind : (t : Turn) (ts : List Turn) → AreDistinct (popped (t ∷ ts)) → AreDistinct (popped ts)
-behind (Pushed y) ts are = are
-behind (Popped y) ts are = are.1
+-- it has as many items as there are numbers
+pub part_length : {X : Type 0} (a b : ℕ) (xs : List X) → b ≤ length xs → a ≤ b → a + length (part a b xs) ≡ b
+part_length zero zero [] few le = omega arith
+part_length zero zero (x ∷ xs) few le = omega arith
+part_length zero (suc b) (x ∷ xs) few le = omega (arith, part_length zero b xs (omega (arith, few)) (omega arith))
+part_length (suc a) (suc b) (x ∷ xs) few le = omega (arith, part_length a b xs (omega (arith, few)) (omega (arith, le)))
+part_length a (suc b) [] few le = absurd (omega (arith, few))
+part_length (suc a) zero xs few le = absurd (omega (arith, le))
 
--- law: where all pops differ, a signal is popped by one call
-pub popped_once : (ms : List SignalMove) (p q : ℕ) (c d : Label) (x : Signal) → AreDistinct (popped (turns_in ms)) → HasTurnAt ms p c (Popped x)
-    → HasTurnAt ms q d (Popped x) → c ≡ d
-popped_once [] p q c d x are one two = absurd (let at = one.there in cc)
-popped_once (m ∷ ms) zero zero c d x are one two =
-    sym one.label ∙ ap (λ (y : SignalMove). y.label) (sym (same_Some m one.move one.there) ∙ same_Some m two.move two.there) ∙ two.label
-popped_once (m ∷ ms) zero (suc q) c d x are one two = absurd (first_only m ms q c d x are one (one_sooner two))
-popped_once (m ∷ ms) (suc p) zero c d x are one two = absurd (first_only m ms p d c x are two (one_sooner one))
-popped_once (m ∷ ms) (suc p) (suc q) c d x are one two =
-    popped_once ms p q c d x (behind m.turn (turns_in ms) are) (one_sooner one) (one_sooner two)
+pub distinct_part : (a b : ℕ) (xs : List Signal) → AreDistinct xs → AreDistinct (part a b xs)
+distinct_part a b xs are =
+    distinct_right (take a (take b xs)) (drop a (take b xs)) (subst AreDistinct (sym (take-append-drop a (take b xs)))
+    (distinct_left (take b xs) (drop b xs) (subst AreDistinct (sym (take-append-drop b xs)) are)))
+
+-- signals differ of which none stands at two numbers
+pub distinct_by : (xs : List Signal) → ((k j : ℕ) (x : Signal) → slice_get xs k ≡ Some x → slice_get xs j ≡ Some x → k ≡ j) → AreDistinct xs
+distinct_by [] once = tt
+distinct_by (x ∷ xs) once = (
+  none_from x xs (λ here. let at = at_among x xs here in absurd (let same = once 0 (suc at.0) x refl at.1 in cc)),
+  distinct_by xs (λ k j y one two. let same = once (suc k) (suc j) y one two in omega (arith, same)),
+)

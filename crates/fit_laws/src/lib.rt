@@ -38,8 +38,8 @@ pub fn entries_of_an_object_keep_the_order_of_calls()
 /// In the order by which a record fits, each turn of an object that began before a moment at which the object had so many entries ends before that moment,
 /// by its call's entry. So what a call tells of an object holds while no other call has its turn of it.
 pub fn no_call_has_its_turn_of_an_object_that_is_told_of()
-    ensures { (w : Witness) → FitsIn w → (i entries n : ℕ) → HadEntries w i entries n → (c : Label) (stamp begun : ℕ) → TurnBeginsAt w i c stamp begun → begun < n
-        → (ended : ℕ) × (begun < ended) × (ended < n) × TurnEndsAt w i c stamp ended }
+    ensures { (w : Witness) → FitsIn w → (i entries n : ℕ) → i < length w.script.timers → HadEntries w i entries n → (c : Label) (stamp begun : ℕ)
+        → TurnBeginsAt w i c stamp begun → begun < n → (ended : ℕ) × (begun < ended) × (ended < n) × TurnEndsAt w i c stamp ended }
 {}
 
 /// A record that fits a script of version 1 has no slack: a soft expiry is the expiry. The text of such a record shows neither.

@@ -26,7 +26,7 @@ use Rattle.run_history.specs.Promises.{GoesOnClock, HasLog, IsPromised}
 use Rattle.run_history.specs.Receipts as receipts
 use Rattle.run_history.specs.Receipts.{IsMade, PlacedEntry, receipt, Rises, ShowsEntry}
 use Rattle.run_history.specs.Runs.{CallLog, Ending, IsJoined, witness_of}
-use Rattle.run_history.specs.Actions.{Action, also, looked, made, skipped, wrote}
+use Rattle.run_history.specs.Actions.{Action, Signalled, also, looked, made, skipped, wrote}
 use Rattle.run_history.specs.Histories.{ShowsReading}
 use Rattle.run_history.specs.Objects.{lines_of_object}
 use Rattle.run_history.specs.Order.{CallInRound, calls_of, is_label}
@@ -38,9 +38,12 @@ use Rattle.lane_notes.specs.Called.{LaneOf}
 use Rattle.lane_notes.specs.Worlds.{IsWhole, IsWorldOf, WorldOf}
 use Rattle.lane_notes.specs.declared.lane.WorldPass.{WorldPass}
 use Rattle.signal_queue.specs.Rules.{turns}
+use Rattle.signal_queue.specs.Turns.{popped, pushed}
+use Rattle.signal_queue.specs.declared.signal.Signal.{Signal}
 use Rattle.signal_queue.specs.declared.signal.Turn.{Turn}
-use Rattle.run_history.specs.Runs.{IsOfQueued}
-use Rattle.run_history.specs.Promises.{GoesOnSignals}
+use Rattle.signal_queue.specs.declared.signal.Turn.TheVariants.{Popped, Pushed}
+use Rattle.run_history.specs.Signals.{SendsSignals, pop_counter, push_counter}
+use Rattle.script_text.specs.Declarations.{kind_of}
 use Rattle.lane_notes.specs.Runs.{AreObjectLines, ObjectMove, ShowsObjectCall}
 
 -- ---- what passes have seen
@@ -50,7 +53,6 @@ abbrev pub seen_by : WorldPass → Seen
 seen_by p = record {
   clock = length (writes p.clock.knows);
   moves = length p.timers.known.seen;
-  signals = length (turns p.signals.knows);
 }
 
 -- of each list what was seen goes on, and the objects are the same
@@ -61,14 +63,14 @@ pub record SeesOn (p q : WorldPass) : Type 0 where
   pub opening : q.objects.knows.opening ≡ p.objects.knows.opening
   pub signals : Begins (turns p.signals.knows) (turns q.signals.knows)
 
--- what a lane kept of a call, by its passes before and after it, its receipts and its actions
-abbrev pub log_of : WorldPass → WorldPass → List PlacedEntry → Trace → CallLog
-log_of p q notes trace = record {
+-- what a lane kept of a call, by its passes before and after it, its receipts, its actions, and its turns of the queue
+abbrev pub log_of : WorldPass → WorldPass → List PlacedEntry → Trace → List (ℕ × Turn) → CallLog
+log_of p q notes trace turned = record {
   notes = notes;
   trace = trace;
   moves = (length p.timers.known.seen, length q.timers.known.seen);
   clock = (length (writes p.clock.knows), length (writes q.clock.knows));
-  signals = (length (turns p.signals.knows), length (turns q.signals.knows));
+  turns = turned;
 }
 
 -- ---- the runs in which a lane may still end
@@ -85,7 +87,6 @@ pub record Follows (p : WorldPass) (e : Ending) : Type 0 where
   pub timers : promises.RunGoesOn p.timers.known.seen e
   pub clock : GoesOnClock (writes p.clock.knows) e
   pub objects : (i : ℕ) → FollowsObject e i (seen_of p.objects i)
-  pub signals : GoesOnSignals (turns p.signals.knows) e
 
 -- ---- notes
 
@@ -208,9 +209,19 @@ pub record TellActions (added : NotesOf) (actions : List Action) : Type 0 where
   pub looks_rise : (t : ℕ) → Rises 1 (map (λ n. n.0) (looked t actions))
   pub objects_rise : (i : ℕ) → Rises 1 (map (λ n. n.0) (made i actions))
 
--- a call's notes are of what its lane kept of it
+-- the pushes and pops among what a call did: the counter that rose, the number there, and the signal
+abbrev pub signals_of : List Action → List (ℕ × (ℕ × Signal))
+signals_of [] = []
+signals_of (Signalled counter number signal ∷ ds) = (counter, (number, signal)) ∷ signals_of ds
+signals_of (d ∷ ds) = signals_of ds
+
+-- and the moves that they are, of which there are no notes
+abbrev pub signals_told : List Action → List (ℕ × Shown)
+signals_told ds = map (λ x. (x.1.0, OfRise x.0)) (signals_of ds)
+
+-- a call's notes, and its pushes and pops, are of what its lane kept of it
 pub record TellLog (log : CallLog) (own : NotesOf) : Type 0 where
-  pub receipts : IsPermutation (map receipt log.notes) (entries_told own)
+  pub receipts : IsPermutation (map receipt log.notes) (entries_told own ++ signals_told log.trace.actions)
   pub tells : TellActions own log.trace.actions
 
 -- the place of a note of an entry, of a timer's and of a base's; there are so many timers, and a base's places stand behind theirs
@@ -277,16 +288,26 @@ pub record StandAt (q : WorldPass) (log : CallLog) : Type 0 where
 abbrev pub turn_place : ℕ × Turn → ℕ × ℕ
 turn_place x = (0, x.0 + 1)
 
+-- a push is of a signal of a queued timer
+abbrev pub IsOfQueued : Script → Turn → Type 0
+IsOfQueued s (Pushed signal) = SendsSignals (kind_of s signal.timer)
+IsOfQueued s (Popped signal) = Unit
+
 -- a push or a pop stands in what a pass has seen, and a push is of a queued timer's signal
 pub record IsTurnSeen (s : Script) (seen : List Turn) (x : ℕ × Turn) : Type 0 where
   pub there : slice_get seen x.0 ≡ Some x.1
   pub of : IsOfQueued s x.1
 
--- a call's pushes and pops stand in what was seen, at rising places in its span
+-- a push or a pop as a rise of its counter: its number is that of pushes, or of pops
+abbrev pub signal_at : Script → List Turn → ℕ × Turn → ℕ × (ℕ × Signal)
+signal_at s seen (place, Pushed signal) = (push_counter s, (length (pushed (take place seen)) + 1, signal))
+signal_at s seen (place, Popped signal) = (pop_counter s, (length (popped (take place seen)) + 1, signal))
+
+-- a call's pushes and pops stand in what was seen, at rising places, and are those among its actions
 pub record AreTurnsOf (s : Script) (q : WorldPass) (log : CallLog) : Type 0 where
-  pub rise : Rises log.signals.0 (map (λ x. x.0) log.trace.turns)
-  pub below : AllByRecursion (λ x. x.0 < log.signals.1) log.trace.turns
-  pub each : AllByRecursion (IsTurnSeen s (turns q.signals.knows)) log.trace.turns
+  pub rise : Rises 0 (map (λ x. x.0) log.turns)
+  pub each : AllByRecursion (IsTurnSeen s (turns q.signals.knows)) log.turns
+  pub are : signals_of log.trace.actions ≡ map (signal_at s (turns q.signals.knows)) log.turns
 
 -- ---- a call
 
@@ -304,22 +325,23 @@ pub record IsNextCall (s : Script) (x : WorldOf) (l : LaneOf) (call : Call) : Ty
 pub record KeepsCall (s : Script) (l : LaneOf) (call : Call) (a : Answer) (m : LaneOf) : Type 0 where
   pub notes : List PlacedEntry
   pub trace : Trace
+  pub turned : List (ℕ × Turn)
   pub added : NotesOf
   pub sees : SeesOn l.pass m.pass
   -- the notes
   pub joins : m.notes ≡ both_noted l.notes added
   pub bears : (k : NoteKind) → AllByRecursion (λ n. label_of k n ≡ l.label) (list_of k added)
-  pub tells : TellLog (log_of l.pass m.pass notes trace) added
+  pub tells : TellLog (log_of l.pass m.pass notes trace turned) added
   -- no call writes more than once
   pub few : length added.writes ≤ 1
   pub places : AddsPlaces (length s.timers) l.pass m.pass added
-  pub seen : (k : NoteKind) → AllByRecursion (IsNoteSeen k m.pass (log_of l.pass m.pass notes trace)) (list_of k added)
-  pub stand : StandAt m.pass (log_of l.pass m.pass notes trace)
+  pub seen : (k : NoteKind) → AllByRecursion (IsNoteSeen k m.pass (log_of l.pass m.pass notes trace turned)) (list_of k added)
+  pub stand : StandAt m.pass (log_of l.pass m.pass notes trace turned)
   -- its pushes and pops are all that its pass of the queue has added
-  pub turned : AreTurnsOf s m.pass (log_of l.pass m.pass notes trace)
-  pub turn_places : m.pass.signals.knows.pass.mine ≡ l.pass.signals.knows.pass.mine ++ map turn_place trace.turns
+  pub turns : AreTurnsOf s m.pass (log_of l.pass m.pass notes trace turned)
+  pub turn_places : m.pass.signals.knows.pass.mine ≡ l.pass.signals.knows.pass.mine ++ map turn_place turned
   -- the promise
-  pub promised : IsPromised s l.label.lane l.label.call (log_of l.pass m.pass notes trace) (Follows m.pass) call a (seen_by l.pass) (seen_by m.pass)
+  pub promised : IsPromised s l.label.lane l.label.call (log_of l.pass m.pass notes trace turned) (Follows m.pass) call a (seen_by l.pass) (seen_by m.pass)
 
 -- What a lane keeps of a call with its reading: where it took one it had seen more of timers and clock before the call's own part, and had made nothing.
 pub record KeepsTurn (s : Script) (l : LaneOf) (call : Call) (a : Answer) (m : LaneOf) : Type 0 where
@@ -332,6 +354,6 @@ pub record KeepsTurn (s : Script) (l : LaneOf) (call : Call) (a : Answer) (m : L
   pub clock : begun.pass.clock.knows.pass.mine ≡ l.pass.clock.knows.pass.mine
   pub signals : begun.pass.signals ≡ l.pass.signals
   pub kept : KeepsCall s begun call a m
-  pub read : (e : Ending) → Follows m.pass e → HasLog e l.label (log_of begun.pass m.pass kept.notes kept.trace) → IsJoined s e
+  pub read : (e : Ending) → Follows m.pass e → HasLog e l.label (log_of begun.pass m.pass kept.notes kept.trace kept.turned) → IsJoined s e
       → FitsCall (witness_of s e) l.label call a (seen_by begun.pass) (seen_by m.pass)
       → ReadsInTurn (witness_of s e) l.label call (length l.pass.timers.known.seen)

@@ -1,6 +1,10 @@
 -- What holds of what passes have seen is carried to passes that have seen more.
-use Rattle.std.specs.List.{slice_get}
-use Rattle.std.proofs.Common.{ℕ, ◌≡◌, ◌≤◌, Some, List, [], take, arith, refl, sym, ap, ◌∙◌, subst, ◌++◌}
+use Rattle.std.specs.List.{AllByRecursion, slice_get}
+use Rattle.run_history.specs.Signals.{pop_counter, push_counter}
+use Rattle.signal_queue.specs.Turns.{popped, pushed}
+use Rattle.signal_queue.specs.declared.signal.Turn.{Turn}
+use Rattle.signal_queue.specs.declared.signal.Turn.TheVariants.{Popped, Pushed}
+use Rattle.std.proofs.Common.{ℕ, ◌+◌, ◌≡◌, ◌≤◌, Some, List, [], ◌∷◌, length, map, take, arith, refl, sym, ap, ◌∙◌, subst, ◌++◌}
 use Rattle.clock_cell.specs.Views.{reading_after, writes}
 use Rattle.pass_names.specs.Passes.{Begins, entries}
 use Rattle.run_history.specs.Witnesses.{Owner, TimersList}
@@ -23,13 +27,12 @@ use Rattle.lane_notes.specs.Runs.{ObjectMove}
 use Rattle.signal_queue.specs.Rules.{turns}
 use Rattle.script_text.specs.declared.script.Script.{Script}
 use Rattle.lane_notes.proofs.PartLists.{each_weaker}
-use Rattle.lane_notes.proofs.Kept.{AreTurnsOf, seen_by, SeesOn, FollowsObject, Follows, NoteKind, NoteOf, IsNoteSeen, StandAt, EntryNotes, LookNotes, ObjectNotes, SkipNotes, BaseNotes, WriteNotes}
+use Rattle.lane_notes.proofs.Kept.{AreTurnsOf, IsTurnSeen, signal_at, seen_by, SeesOn, FollowsObject, Follows, NoteKind, NoteOf, IsNoteSeen, StandAt, EntryNotes, LookNotes, ObjectNotes, SkipNotes, BaseNotes, WriteNotes}
 
 -- a lane has seen no less
 pub record IsNoLess (before after : Seen) : Type 0 where
   pub clock : before.clock ≤ after.clock
   pub moves : before.moves ≤ after.moves
-  pub signals : before.signals ≤ after.signals
 
 -- ---- passes that have seen more than others
 
@@ -114,7 +117,7 @@ more_heard takes = record {
 
 -- law: so they have seen no less
 pub no_less : {p q : WorldPass} → SeesMore p q → IsNoLess (seen_by p) (seen_by q)
-no_less more = record { clock = begins_length more.clock; moves = begins_length more.timers; signals = begins_length more.signals }
+no_less more = record { clock = begins_length more.clock; moves = begins_length more.timers }
 
 -- law: a run that goes on from what the ones have seen goes on from what the others have, of an object and of all
 pub follows_object : {e : Ending} {i : ℕ} {xs ys : List ObjectMove} → Begins xs ys → FollowsObject e i ys → FollowsObject e i xs
@@ -126,7 +129,6 @@ follows_less more follows = record {
   timers = goes_before more.timers follows.timers;
   clock = goes_before more.clock follows.clock;
   objects = λ i. follows_object (more.objects i) (follows.objects i);
-  signals = goes_before more.signals follows.signals;
 }
 
 -- ---- what stands in what was seen
@@ -141,12 +143,29 @@ stand_later {log = log} more stand = record {
   shows = λ e follows. stand.shows e (follows_less more follows);
 }
 
+-- law: pushes and pops keep their numbers as more is seen
+signal_later : {s : Script} {xs ys : List Turn} (b : Begins xs ys) (x : ℕ × Turn) → IsTurnSeen s xs x → signal_at s xs x ≡ signal_at s ys x
+signal_later {s = s} {xs = xs} {ys = ys} b (place, turn) is = by_turn turn
+  where
+    same : take place xs ≡ take place ys
+    same = let less = slice_get_within xs place turn is.there in
+        sym (ap (take place) b.whole ∙ take-append-le place xs b.rest (omega (arith, less)))
+
+    by_turn : (t : Turn) → signal_at s xs (place, t) ≡ signal_at s ys (place, t)
+    by_turn (Pushed signal) = ap (λ zs. (push_counter s, (length (pushed zs) + 1, signal))) same
+    by_turn (Popped signal) = ap (λ zs. (pop_counter s, (length (popped zs) + 1, signal))) same
+
+pub signals_later : (s : Script) {xs ys : List Turn} → Begins xs ys → (ts : List (ℕ × Turn)) → AllByRecursion (IsTurnSeen s xs) ts
+    → map (signal_at s xs) ts ≡ map (signal_at s ys) ts
+signals_later s b [] each = refl
+signals_later s b (x ∷ ts) each = λ i. signal_later {s = s} b x each.0 i ∷ signals_later s b ts each.1 i
+
 -- law: and its pushes and pops
 pub turned_later : {s : Script} {p q : WorldPass} {log : CallLog} → SeesMore p q → AreTurnsOf s p log → AreTurnsOf s q log
-turned_later {log = log} more turned = record {
+turned_later {s = s} {log = log} more turned = record {
   rise = turned.rise;
-  below = turned.below;
-  each = each_weaker log.trace.turns (λ x is. record { there = stands_on x.0 more.signals is.there; of = is.of }) turned.each;
+  each = each_weaker log.turns (λ x is. record { there = stands_on x.0 more.signals is.there; of = is.of }) turned.each;
+  are = turned.are ∙ signals_later s more.signals log.turns turned.each;
 }
 
 -- law: what a note is of

@@ -55,7 +55,8 @@ use Rattle.timer_objects.specs.declared.answers.Readable.{Readable}
 use Rattle.timer_objects.specs.declared.object.Kind.{Kind}
 use Rattle.timer_objects.specs.declared.object.Kind.TheVariants as over
 use Rattle.timer_objects.specs.Known.{decl_at}
-use Rattle.timer_objects.specs.Signals.{TakesNext}
+use Rattle.signal_queue.specs.Views.{KnowsQueue}
+use Rattle.timer_objects.specs.Signals.{IsSignalPass, TakesNext}
 use Rattle.timer_objects.specs.declared.signals.NextSignal.{NextSignal}
 use Rattle.timer_objects.specs.declared.signals.NextSignal.TheVariants as nexts
 use Rattle.record_text.specs.declared.record.ClockLine.{ClockLine}
@@ -369,6 +370,8 @@ module _ (x : WorldOf) (l m : LaneOf) (a : Answer) where
 
   -- the next signal was taken
   pub record CallsSigwait : Type 0 where
+    pub of : IsSignalPass x.objects l.pass.signals
+    pub knows : KnowsQueue m.pass.signals.knows
     pub reading : ClockReading
     pub reads : ReadsClock l.pass m.pass reading
     pub log : List Receipt

@@ -2,6 +2,7 @@
 use Rattle.std.specs.Prelude.{ℕ, ◌≡◌, ◌+◌, ◌≤◌, ◌<◌, length, map, List, [], ◌∷◌}
 use Rattle.clock_cell.specs.Views.{writes}
 use Rattle.ordered_clock.specs.Moments.{told}
+use Rattle.ordered_signals.specs.Places.{pops_seen, pops_told, pushes_seen, pushes_told}
 use Rattle.pass_names.specs.Passes.{Looks}
 use Rattle.pass_names.specs.SharedHistory.{LooksOn}
 use Rattle.record_text.specs.declared.record.RunRecord.{RunRecord}
@@ -49,8 +50,17 @@ pub record LooksAtAll (x : WorldOf) (p q : WorldPass) : Type 0 where
   pub signals : q.signals ≡ p.signals
   pub no_more : (i : ℕ) → i < length x.objects.decls → turns_told i p.timers.known ≤ length (seen_of q.objects i) + length (seen_of q.objects i)
 
--- The rounds were made in turn, the clock was settled, each object was looked at, and the record shows the notes and answers that the rounds left, the
--- notes in order. The record's order is what the timers' pass had seen when the clock was settled.
+-- The queue of signals was looked at, and seen to have made all pushes and pops of which the timers' passes had been told before that; nothing else was done.
+pub record LooksAtQueue (x : WorldOf) (p q : WorldPass) : Type 0 where
+  pub timers : LooksOn p.timers.known q.timers.known
+  pub objects : q.objects ≡ p.objects
+  pub clock : q.clock ≡ p.clock
+  pub signals : Looks p.signals.knows.pass q.signals.knows.pass
+  pub pushes : pushes_told x.timers.about p.timers.known.seen ≤ pushes_seen q.signals.knows
+  pub pops : pops_told x.timers.about p.timers.known.seen ≤ pops_seen q.signals.knows
+
+-- The rounds were made in turn, the clock was settled, the queue and each object were looked at, and the record shows the notes and answers that the rounds
+-- left, the notes in order. The record's order is what the timers' pass had seen when the clock was settled.
 pub record MakesRun (x : WorldOf) (s : Script) (p : WorldPass) (r : RunRecord) (q : WorldPass) : Type 0 where
   pub left : LeftOf
   pub before : WorldPass
@@ -58,7 +68,9 @@ pub record MakesRun (x : WorldOf) (s : Script) (p : WorldPass) (r : RunRecord) (
   pub settled : WorldPass
   pub of : IsMain x settled []
   pub settles : Settles before settled
-  pub looks : LooksAtAll x settled q
+  pub queued : WorldPass
+  pub heard : LooksAtQueue x settled queued
+  pub looks : LooksAtAll x queued q
   pub shows : ShowsLeft s left r
 
 -- ---- what it shows

@@ -1,5 +1,5 @@
 -- A script's world, and what passes of it know.
-use Rattle.std.specs.Prelude.{ℕ, ◌≡◌, ◌≤◌, ◌<◌, ◌+◌, ◌^◌, List, [], length, map, Some}
+use Rattle.std.specs.Prelude.{ℕ, ◌≡◌, ◌≤◌, ◌<◌, ◌+◌, ◌^◌, List, [], ◌∷◌, length, map, Some}
 use Rattle.ktime.specs.declared.clock_id.ClockId.{ClockId}
 use Rattle.atomic_table.specs.Seated.{TableId}
 use Rattle.pass_names.specs.Names.{AnswersFor, IsLast}
@@ -58,9 +58,10 @@ decl_as (kinds.Sleeper base) clock = record { kind = over.Sleeper; clock = clock
 abbrev pub decl_of : Declaration → Decl
 decl_of d = decl_as d.kind d.clock
 
--- what the timers of a script begin with: its bases, the timers as it declares them, and a counter for the clock's writes and one for each object's turns
+-- what the timers of a script begin with: its bases, the timers as it declares them, a counter for the clock's writes and one for each object's turns, and a
+-- ring for the pushes and pops of signals
 abbrev pub opening_for : Script → Opening
-opening_for s = rows.opening_with s.bases (declareds_of s) (terms_of s) (length s.timers + 1)
+opening_for s = rows.opening_ringed s.bases (declareds_of s) (terms_of s) (length s.timers + 1) (most_signals ∷ [])
 
 -- the objects have a queue of signals, with room for as many as a script's may wait
 pub record HasQueue (x : ObjectsOf) : Type 0 where
@@ -82,8 +83,9 @@ pub record IsWhole (x : WorldOf) : Type 0 where
   pub callbacks : length x.callbacks ≡ length x.objects.decls
   pub bases : bases_of x.callbacks ≤ x.timers.about.bases
   pub few : x.timers.about.bases ≤ 64
-  -- the timers have a counter for the clock's writes
+  -- the timers have a counter for the clock's writes, and a ring for the signals
   pub counts : 0 < x.timers.about.counters
+  pub ring : x.timers.about.rings ≡ most_signals ∷ []
   pub small : length x.objects.decls < 2 ^ 32
   pub queue : HasQueue x.objects
 

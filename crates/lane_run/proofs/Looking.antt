@@ -15,7 +15,7 @@ use Rattle.timer_objects.specs.Turns.{turns_counter, turns_told}
 use Rattle.timer_objects.specs.declared.object.Object.{Object}
 use Rattle.lane_notes.proofs.SeenMore.{begins_same, count_begins}
 use Rattle.lane_notes.specs.Rounds.{IsMain, LeftOf, MakesRounds, none_left}
-use Rattle.lane_notes.specs.Runs.{LooksAtAll, MakesRun, Settles, ShowsLeft}
+use Rattle.lane_notes.specs.Runs.{LooksAtAll, LooksAtQueue, MakesRun, Settles, ShowsLeft}
 use Rattle.record_text.specs.declared.record.RunRecord.{RunRecord}
 use Rattle.script_text.specs.declared.script.Script.{Script}
 use Rattle.std.specs.Prelude.{Err, IfOk, Ok, Result}
@@ -95,18 +95,42 @@ looked_more {x = x} {p = p} {q = q} {r = r} {id = id} {n = n} before timers obje
       (cases_lt i id);
 }
 
--- law: rounds in turn, after which the clock was settled and each object looked at, make a run, where the record of what they left wanted no memory
-pub run_made : {x : WorldOf} (s : Script) (p : WorldPass) {before settled q : WorldPass} (left : LeftOf) (made : Result RunRecord AllocError)
-    → MakesRounds x s.rounds p (none_left s.lanes) before left → IsMain x settled [] → Settles before settled → LooksAtAll x settled q
+-- law: the first passes where the queue was looked at
+pub main_heard : {x : WorldOf} {p q : WorldPass} → IsMain x p [] → IsPassOf x.timers q.timers → LooksOn p.timers.known q.timers.known
+    → IsSignalPass x.objects q.signals → KnowsQueue q.signals.knows → Looks p.signals.knows.pass q.signals.knows.pass → q.objects ≡ p.objects
+    → q.clock ≡ p.clock → IsMain x q []
+main_heard {x = x} main timers looks signals knows heard objects clock = main_ran [] [] (record {
+  timers = timers;
+  objects = subst (IsObjectsPass x.objects) (sym objects) main.pass.objects;
+  clock = subst (IsPassOfClock x.clock) (sym clock) main.pass.clock;
+  known = subst (λ c. KnowsClock c.knows) (sym clock) main.pass.known;
+  heard = ap (λ c. c.knows.heard) clock ∙ main.pass.heard;
+  signals = signals;
+  queue = knows;
+}) (record {
+  timers = looks.id;
+  claims = looks.claims;
+  objects = ap (λ o. o.knows.pass.id) objects;
+  clock = ap (λ c. c.knows.pass.id) clock;
+  signals = heard.id;
+}) refl (λ k d less. absurd (omega (arith, less))) main
+
+-- law: rounds in turn, after which the clock was settled, and the queue and each object looked at, make a run, where the record of what they left wanted no
+-- memory
+pub run_made : {x : WorldOf} (s : Script) (p : WorldPass) {before settled queued q : WorldPass} (left : LeftOf) (made : Result RunRecord AllocError)
+    → MakesRounds x s.rounds p (none_left s.lanes) before left → IsMain x settled [] → Settles before settled → LooksAtQueue x settled queued
+    → LooksAtAll x queued q
     → IfOk made (ShowsLeft s left) → IfOk made (λ r. MakesRun x s p r q)
-run_made s p {before = before} {settled = settled} left (Ok r) rounds of settles looks shows = record {
+run_made s p {before = before} {settled = settled} {queued = queued} left (Ok r) rounds of settles heard looks shows = record {
   left = left;
   before = before;
   rounds = rounds;
   settled = settled;
   of = of;
   settles = settles;
+  queued = queued;
+  heard = heard;
   looks = looks;
   shows = shows;
 }
-run_made s p left (Err fault) rounds of settles looks shows = tt
+run_made s p left (Err fault) rounds of settles heard looks shows = tt

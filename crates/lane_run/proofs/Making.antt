@@ -88,6 +88,7 @@ whole_of s x range is =
       few = omega (arith, bases, range.bases.1, bases_few s.version);
       counts = omega (arith, ap (λ (o : Opening). o.counters) is.timers);
       small = omega (arith, many, range.timers, timers_few s.version);
+      ring = ap (λ (o : Opening). o.rings) is.timers;
       queue = is.queue;
     }
   where

@@ -6,7 +6,8 @@ use Rattle.timer_objects.specs.declared.log.ObjectReceipt.{ObjectReceipt}
 use Rattle.clock_cell.specs.Views.{seen_reading, writes}
 use Rattle.clock_cell.specs.declared.pass.ClockPass.{ClockPass}
 use Rattle.timer_objects.specs.Calls.{Caller}
-use Rattle.timer_objects.specs.Signals.{TakesNext}
+use Rattle.signal_queue.specs.Views.{KnowsQueue}
+use Rattle.timer_objects.specs.Signals.{IsSignalPass, TakesNext}
 use Rattle.timer_objects.specs.declared.signals.NextSignal.{NextSignal}
 use Rattle.record_text.specs.declared.record.Answer.{Answer}
 use Rattle.lane_notes.specs.Called.{CallsObject, CallsSigwait, LaneOf, LeavesClock, LeavesSignals, ReadsClock, lane_caller, next_told, with_done}
@@ -45,11 +46,14 @@ reads_still was clock = record {
 -- the call took the signal with empty logs, and the notes were made after it
 pub calls_sigwait : {x y : WorldOf} {l m : LaneOf} {p : WorldPass} {a : Answer} {begun : List Receipt} {objects_begun : List ObjectReceipt}
     (reading : ClockReading) (log : List Receipt) (object_log : List ObjectReceipt) (next : NextSignal) → y ≡ x → m.pass ≡ p
+    → IsSignalPass x.objects l.pass.signals → KnowsQueue p.signals.knows
     → ReadsClock l.pass p reading → (begun ≡ []) × (objects_begun ≡ [])
     → TakesNext y.objects y.timers.about (lane_caller l.pass begun objects_begun)
     (lane_caller p log object_log) l.pass.signals.knows p.signals.knows reading next
     → m.notes ≡ with_done l.notes l.label log object_log → a ≡ next_told next → CallsSigwait x l m a
-calls_sigwait {x = x} {y = y} {l = l} {p = p} {objects_begun = objects_begun} reading log object_log next is same reads empty takes notes told = record {
+calls_sigwait {x = x} {y = y} {l = l} {p = p} {objects_begun = objects_begun} reading log object_log next is same of knows reads empty takes notes told = record {
+  of = of;
+  knows = subst (λ (q : WorldPass). KnowsQueue q.signals.knows) (sym same) knows;
   reading = reading;
   reads = subst (λ q. ReadsClock l.pass q reading) (sym same) reads;
   log = log;

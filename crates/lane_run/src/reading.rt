@@ -3,7 +3,7 @@ ghost use Rattle.std.specs.Prelude.{◌≡◌, length, []};
 ghost use Rattle.clock_cell.specs.Views.{seen_reading, writes};
 ghost use Rattle.lane_notes.specs.Called.{LeavesLane, ReadsFirst, lane_of};
 ghost use Rattle.lane_notes.specs.Rounds.{IsMain};
-ghost use Rattle.lane_notes.specs.Runs.{LooksAtAll, Settles};
+ghost use Rattle.lane_notes.specs.Runs.{LooksAtAll, LooksAtQueue, Settles};
 ghost use Rattle.lane_notes.specs.Worlds.{ArePassesOf};
 
 use crate::world::World;
@@ -41,6 +41,21 @@ pub(crate) fn settle<R: Wait>(rt: &R, world: &World, main: &mut WorldPass)
         &mut main.timers,
         &world.clock,
         &mut main.clock,
+    );
+}
+
+/// Looks at the queue of signals at the end of a run: by then it has made all pushes and pops of which the timers' first pass was told.
+pub(crate) fn look_at_queue<R: Wait>(rt: &R, world: &World, main: &mut WorldPass)
+    requires main { IsMain world.now main.old [] }
+    ensures main { IsMain world.now main.new [] }
+    ensures looks { LooksAtQueue world.now main.old main.new }
+{
+    ordered_signals::look(
+        rt,
+        &world.timers,
+        &mut main.timers,
+        world.objects.signals(),
+        &mut main.signals,
     );
 }
 

@@ -9,7 +9,7 @@ ghost use Rattle.lane_run.specs.Crews.{AllAwaitWorkOf, AllHaveEnded, AllMayGive,
 
 use crate::crew::{Crew, Ground, LaneHandoff, LaneSeat, close_all, end_all, make_crew, serve_all};
 use crate::gate::Gate;
-use crate::reading::{look_at_all, settle};
+use crate::reading::{look_at_all, look_at_queue, settle};
 use crate::rounds::{Left, make_round};
 use crate::world::World;
 use lane_notes::{Notes, WorldPass, record_of};
@@ -233,6 +233,7 @@ fn make_rounds<R: Threads + Wait + Sync, G: Gate>(
         }
     }
     settle(rt, world, &mut main);
+    look_at_queue(rt, world, &mut main);
     look_at_all(rt, world, &mut main);
     (main, record_left(alloc, script, left))
 }

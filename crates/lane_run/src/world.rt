@@ -1,8 +1,9 @@
 //! What a script's calls are made on: its timers, its objects and the clock, with the first passes.
-ghost use Rattle.std.specs.Prelude.{◌≡◌, ◌≤◌, ◌<◌, ◌+◌, [], IfOk, OnOk, length, map};
+ghost use Rattle.std.specs.Prelude.{◌≡◌, ◌≤◌, ◌<◌, ◌+◌, [], ◌∷◌, IfOk, OnOk, length, map};
+ghost use Rattle.run_history.specs.Signals.{most_signals};
 ghost use Rattle.pass_names.specs.Passes.{HasEach};
 ghost use Rattle.pass_names.specs.SharedHistory.{first_known};
-ghost use Rattle.base_row.specs.Calls.{opening_with};
+ghost use Rattle.base_row.specs.Calls.{opening_ringed};
 ghost use Rattle.hr_timers.specs.Known.{HasEachPlace, HasEachShift, IsPassOf};
 ghost use Rattle.clock_cell.specs.Views.{KnowsClock};
 ghost use Rattle.script_text.specs.Scripts.{IsInRange};
@@ -154,7 +155,8 @@ const SIGNALS: usize = 64;
 /// How many entries past its limit may move a timer off a base that goes off line, in version 2 of the script.
 const REACH: u64 = 1024;
 
-/// The timers of a script, declared so, with a counter for the clock's writes and one for each object's turns. In version 2 their bases may go off line.
+/// The timers of a script, declared so, with a counter for the clock's writes, one for each object's turns, and a ring for the signals. In version 2 their
+/// bases may go off line.
 fn make_timers(
     alloc: Global,
     script: &Script,
@@ -163,7 +165,7 @@ fn make_timers(
     requires range { IsInRange script.now }
     requires few { length timers.now ≡ length script.now.timers }
     ensures pass { IfOk result (λ r. IsPassOf r.0 r.1) }
-    ensures about { IfOk result (λ r. r.0.about ≡ opening_with script.now.bases timers.now (terms_of script.now) (length script.now.timers + 1)) }
+    ensures about { IfOk result (λ r. r.0.about ≡ opening_ringed script.now.bases timers.now (terms_of script.now) (length script.now.timers + 1) (most_signals ∷ [])) }
     ensures first { IfOk result (λ r. r.1.known ≡ first_known) }
 {
     let terms = match script.version {
@@ -174,7 +176,8 @@ fn make_timers(
         },
     };
     let counters = timers.len() as u32 + 1;
-    Timers::make_counting(alloc, script.bases, timers, terms, counters)
+    let rings = vec![in alloc; SIGNALS as u64; 1]?;
+    Timers::make_ringed(alloc, script.bases, timers, terms, counters, &rings)
 }
 
 /// As what timers are declared.

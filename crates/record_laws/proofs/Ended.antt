@@ -1,5 +1,5 @@
 -- The record of the sorted notes has all that makes a run, and with where its calls stand by rounds and what its lanes promise it is that of a run.
-use Rattle.std.proofs.Common.{List, [], length, sym, refl, ◌∙◌, ◌≤◌, subst}
+use Rattle.std.proofs.Common.{take-append-drop, ℕ, suc, ◌+◌, List, [], ◌++◌, length, take, drop, arith, sym, ap, refl, ◌∙◌, ◌≤◌, subst}
 use Rattle.std.proofs.lemmas.List.{append-nil, length-map}
 use Rattle.record_text.specs.declared.record.Answer.{Answer}
 use Rattle.record_text.specs.declared.record.ClockLine.{ClockLine}
@@ -9,7 +9,6 @@ use Rattle.lane_notes.specs.Notes.{NotesOf}
 use Rattle.lane_notes.specs.Records.{record_from}
 use Rattle.lane_notes.specs.Sorted.{IsSortedFrom}
 use Rattle.run_history.specs.Runs.{CallLog, RoundStarts, Ending, IsEnding, IsRun}
-use Rattle.lane_notes.proofs.Declared.{room_known}
 use Rattle.lane_notes.proofs.Kept.{Follows}
 use Rattle.lane_notes.proofs.Left.{AreLastOf, AreLeft, ending_of, AreByRounds}
 use Rattle.lane_notes.specs.Worlds.{WorldOf}
@@ -25,14 +24,34 @@ use Rattle.lane_notes.proofs.Lists.{length-bases, length-objects, length-timers}
 use Rattle.std.proofs.Common.{◌≡◌}
 use Rattle.clock_cell.specs.Views.{writes}
 use Rattle.signal_queue.specs.Rules.{turns}
-use Rattle.signal_queue.specs.Turns.{AreTurns}
-use Rattle.std.specs.List.{AllByRecursion}
-use Rattle.run_history.specs.Runs.{IsOfQueued}
-use Rattle.run_history.specs.Signals.{most_signals}
-use Rattle.record_laws.proofs.Signalled.{signals, signals_in_span, signals_long, signals_own, signals_queued, signals_seen}
+use Rattle.signal_queue.specs.Turns.{waiting_after}
+use Rattle.signal_queue.proofs.Turns.{whole}
+use Rattle.run_history.specs.Signals.{most_signals, pop_counter, pops_at, push_counter, pushes_at}
+use Rattle.record_laws.proofs.Signalled.{signals, signals_none, signals_own, signals_popped, signals_pushed, signals_queued}
+use Rattle.base_row.specs.Rings.{KeepsRings, put_counter, taken_counter}
+use Rattle.lane_notes.specs.Worlds.{opening_for}
+use Rattle.pass_names.specs.Passes.{Begins}
+use Rattle.seq_timer.specs.Systems.{rises_of}
+use Rattle.seq_timer.specs.declared.system.SystemEntry.{SystemEntry}
 use Rattle.run_history.specs.Promises.{HasLog}
 use Rattle.run_history.specs.Histories.{clock_labels}
 use Rattle.script_text.specs.Declarations.{declareds_of, terms_of}
+
+-- behind each number of moves no more signals were popped than pushed, and no more waited than have room
+record InBounds (s : Script) (order : List SystemEntry) (n : ℕ) : Type 0 where
+  put_first : pops_at s order n ≤ pushes_at s order n
+  room : pushes_at s order n ≤ pops_at s order n + most_signals
+
+in_bounds : {s : Script} {x : WorldOf} {q : WorldPass} → AreLastOf s x q → (n : ℕ) → InBounds s q.timers.known.seen n
+in_bounds {s = s} {x = x} {q = q} last n =
+    let seen = q.timers.known.seen in
+    let begins : Begins (take n seen) seen = record { rest = drop n seen; whole = sym (take-append-drop n seen) } in
+    let kept = subst (λ o. KeepsRings o seen) last.of.world.timers last.of.passes.timers.knows.rings (take n seen) begins 0 (omega arith) in
+    let put : put_counter (opening_for s) 0 ≡ push_counter s = omega arith in
+    let taken : taken_counter (opening_for s) 0 ≡ pop_counter s = omega arith in
+    let put_is = ap (λ k. rises_of k (take n seen)) put in
+    let taken_is = ap (λ k. rises_of k (take n seen)) taken in
+    record { put_first = omega (arith, kept.put_first, put_is, taken_is); room = omega (arith, kept.room, put_is, taken_is) }
 
 module _ {s : Script} {x : WorldOf} {q : WorldPass} {notes sorted : NotesOf} {logs : Label → CallLog} (last : AreLastOf s x q) (left : AreLeft s q notes logs)
     (is : IsSortedFrom notes sorted) (answers : List (List Answer)) (starts : RoundStarts) where
@@ -50,7 +69,6 @@ module _ {s : Script} {x : WorldOf} {q : WorldPass} {notes sorted : NotesOf} {lo
       goes_on = record { rest = []; whole = sym (append-nil (seen_of q.objects i)) };
       lines = object_lines_show last left is answers starts i;
     };
-    signals = ([], signals_seen last left ∙ sym (append-nil (turns q.signals.knows)));
   }
 
   -- law: it has of each call what its lane kept
@@ -61,7 +79,7 @@ module _ {s : Script} {x : WorldOf} {q : WorldPass} {notes sorted : NotesOf} {lo
     looks = looks_own last left is answers c;
     objects = object_own last left is answers c;
     skips = skips_own last left is answers c;
-    turns = signals_own last left c;
+    signals = signals_own last left c;
   }
 
   -- the clock has as many lines as writes were seen
@@ -73,7 +91,8 @@ module _ {s : Script} {x : WorldOf} {q : WorldPass} {notes sorted : NotesOf} {lo
     pub is_ending : IsEnding s e
     is_ending = record {
       history = subst (λ n. AreSystemSteps s.bases n (first_system (openings (declareds_of s) (terms_of s))) q.timers.known.seen)
-          (length-map (declareds_of s) _) (subst (λ (o : Opening). AreSystemSteps o.bases (length o.timers) (first_system o.timers) q.timers.known.seen) last.of.world.timers
+          (length-map (declareds_of s) _)
+          (subst (λ (o : Opening). AreSystemSteps o.bases (length o.timers) (first_system o.timers) q.timers.known.seen) last.of.world.timers
           last.of.passes.timers.knows.history);
       sorted = filed_notes last left is answers;
       filed = are_filed last left is answers;
@@ -88,14 +107,15 @@ module _ {s : Script} {x : WorldOf} {q : WorldPass} {notes sorted : NotesOf} {lo
       };
       writes = clock_accepted last left is;
       signals = record {
-        legal = subst (AreTurns most_signals []) (sym (signals_seen last left))
-            (subst (λ n. AreTurns n [] (turns q.signals.knows)) (room_known x.objects q.signals last.of.world.queue last.of.passes.signals) last.of.passes.queue.legal);
-        of = subst (AllByRecursion (IsOfQueued s)) (sym (signals_seen last left)) (signals_queued last left);
-        laid = record {
-          inside = signals_in_span last left;
-          ledger = rounds.signals e.run e.signals;
-          most = λ c label. subst (λ n. (logs c).signals.1 ≤ n) (sym (signals_long last left)) (rounds.signals_most c label);
+        legal = record {
+          others = λ i less. signals_none last left (suc i) (λ same. omega (arith, same, less)) (λ same. omega (arith, same, less));
+          waiting = waiting_after [] (turns q.signals.knows);
+          in_turn = signals_pushed last left ∙ whole q.signals.knows.room [] (turns q.signals.knows) last.of.passes.queue.legal
+              ∙ ap (λ xs. xs ++ waiting_after [] (turns q.signals.knows)) (sym (signals_popped last left));
+          pushed_first = λ n. (in_bounds last n).put_first;
+          room = λ n. (in_bounds last n).room;
         };
+        of = signals_queued last left;
       };
       object_histories = object_histories last left is answers starts;
       looks = looks_under last left is answers;

@@ -1,5 +1,5 @@
--- The sorted notes of entries and writes, each with the place that its call's receipt has: they are what a record's lines of timers, of bases and of the
--- clock are made of.
+-- The sorted notes of entries and writes, and behind them those of pushes and pops, each with the place that its call's receipt has: they are what the lines
+-- of timers, of bases and of counters are made of.
 use Rattle.script_text.proofs.Lists.{All-map}
 use Rattle.lane_notes.specs.Sorted.{Place}
 use Rattle.run_history.specs.Receipts as receipts
@@ -10,8 +10,9 @@ use Rattle.std.proofs.lemmas.List.{length-map}
 use Rattle.seq_timer.specs.declared.system.SystemEntry.{SystemEntry}
 use Rattle.std.specs.List.Sorted.{IsPermutation}
 use Rattle.std.proofs.Common.{◌⊎◌, ◌++◌, inl, inr, ⊎_elim}
-use Rattle.std.proofs.lemmas.Bool.{and_left, cond-false, eqb-true, ne_eqb}
-use Rattle.std.proofs.lemmas.List.{append-nil}
+use Rattle.std.proofs.lemmas.List.Elements.{filter-append}
+use Rattle.std.proofs.lemmas.Bool.{and_left, cases_lt, cond-false, eqb-true, ne_eqb}
+use Rattle.std.proofs.lemmas.List.{append-nil, length-append, map-append}
 use Rattle.std.proofs.lemmas.List.Sorted.{IsPermutation-append, IsPermutation-map}
 use Rattle.record_text.proofs.Lists.{All-append}
 use Rattle.lane_notes.specs.Notes.{NotesOf}
@@ -27,20 +28,27 @@ use Rattle.lane_notes.proofs.Standing.{All-permuted, AtMostOne, HasPlace, stands
 use Rattle.record_text.specs.declared.record.Answer.{Answer}
 use Rattle.record_text.specs.declared.record.Label.{Label}
 use Rattle.run_history.specs.Actions.{also}
-use Rattle.run_history.specs.Order.{IsLabel}
+use Rattle.run_history.specs.Order.{calls_of, IsLabel}
+use Rattle.run_history.specs.Signals.{SignalLine, pop_counter, push_counter}
+use Rattle.signal_queue.specs.Rules.{turns}
+use Rattle.signal_queue.specs.declared.signal.Signal.{Signal}
+use Rattle.timer_objects.specs.Known.{seen_of}
 use Rattle.script_text.specs.declared.script.Script.{Script}
-use Rattle.run_history.specs.Receipts.{AreFiled, Filed, files_on, IsAhead, IsMade, line_filed, PlacedEntry, RiseBy}
-use Rattle.run_history.specs.Witnesses.{BasesList, CountersList, OfBase, OfRise, OfTimer, Owner, ShownLine, TimersList, line_of_base, line_of_object, line_of_timer, line_of_write, lines_at, owner_of, twice}
+use Rattle.run_history.specs.Receipts.{AreFiled, Filed, files_on, IsAhead, IsMade, line_filed, PlacedEntry, receipt, RiseBy}
+use Rattle.run_history.specs.Witnesses.{BasesList, CountersList, OfBase, OfRise, OfTimer, Owner, RunLists, Shown, ShownLine, TimersList, line_of_base, line_of_object, line_of_signal, line_of_timer, line_of_write, lines_at, owner_of, twice}
 use Rattle.run_history.specs.Runs.{CallLog}
 use Rattle.run_history.proofs.Known.{behind_all, rises_lower}
 use Rattle.run_history.proofs.Laid.{same_place}
-use Rattle.run_history.proofs.Lists.{all_at, each, at_map, map_get}
-use Rattle.lane_notes.proofs.Kept.{BaseNotes, EntryNotes, ObjectNotes, ToldNote, WriteNotes, of_base, of_entry, of_write, told_notes, turn_notes}
+use Rattle.run_history.proofs.Lists.{all_at, at_left, each, at_map, map_get}
+use Rattle.lane_notes.proofs.Kept.{BaseNotes, EntryNotes, ObjectNotes, ToldNote, WriteNotes, of_base, of_entry, of_write, signal_at, signals_of, signals_told, told_notes, turn_notes}
 use Rattle.lane_notes.proofs.PartLists.{each_weaker}
 use Rattle.lane_notes.proofs.Left.{AreLastOf, AreLeft}
 use Rattle.lane_notes.specs.Worlds.{WorldOf}
 use Rattle.lane_notes.specs.declared.lane.WorldPass.{WorldPass}
-use Rattle.record_laws.proofs.LastSeen.{base_lines_are, entries_once, has_receipt, HasReceipt, is_told, note_made, noted_at, object_lines_are, objects_once, rises_counted, same_parts, write_rises_once, writes_once, shifts_once, timer_lines_are, told_parts}
+use Rattle.record_laws.proofs.LastSeen.{at_behind, base_lines_are, entries_once, has_receipt, HasReceipt, is_told, note_made, noted_at, object_lines_are, objects_once, same_parts, split_place, write_rises_once, writes_once, shifts_once, timer_lines_are, told_parts}
+use Rattle.record_laws.proofs.SeenThere.{objects_past}
+use Rattle.record_laws.proofs.SignalNotes.{counter_filed, no_bases_signals, no_timers_signals, rise_notes, signal_is_noted, signal_noted, signal_notes, signals_on}
+use Rattle.record_laws.proofs.Signalled.{signals, signals_none}
 use Rattle.record_laws.proofs.Turns.{all_turns, is_on, line_told, none_of_turns, turns_of, turns_permuted, twice_many}
 use Rattle.record_laws.proofs.Numbered.{as_many, at_most_one, number_within}
 use Rattle.record_laws.proofs.ClockLines.{all_of_clock}
@@ -128,6 +136,38 @@ told_rise t k (e ∷ es) bs ws os rise of_bases of_writes of_objects some = (
   told_rise e.timer e.number es bs ws os rise.1 of_bases of_writes of_objects some,
 )
 
+-- notes in order stay so in front of others that are in order behind this counter
+told_rise-append : (m : ℕ) (o : Owner) (k : ℕ) (xs ys : List ToldNote) → IsAhead o (CountersList m)
+    → AllByRecursion (λ n. IsAhead (owner_of n.shown) (CountersList m)) xs → RiseTold o k xs
+    → ((p : Owner) (j : ℕ) → IsAhead p (CountersList m) → RiseTold p j ys) → RiseTold o k (xs ++ ys)
+told_rise-append m o k [] ys ahead all rise behind = behind o k ahead
+told_rise-append m o k (x ∷ xs) ys ahead all rise behind =
+    (rise.0, told_rise-append m (owner_of x.shown) x.number xs ys all.0 all.1 rise.1 behind)
+
+-- the notes of a counter's rises are in order
+rises_in_order : (k n j : ℕ) (lines : List SignalLine) → j < n → RiseTold (CountersList k) j (rise_notes k n lines)
+rises_in_order k n j [] less = tt
+rises_in_order k n j (line ∷ lines) less = (inr (refl, less), rises_in_order k (n + 1) n lines (omega arith))
+
+rises_rise : (k n : ℕ) (o : Owner) (j : ℕ) (lines : List SignalLine) → IsAhead o (CountersList k) → RiseTold o j (rise_notes k n lines)
+rises_rise k n o j [] ahead = tt
+rises_rise k n o j (line ∷ lines) ahead = (inl ahead, rises_in_order k (n + 1) n lines (omega arith))
+
+rises_ahead : (m k n : ℕ) (lines : List SignalLine) → k < m → AllByRecursion (λ y. IsAhead (owner_of y.shown) (CountersList m)) (rise_notes k n lines)
+rises_ahead m k n [] less = tt
+rises_ahead m k n (line ∷ lines) less = (less, rises_ahead m k (n + 1) lines less)
+
+-- those of pushes and pops are
+queue_rises : (k l : ℕ) (o : Owner) (j : ℕ) (pushes pops : List SignalLine) → k < l → IsAhead o (CountersList k)
+    → RiseTold o j (rise_notes k 1 pushes ++ rise_notes l 1 pops)
+queue_rises k l o j pushes pops less ahead = told_rise-append l o j (rise_notes k 1 pushes) (rise_notes l 1 pops) (further o ahead)
+    (rises_ahead l k 1 pushes less) (rises_rise k 1 o j pushes ahead) (λ p i before. rises_rise l 1 p i pops before)
+  where
+    further : (o : Owner) → IsAhead o (CountersList k) → IsAhead o (CountersList l)
+    further (TimersList t) ahead = tt
+    further (BasesList b) ahead = tt
+    further (CountersList i) ahead = omega (arith, ahead, less)
+
 -- ---- notes of one list
 
 -- the notes of a kind that are of a list give its lines
@@ -209,11 +249,19 @@ module _ {s : Script} {x : WorldOf} {q : WorldPass} {notes sorted : NotesOf} {lo
   stood : (n : ToldNote) → HasPlace (told_notes sorted) n → HasPlace (told_notes notes) n
   stood n st = stood_before (told_notes notes) (told_notes sorted) st.0 n same_told st.1
 
-  pub each_has : AllByRecursion (HasReceipt logs) (told_notes sorted)
-  each_has = each (HasReceipt logs) (told_notes sorted) (λ p n at. has_receipt left n (stood n (p, at)))
+  abbrev signalled : List ToldNote
+  signalled = signal_notes last left
+
+  -- the sorted notes, and behind them those of pushes and pops
+  abbrev pub all_noted : List ToldNote
+  all_noted = told_notes sorted ++ signalled
+
+  pub each_has : AllByRecursion (HasReceipt logs) all_noted
+  each_has = each (HasReceipt logs) all_noted (λ p n at.
+      ⊎_elim (λ st. has_receipt left n (stood n st)) (signal_noted last left n) (split_place (told_notes sorted) signalled p n at))
 
   abbrev pub pairs : List (WithReceipt logs)
-  pairs = with_receipts logs (told_notes sorted) each_has
+  pairs = with_receipts logs all_noted each_has
 
   abbrev pub filed_notes : List Filed
   filed_notes = map (file logs) pairs
@@ -233,19 +281,63 @@ module _ {s : Script} {x : WorldOf} {q : WorldPass} {notes sorted : NotesOf} {lo
       ap (λ l. record { label = l; note = noted_at p.1.place p.0 }) label ∙ ap (λ k. record { label = c; note = noted_at k p.0 }) place
       ∙ ap (λ z. record { label = c; note = z }) (sym told)
 
+  -- each receipt has a note
+  noted : (c : Label) (j : ℕ) (y : PlacedEntry) → slice_get (logs c).notes j ≡ Some y
+      → (n : ToldNote) × HasPlace all_noted n × (n.label ≡ c) × (y ≡ noted_at y.place n)
+  noted c j y at = ⊎_elim
+      (λ t.
+      let st = stands_permuted (told_notes notes) (told_notes sorted) t.1.0 t.0 same_told t.1.1 in
+      (t.0, (st.0, at_left (told_notes sorted) signalled st.0 t.0 st.1), t.2, t.3))
+      (λ told.
+      let st = signal_is_noted last left c (receipt y) told in
+      let place = length (told_notes sorted) + st.0 in
+      (record { label = c; number = y.number; shown = y.shown }, (place, at_behind (told_notes sorted) signalled st.0 _ st.1), refl, refl))
+      (is_told left c j y at)
+
   -- law: each call's receipts are filed
   each_filed : (c : Label) → AllByRecursion (λ y. (i : ℕ) × (slice_get filed_notes i ≡ Some (record { label = c; note = y }))) (logs c).notes
   each_filed c = each (λ y. (i : ℕ) × (slice_get filed_notes i ≡ Some (record { label = c; note = y }))) (logs c).notes (λ j y at.
-      let t = is_told left c j y at in
-      let st = stands_permuted (told_notes notes) (told_notes sorted) t.1.0 t.0 same_told t.1.1 in
-      let m = map_get (λ (p : WithReceipt logs). p.0) pairs st.0 t.0 (ap (λ ns. slice_get ns st.0) (are_notes logs (told_notes sorted) each_has) ∙ st.1) in (
+      let t = noted c j y at in
+      let st = t.1 in
+      let m = map_get (λ (p : WithReceipt logs). p.0) pairs st.0 t.0 (ap (λ ns. slice_get ns st.0) (are_notes logs all_noted each_has) ∙ st.1) in (
         st.0,
         at_map (file logs) pairs st.0 m.0 m.1 ∙ ap Some (file_is c j y at m.0 (ap (λ (n : ToldNote). n.label) m.2 ∙ t.2)
             (t.3 ∙ ap (noted_at y.place) (sym m.2))),
       ))
 
-  shapes : (o : Owner) → map line_filed (files_on o filed_notes) ≡ map line_told (filter (is_on o) (told_notes sorted))
-  shapes o = files_lines logs o pairs ∙ ap (λ ns. map line_told (filter (is_on o) ns)) (are_notes logs (told_notes sorted) each_has)
+  shapes : (o : Owner) → map line_filed (files_on o filed_notes)
+      ≡ map line_told (filter (is_on o) (told_notes sorted)) ++ map line_told (filter (is_on o) signalled)
+  shapes o =
+      files_lines logs o pairs ∙ ap (λ ns. map line_told (filter (is_on o) ns)) (are_notes logs all_noted each_has)
+      ∙ ap (map line_told) (filter-append (is_on o) (told_notes sorted) signalled)
+      ∙ map-append line_told (filter (is_on o) (told_notes sorted)) (filter (is_on o) signalled)
+
+  -- where no push or pop is of a list
+  notes_alone : (o : Owner) → filter (is_on o) signalled ≡ [] → map line_filed (files_on o filed_notes) ≡ map line_told (filter (is_on o) (told_notes sorted))
+  notes_alone o none = shapes o ∙ ap (λ ns. map line_told (filter (is_on o) (told_notes sorted)) ++ map line_told ns) none
+      ∙ append-nil (map line_told (filter (is_on o) (told_notes sorted)))
+
+  timer_shapes : (t : ℕ) → map line_filed (files_on (TimersList t) filed_notes)
+      ≡ map (λ n. record { label = n.label; shown = OfTimer t n.entry }) (filter (is_of_list place_of_entry t) sorted.entries)
+  timer_shapes t = notes_alone (TimersList t) (no_timers_signals last left t) ∙ of_timer_told t sorted
+
+  base_shapes : (b : ℕ) → map line_filed (files_on (BasesList b) filed_notes)
+      ≡ map (λ n. record { label = n.label; shown = OfBase b n.event }) (filter (is_of_list place_of_base b) sorted.bases)
+  base_shapes b = notes_alone (BasesList b) (no_bases_signals last left b) ∙ of_base_told b sorted
+
+  write_shapes : map line_filed (files_on (CountersList 0) filed_notes) ≡ map (λ n. line_of_write n.line) (filter (is_of_list place_of_write 0) sorted.writes)
+  write_shapes =
+      shapes (CountersList 0) ∙ ap (λ ls. map line_told (filter (is_on (CountersList 0)) (told_notes sorted)) ++ ls) (signals_on last left 0
+      ∙ ap (map (line_of_signal 0)) (signals_none last left 0 (λ is. omega (arith, is)) (λ is. omega (arith, is))))
+      ∙ append-nil (map line_told (filter (is_on (CountersList 0)) (told_notes sorted))) ∙ of_write_told sorted
+
+  object_shapes : (i : ℕ) → map line_filed (files_on (CountersList (suc i)) filed_notes)
+      ≡ twice (map (λ n. record { label = n.label; shown = OfRise (suc i) }) (filter (is_of_list place_of_object i) sorted.objects))
+      ++ map (line_of_signal (suc i)) (signals last left (suc i))
+  object_shapes i =
+      let its = map {B = ShownLine} (λ n. record { label = n.label; shown = OfRise (suc i) }) (filter (is_of_list place_of_object i) sorted.objects) in
+      shapes (CountersList (suc i)) ∙ ap (λ ls. ls ++ map line_told (filter (is_on (CountersList (suc i))) signalled)) (of_object_told i sorted)
+      ∙ ap (λ ls. twice its ++ ls) (signals_on last left (suc i))
 
   writes_apart : (l n : ℕ) → AtMostOne (is_at place_of_write l n) notes.writes
   writes_apart zero n = at_most_one is.writes (writes_once last left) n
@@ -254,50 +346,77 @@ module _ {s : Script} {x : WorldOf} {q : WorldPass} {notes sorted : NotesOf} {lo
   -- a list has as many receipts as entries
   many_filed : (o : Owner) → length (files_on o filed_notes) ≡ receipts.count_owned o seen
   many_filed (TimersList t) =
-      sym (length-map (files_on (TimersList t) filed_notes) line_filed) ∙ ap length (shapes (TimersList t) ∙ of_timer_told t sorted)
+      sym (length-map (files_on (TimersList t) filed_notes) line_filed) ∙ ap length (timer_shapes t)
       ∙ length-map (filter (is_of_list place_of_entry t) sorted.entries) _ ∙ as_many is.entries (entries_once last left t)
   many_filed (BasesList b) =
-      sym (length-map (files_on (BasesList b) filed_notes) line_filed) ∙ ap length (shapes (BasesList b) ∙ of_base_told b sorted)
+      sym (length-map (files_on (BasesList b) filed_notes) line_filed) ∙ ap length (base_shapes b)
       ∙ length-map (filter (is_of_list place_of_base b) sorted.bases) _ ∙ as_many is.bases (shifts_once last left b)
   many_filed (CountersList zero) =
-      sym (length-map (files_on (CountersList 0) filed_notes) line_filed) ∙ ap length (shapes (CountersList 0) ∙ of_write_told sorted)
+      sym (length-map (files_on (CountersList 0) filed_notes) line_filed) ∙ ap length write_shapes
       ∙ length-map (filter (is_of_list place_of_write 0) sorted.writes) _ ∙ as_many is.writes (write_rises_once last left)
   many_filed (CountersList (suc i)) =
       let own = filter (is_of_list place_of_object i) sorted.objects in
       let many = as_many is.objects (objects_once last left i) in
-      sym (length-map (files_on (CountersList (suc i)) filed_notes) line_filed) ∙ ap length (shapes (CountersList (suc i)) ∙ of_object_told i sorted)
-      ∙ twice_many (map _ own) ∙ ap (λ n. n + n) (length-map own _ ∙ many) ∙ sym (rises_counted last left i)
+      let its = map {B = ShownLine} (λ n. record { label = n.label; shown = OfRise (suc i) }) own in
+      sym (length-map (files_on (CountersList (suc i)) filed_notes) line_filed) ∙ ap length (object_shapes i)
+      ∙ length-append (twice its) (map (line_of_signal (suc i)) (signals last left (suc i)))
+      ∙ ap (λ n. n + length (map (line_of_signal (suc i)) (signals last left (suc i)))) (twice_many its ∙ ap (λ n. n + n) (length-map own _ ∙ many))
+      ∙ ap (λ n. length (seen_of q.objects i) + length (seen_of q.objects i) + n) (length-map (signals last left (suc i)) (line_of_signal (suc i)))
+      ∙ counter_filed last left i
 
   -- and its lines are theirs
-  lines_filed : (o : Owner) → lines_at (record_from s.version sorted s.bases (length s.timers) answers) o ≡ map line_filed (files_on o filed_notes)
+  abbrev lists : RunLists
+  lists = record { run = record_from s.version sorted s.bases (length s.timers) answers; signals = signals last left }
+
+  lines_filed : (o : Owner) → lines_at lists o ≡ map line_filed (files_on o filed_notes)
   lines_filed (TimersList t) =
       ap (map (line_of_timer t)) (timer_lines_are last left is answers t)
       ∙ noted_lines-shown place_of_look timer_line place_of_entry t sorted.entries sorted.looks (line_of_timer t)
-      (λ n. record { label = n.label; shown = OfTimer t n.entry }) (λ n us. refl) ∙ sym (shapes (TimersList t) ∙ of_timer_told t sorted)
+      (λ n. record { label = n.label; shown = OfTimer t n.entry }) (λ n us. refl) ∙ sym (timer_shapes t)
   lines_filed (BasesList b) =
       ap (map (line_of_base b)) (base_lines_are last left is answers b) ∙ each_line (filter (is_of_list place_of_base b) sorted.bases)
-      ∙ sym (shapes (BasesList b) ∙ of_base_told b sorted)
+      ∙ sym (base_shapes b)
     where
       each_line : (bs : List BaseNote) → map (line_of_base b) (map base_line bs) ≡ map (λ n. record { label = n.label; shown = OfBase b n.event }) bs
       each_line [] = refl
       each_line (n ∷ bs) = ap (λ zs. record { label = n.label; shown = OfBase b n.event } ∷ zs) (each_line bs)
   lines_filed (CountersList zero) =
       map-map line_of_write (λ (n : WriteNote). n.line) sorted.writes ∙ ap (map (λ (n : WriteNote). line_of_write n.line)) (sym (all_of_clock sorted.writes))
-      ∙ sym (shapes (CountersList 0) ∙ of_write_told sorted)
+      ∙ sym write_shapes
   lines_filed (CountersList (suc i)) =
-      ap twice (ap (map (line_of_object i)) (object_lines_are last left is answers i)
+      ap (λ ls. twice ls ++ map (line_of_signal (suc i)) (signals last left (suc i))) (ap (map (line_of_object i)) (object_lines_are last left is answers i)
       ∙ noted_lines-shown place_of_skip object_line place_of_object i sorted.objects sorted.skips (line_of_object i)
-      (λ n. record { label = n.label; shown = OfRise (suc i) }) (λ n us. refl)) ∙ sym (shapes (CountersList (suc i)) ∙ of_object_told i sorted)
+      (λ n. record { label = n.label; shown = OfRise (suc i) }) (λ n us. refl)) ∙ sym (object_shapes i)
 
-  -- law: the record's lines of timers, of bases, of the clock and of objects are the receipts of all calls, sorted
-  pub are_filed : AreFiled (record_from s.version sorted s.bases (length s.timers) answers) seen (λ c. (logs c).notes) filed_notes
+  -- a note is of an object that is there
+  object_there : (n : ObjectNote) → HasPlace notes.objects n → n.object < length s.timers
+  object_there n st = ⊎_elim (λ less. less)
+      (λ (past : length s.timers ≤ n.object).
+      let number = number_within is.objects (objects_once last left n.object) n st refl in
+      absurd (omega (arith, number, ap length (objects_past last.of n.object past))))
+      (cases_lt n.object (length s.timers))
+
+  -- so each note is of a list ahead of the queue's counters
+  before_queue : AllByRecursion (λ n. IsAhead (owner_of n.shown) (CountersList (push_counter s))) (told_notes sorted)
+  before_queue =
+      let Ahead : ToldNote → Type 0 = λ n. IsAhead (owner_of n.shown) (CountersList (push_counter s)) in
+      All-append Ahead (map of_entry sorted.entries) _ (All-map _ of_entry sorted.entries (each _ sorted.entries (λ p n at. tt)))
+      (All-append Ahead (map of_base sorted.bases) _ (All-map _ of_base sorted.bases (each _ sorted.bases (λ p n at. tt)))
+      (All-append Ahead (map of_write sorted.writes) (turn_notes sorted.objects)
+      (All-map _ of_write sorted.writes (each _ sorted.writes (λ p n at. omega arith)))
+      (all_turns Ahead sorted.objects (All-permuted _ notes.objects sorted.objects is.objects.same (each _ notes.objects (λ p n at.
+      let less = object_there n (p, at) in (omega (arith, less), omega (arith, less))))))))
+
+  -- law: the record's lines of timers, of bases, of the clock and of objects, and the pushes and pops, are the receipts of all calls, sorted
+  pub are_filed : AreFiled lists seen (λ c. (logs c).notes) filed_notes
   are_filed = record {
     rise = λ c. rises_lower 0 (logs c).moves.0 (map (λ y. y.place) (logs c).notes) (omega arith) (left.stand c).rise;
     made = λ c. (left.stand c).made;
     filed = each_filed;
     back = λ i f at. let m = map_get (file logs) pairs i f at in
         (m.0.1.index, subst (λ (g : Filed). slice_get (logs g.label).notes m.0.1.index ≡ Some g.note) m.2 m.0.1.there);
-    sorts = files_rise logs (TimersList 0) 0 pairs (subst (RiseTold (TimersList 0) 0) (sym (are_notes logs (told_notes sorted) each_has))
+    sorts = files_rise logs (TimersList 0) 0 pairs (subst (RiseTold (TimersList 0) 0) (sym (are_notes logs all_noted each_has))
+        (told_rise-append (push_counter s) (TimersList 0) 0 (told_notes sorted) signalled tt before_queue
         (told_rise 0 0 sorted.entries sorted.bases sorted.writes sorted.objects
         (RiseBehind-sorted place_of_entry notes.entries sorted.entries is.entries (λ l n. at_most_one is.entries (entries_once last left l) n)
         (each _ notes.entries (λ p n at. (number_within is.entries (entries_once last left n.timer) n (p, at) refl).0)))
@@ -308,7 +427,9 @@ module _ {s : Script} {x : WorldOf} {q : WorldPass} {notes sorted : NotesOf} {lo
         (RiseBehind-sorted place_of_object notes.objects sorted.objects is.objects (λ l n. at_most_one is.objects (objects_once last left l) n)
         (each _ notes.objects (λ p n at. (number_within is.objects (objects_once last left n.object) n (p, at) refl).0)))
         (All-permuted _ notes.objects sorted.objects is.objects.same
-        (each _ notes.objects (λ p n at. (number_within is.objects (objects_once last left n.object) n (p, at) refl).0)))));
+        (each _ notes.objects (λ p n at. (number_within is.objects (objects_once last left n.object) n (p, at) refl).0))))
+        (λ o j ahead.
+        queue_rises (push_counter s) (pop_counter s) o j (signals last left (push_counter s)) (signals last left (pop_counter s)) (omega arith) ahead)));
     as_many = many_filed;
     lines = lines_filed;
   }
@@ -325,10 +446,21 @@ module _ {s : Script} {x : WorldOf} {q : WorldPass} {notes sorted : NotesOf} {lo
       (All-map _ of_write notes.writes (each_weaker notes.writes (λ e in_it. in_it.0) (left.seen WriteNotes)))
       (all_turns Called notes.objects (each_weaker notes.objects (λ e in_it. (in_it.0, in_it.0)) (left.seen ObjectNotes)))))) st.1
 
+  -- a call with a push or a pop is one
+  signal_called : (c : Label) (y : ℕ × Shown) → HasPlace (signals_told (logs c).trace.actions) y → IsLabel s c
+  signal_called c y st = ⊎_elim (λ is. is)
+      (λ (past : length (calls_of s c.lane) ≤ c.call).
+      let none : (logs c).turns ≡ [] = left.unturned c (λ is. omega (arith, is, past)) in
+      let made : signals_of (logs c).trace.actions ≡ [] = (left.turned c).are ∙ ap (map (signal_at s (turns q.signals.knows))) none in
+      absurd (nowhere (subst (λ xs. HasPlace {X = ℕ × Shown} (map (λ (x : ℕ × (ℕ × Signal)). (x.1.0, OfRise x.0)) xs) y) made st)))
+      (cases_lt c.call (length (calls_of s c.lane)))
+    where
+      nowhere : HasPlace {X = ℕ × Shown} [] y → ⊥
+      nowhere st = absurd (let at = st.1 in cc)
+
   -- law: receipts are of calls of the script, in their calls' spans
   pub receipts_inside : (c : Label) → AllByRecursion (λ y. IsLabel s c × ((logs c).moves.0 ≤ y.place) × (y.place < (logs c).moves.1)) (logs c).notes
   receipts_inside c = each (λ y. IsLabel s c × ((logs c).moves.0 ≤ y.place) × (y.place < (logs c).moves.1)) (logs c).notes (λ j y at.
-      let t = is_told left c j y at in
-      let label = subst (IsLabel s) t.2 (note_called t.0 t.1) in
+      let label = ⊎_elim (λ t. subst (IsLabel s) t.2 (note_called t.0 t.1)) (signal_called c (receipt y)) (is_told left c j y at) in
       let behind = behind_all (logs c).moves.0 (logs c).moves.0 (logs c).notes (omega arith) (left.stand c).rise in
       (label, all_at _ (logs c).notes j y behind at, all_at _ (logs c).notes j y (left.stand c).below at))

@@ -1,6 +1,6 @@
 -- What the last passes know at the end of a run: of which timers, bases, counters and objects entries are, and that each of them was noted once.
 use Rattle.run_history.specs.Receipts as receipts
-use Rattle.std.proofs.Common.{◌≡◌, ℕ, ◌<◌, ◌≤◌, zero, suc, Some, List, [], ◌∷◌, filter, length, map, take, arith, refl, sym, ap, ◌∙◌, subst}
+use Rattle.std.proofs.Common.{◌⊎◌, inl, inr, ◌≡◌, ℕ, ◌<◌, ◌≤◌, zero, suc, Some, List, [], ◌∷◌, filter, length, map, take, arith, refl, sym, ap, ◌∙◌, subst}
 use Rattle.std.specs.List.{slice_get}
 use Rattle.std.proofs.Math.Logic.{⊎_elim}
 use Rattle.std.proofs.lemmas.Bool.{and_right, cases_lt, lt-leb, and_parts, eqb-true}
@@ -34,7 +34,7 @@ use Rattle.run_history.specs.Runs.{CallLog}
 use Rattle.run_history.proofs.Labels.{label_itself, same_label}
 use Rattle.run_history.proofs.Lists.{all_at, at_left, each}
 use Rattle.run_history.specs.Witnesses.{BasesList, CountersList, Owner, Shown, TimersList, owner_of, owner_of_entry}
-use Rattle.lane_notes.proofs.Kept.{ToldNote, base_note_place, note_place, of_base, of_entry, of_object, of_write, own_notes, told_in, told_notes, turn_notes}
+use Rattle.lane_notes.proofs.Kept.{ToldNote, base_note_place, note_place, of_base, of_entry, of_object, of_write, own_notes, signals_told, told_in, told_notes, turn_notes}
 use Rattle.lane_notes.proofs.Left.{AreLastOf, AreLeft}
 use Rattle.record_laws.proofs.Turns.{entry_stands_in, filter-turns}
 use Rattle.lane_notes.specs.Worlds.{WorldOf}
@@ -61,13 +61,18 @@ pub record HasReceipt (logs : Label → CallLog) (n : ToldNote) : Type 0 where
   pub index : ℕ
   pub there : slice_get (logs n.label).notes index ≡ Some (noted_at place n)
 
--- an item behind a list
-at_behind : {X : Type 0} (xs ys : List X) (j : ℕ) (y : X) → slice_get ys j ≡ Some y → slice_get (xs ++ ys) (length xs + j) ≡ Some y
+-- an item behind a list, and where one of both stands
+pub at_behind : {X : Type 0} (xs ys : List X) (j : ℕ) (y : X) → slice_get ys j ≡ Some y → slice_get (xs ++ ys) (length xs + j) ≡ Some y
 at_behind [] ys j y at = subst (λ n. slice_get ys n ≡ Some y) (omega arith) at
 at_behind (x ∷ xs) ys j y at = subst (λ n. slice_get (x ∷ xs ++ ys) n ≡ Some y) (further (length xs) j) (at_behind xs ys j y at)
   where
     further : (n j : ℕ) → suc (n + j) ≡ suc n + j
     further n j = omega arith
+
+pub split_place : {X : Type 0} (xs ys : List X) (j : ℕ) (y : X) → slice_get (xs ++ ys) j ≡ Some y → HasPlace xs y ⊎ HasPlace ys y
+split_place [] ys j y at = inr (j, at)
+split_place (x ∷ xs) ys zero y at = inl (0, at)
+split_place (x ∷ xs) ys (suc j) y at = ⊎_elim (λ st. inl (suc st.0, st.1)) inr (split_place xs ys j y at)
 
 -- what is picked of things that are made of others
 pub filter-map : {X Y : Type 0} (make : X → Y) (p : Y → Bool) (xs : List X) → filter p (map make xs) ≡ map make (filter (λ x. p (make x)) xs)
@@ -104,25 +109,41 @@ module _ {s : Script} {q : WorldPass} {notes : NotesOf} {logs : Label → CallLo
       ∙ same_parts (filter-map of_entry mine notes.entries) (filter-map of_base mine notes.bases) (filter-map of_write mine notes.writes)
       (filter-turns (is_label c) notes.objects))
 
-  told_so : (c : Label) → IsPermutation (map receipt (logs c).notes) (map told_in (own c))
-  told_so c = subst (λ ts. IsPermutation (map receipt (logs c).notes) (map told_in ts)) (own_told c) (left.tell c).receipts
+  -- a call's receipts are told by its notes, and by its pushes and pops
+  told_so : (c : Label) → IsPermutation (map receipt (logs c).notes) (map told_in (own c) ++ signals_told (logs c).trace.actions)
+  told_so c =
+      subst (λ ts. IsPermutation (map receipt (logs c).notes) (map told_in ts ++ signals_told (logs c).trace.actions)) (own_told c) (left.tell c).receipts
+
+  -- what is told is one of its call's receipts
+  receipt_told : (n : ToldNote) → HasPlace (map told_in (own n.label) ++ signals_told (logs n.label).trace.actions) (told_in n) → HasReceipt logs n
+  receipt_told n st =
+      let b = stood_before (map receipt (logs n.label).notes) _ st.0 (told_in n) (told_so n.label) st.1 in
+      let m = map_stands_in receipt (logs n.label).notes (told_in n) b in
+      record { place = m.0.place; index = m.1.0; there = m.1.1 ∙ ap Some (told_at m.0 n m.2) }
 
   -- law: each note of an entry is one of its call's receipts
   pub has_receipt : (n : ToldNote) → HasPlace (told_notes notes) n → HasReceipt logs n
   has_receipt n st =
       let o = stands_in_map told_in (own n.label) n (stands_in_filter (λ m. is_label n.label m.label) (told_notes notes) n (label_itself n.label) st) in
-      let b = stood_before (map receipt (logs n.label).notes) (map told_in (own n.label)) o.0 (told_in n) (told_so n.label) o.1 in
-      let m = map_stands_in receipt (logs n.label).notes (told_in n) b in
-      record { place = m.0.place; index = m.1.0; there = m.1.1 ∙ ap Some (told_at m.0 n m.2) }
+      receipt_told n (o.0, at_left (map told_in (own n.label)) (signals_told (logs n.label).trace.actions) o.0 (told_in n) o.1)
 
-  -- law: and each receipt has a note
+  -- law: and so is that of each push and pop
+  pub signal_receipt : (n : ToldNote) → HasPlace (signals_told (logs n.label).trace.actions) (told_in n) → HasReceipt logs n
+  signal_receipt n st = receipt_told n
+      (length (map told_in (own n.label)) + st.0, at_behind (map told_in (own n.label)) (signals_told (logs n.label).trace.actions) st.0 (told_in n) st.1)
+
+  -- law: and each receipt has a note, or is that of a push or a pop
   pub is_told : (c : Label) (i : ℕ) (y : PlacedEntry) → slice_get (logs c).notes i ≡ Some y
-      → (n : ToldNote) × HasPlace (told_notes notes) n × (n.label ≡ c) × (y ≡ noted_at y.place n)
+      → ((n : ToldNote) × HasPlace (told_notes notes) n × (n.label ≡ c) × (y ≡ noted_at y.place n)) ⊎ HasPlace (signals_told (logs c).trace.actions) (receipt y)
   is_told c i y at =
       let o = stands_in_map receipt (logs c).notes y (i, at) in
-      let m = map_stands_in told_in (own c) (receipt y) (stands_permuted (map receipt (logs c).notes) (map told_in (own c)) o.0 (receipt y) (told_so c) o.1) in
+      let all = stands_permuted (map receipt (logs c).notes) (map told_in (own c) ++ signals_told (logs c).trace.actions) o.0 (receipt y) (told_so c) o.1 in
+      ⊎_elim
+      (λ st.
+      let m = map_stands_in told_in (own c) (receipt y) st in
       let f = filter_stands_in (λ n. is_label c n.label) (told_notes notes) m.0 m.1 in
-      (m.0, f.0, same_label c m.0.label f.1, told_at y m.0 (sym m.2))
+      inl (m.0, f.0, same_label c m.0.label f.1, told_at y m.0 (sym m.2))) inr
+      (split_place (map told_in (own c)) (signals_told (logs c).trace.actions) all.0 (receipt y) all.1)
 
   -- law: the entry that a note tells was made
   pub note_made : (n : ToldNote) (h : HasReceipt logs n) → IsMade q.timers.known.seen (noted_at h.place n)
@@ -236,6 +257,19 @@ module _ {s : Script} {x : WorldOf} {q : WorldPass} (last : AreLastOf s x q) whe
     pub write_rises_once : AreEachOnce place_of_write 0 (receipts.count_owned (CountersList 0) q.timers.known.seen) notes.writes
     write_rises_once = subst (λ n. AreEachOnce place_of_write 0 n notes.writes) (sym last.told) writes_once
 
+    -- what a counter's receipt is of
+    its_rise : (y : SystemEntry) (k : ℕ) → owner_of_entry y ≡ CountersList k → y ≡ entries.Rise k
+    its_rise (entries.Timer y) k is = absurd (cc)
+    its_rise (entries.Base y) k is = absurd (cc)
+    its_rise (entries.Rise j) k is = cc
+
+    -- law: of a counter as many rises were seen as a receipt of it has its number
+    pub rose_to : (y : PlacedEntry) (k : ℕ) → owner_of y.shown ≡ CountersList k → IsMade q.timers.known.seen y → y.number ≤ rises_of k q.timers.known.seen
+    rose_to y k on made =
+        let there = subst (λ z. slice_get q.timers.known.seen y.place ≡ Some z) (its_rise made.step k (made.owner ∙ on)) made.there in
+        let number = subst (λ o. receipts.count_owned o (take y.place q.timers.known.seen) + 1 ≡ y.number) on made.number in
+        omega (arith, rose_more last.of y.place k there, number)
+
     -- of each entry of an object two rises were seen
     object_rose : (i n : ℕ) → n ≡ length (seen_of q.objects i) → n + n ≤ rises_of (suc i) q.timers.known.seen
     object_rose i zero is = omega arith
@@ -255,27 +289,12 @@ module _ {s : Script} {x : WorldOf} {q : WorldPass} (last : AreLastOf s x q) whe
         head [] is = absurd (omega (arith, is))
         head (y ∷ ys) is = (y, refl)
 
-        its_rise : (y : SystemEntry) (k : ℕ) → owner_of_entry y ≡ CountersList k → y ≡ entries.Rise k
-        its_rise (entries.Timer y) k is = absurd (cc)
-        its_rise (entries.Base y) k is = absurd (cc)
-        its_rise (entries.Rise j) k is = cc
-
-        rose_to : (y : PlacedEntry) (k : ℕ) → owner_of y.shown ≡ CountersList k → IsMade q.timers.known.seen y → y.number ≤ rises_of k q.timers.known.seen
-        rose_to y k on made =
-            let there = subst (λ z. slice_get q.timers.known.seen y.place ≡ Some z) (its_rise made.step k (made.owner ∙ on)) made.there in
-            let number = subst (λ o. receipts.count_owned o (take y.place q.timers.known.seen) + 1 ≡ y.number) on made.number in
-            omega (arith, rose_more last.of y.place k there, number)
-
     -- law: the counter of an object's turns has risen twice for each of its entries
-    pub rises_counted : (i : ℕ) → rises_of (suc i) q.timers.known.seen ≡ length (seen_of q.objects i) + length (seen_of q.objects i)
-    rises_counted i = ⊎_elim
-        (λ (less : i < length s.timers).
+    pub rises_counted : (i : ℕ) → i < length s.timers → rises_of (suc i) q.timers.known.seen ≡ length (seen_of q.objects i) + length (seen_of q.objects i)
+    rises_counted i less =
         let many = length (seen_of q.objects i) in
         let few = subst (λ k. rises_of k q.timers.known.seen ≤ many + many) (one_more i) (last.no_more i less) in
-        omega (arith, few, object_rose i (length (seen_of q.objects i)) refl))
-        (λ (past : length s.timers ≤ i). none_past last.of (CountersList (suc i)) (λ is. omega (arith, is, past))
-        ∙ sym (ap (λ hs. length hs + length hs) (objects_past last.of i past)))
-        (cases_lt i (length s.timers))
+        omega (arith, few, object_rose i (length (seen_of q.objects i)) refl)
       where
         one_more : (k : ℕ) → k + 1 ≡ suc k
         one_more k = omega arith
@@ -284,7 +303,8 @@ module _ {s : Script} {x : WorldOf} {q : WorldPass} (last : AreLastOf s x q) whe
     pub timer_lines_are : {sorted : NotesOf} → IsSortedFrom notes sorted → (answers : List (List Answer)) (t : ℕ)
         → lines_of_timer (record_from s.version sorted s.bases (length s.timers) answers) t ≡ noted_timer_lines t sorted.entries sorted.looks
     timer_lines_are {sorted = sorted} is answers t = lines_are (λ u. noted_timer_lines u sorted.entries sorted.looks) (length s.timers) t
-        (λ past. ap (numbered_from _ 1) (none_long _ (as_many is.entries (entries_once t) ∙ none_past last.of (TimersList t) (λ less. omega (arith, less, past)))))
+        (λ past. ap (numbered_from _ 1)
+        (none_long _ (as_many is.entries (entries_once t) ∙ none_past last.of (TimersList t) (λ less. omega (arith, less, past)))))
 
     pub base_lines_are : {sorted : NotesOf} → IsSortedFrom notes sorted → (answers : List (List Answer)) (b : ℕ)
         → lines_of_base (record_from s.version sorted s.bases (length s.timers) answers) b ≡ noted_base_lines b sorted.bases

@@ -1,13 +1,15 @@
 pub mod BaseLines
+pub mod CounterLines
 pub mod Numbered
 pub mod OwnLines
 pub mod SeenThere
 pub mod Turns
+pub mod Signalled
 pub mod LastSeen
+pub mod SignalNotes
 pub mod FiledNotes
 pub mod ClockLines
 pub mod ObjectLines
 pub mod HungNotes
 pub mod HungLines
-pub mod Signalled
 pub mod Ended

@@ -135,7 +135,7 @@ module _ {s : Script} {x : WorldOf} {q : WorldPass} {notes sorted : NotesOf} {lo
 
   module _ (starts : RoundStarts) where
     abbrev e : Ending
-    e = ending_of r q [] logs starts
+    e = ending_of r q (λ k. []) logs starts
 
     -- law: they show the entries
     pub object_lines_show : (i : ℕ) → AreObjectLines r.clock (seen_of q.objects i) (lines_of_object r i)

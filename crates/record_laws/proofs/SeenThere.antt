@@ -44,11 +44,11 @@ entry_within bases many w [] p e steps at = absurd (cc)
 entry_within bases many w (y ∷ es) zero e steps at = subst (IsWithin bases many) (same_Some y e at) (within_step bases many w y steps.0)
 entry_within bases many w (y ∷ es) (suc p) e steps at = entry_within bases many (after_one w y) es p e steps.1 at
 
--- whether a list is there; of counters those of the clock's writes and of each object's turns are
+-- whether a list is there; of counters those of the clock's writes, of each object's turns, and of pushes and pops are
 abbrev pub IsThere : Script → Owner → Type 0
 IsThere s (TimersList t) = t < length s.timers
 IsThere s (BasesList b) = b < s.bases
-IsThere s (CountersList k) = k < length s.timers + 1
+IsThere s (CountersList k) = k < length s.timers + 3
 
 module _ {s : Script} {x : WorldOf} {q : WorldPass} (last : AreLastPasses s x q) where
   pub timers_many : length x.timers.about.timers ≡ length s.timers
@@ -57,7 +57,7 @@ module _ {s : Script} {x : WorldOf} {q : WorldPass} (last : AreLastPasses s x q)
   pub bases_many : x.timers.about.bases ≡ s.bases
   bases_many = ap (λ (o : Opening). o.bases) last.world.timers
 
-  many_counters : counters_in x.timers.about ≡ length s.timers + 1
+  many_counters : counters_in x.timers.about ≡ length s.timers + 3
   many_counters = omega (arith, ap (λ (o : Opening). counters_in o) last.world.timers)
 
   -- law: where a rise was seen its counter has risen more often than before it
@@ -69,11 +69,11 @@ module _ {s : Script} {x : WorldOf} {q : WorldPass} (last : AreLastPasses s x q)
       omega (arith, more, ap (rises_of k) (take_all (length seen) seen (omega arith)))
 
   -- a rise that was seen is that of a counter that is there
-  rose_there : (p k : ℕ) → slice_get q.timers.known.seen p ≡ Some (entries.Rise k) → k < length s.timers + 1
-  rose_there p k at = ⊎_elim (λ (less : k < length s.timers + 1). less)
-      (λ (past : length s.timers + 1 ≤ k).
+  rose_there : (p k : ℕ) → slice_get q.timers.known.seen p ≡ Some (entries.Rise k) → k < length s.timers + 3
+  rose_there p k at = ⊎_elim (λ (less : k < length s.timers + 3). less)
+      (λ (past : length s.timers + 3 ≤ k).
       let never = last.passes.timers.knows.counters k (subst (λ n. n ≤ k) (sym many_counters) past) in absurd (omega (arith, rose_more p k at, never)))
-      (cases_lt k (length s.timers + 1))
+      (cases_lt k (length s.timers + 3))
 
   -- law: the list of an entry that was seen is there
   pub there_within : (p : ℕ) (e : SystemEntry) → slice_get q.timers.known.seen p ≡ Some e → IsThere s (owner_of_entry e)

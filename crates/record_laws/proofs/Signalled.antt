@@ -12,26 +12,28 @@ use Rattle.signal_queue.specs.Rules.{turns}
 use Rattle.signal_queue.specs.declared.signal.Turn.{Turn}
 use Rattle.record_text.specs.declared.record.Label.{Label}
 use Rattle.lane_notes.specs.Notes.{NotesOf}
-use Rattle.run_history.specs.Actions.{own}
+use Rattle.run_history.specs.Actions.{own, signalled}
 use Rattle.run_history.specs.Order.{calls_from, calls_of, is_label, IsLabel}
-use Rattle.run_history.specs.Receipts.{Rises}
 use Rattle.run_history.specs.Rounds.{label_at}
-use Rattle.run_history.specs.Runs.{CallLog, IsOfQueued}
-use Rattle.run_history.specs.Signals.{SignalMove, signal_labels, turns_in}
-use Rattle.run_history.proofs.Items.{Among, among_at, at_among, own_items, lower}
+use Rattle.run_history.specs.Runs.{CallLog}
+use Rattle.run_history.specs.Signals.{SendsSignals, SignalLine, pop_counter, push_counter, signals_in}
+use Rattle.run_history.proofs.Items.{Among, among_at, at_among, own_items}
 use Rattle.run_history.proofs.Labels.{label_itself, same_label}
-use Rattle.run_history.proofs.Lists.{all_at, each, item_at, map_get}
+use Rattle.run_history.proofs.Lists.{all_at, each, item_at}
 use Rattle.script_text.specs.Scripts.{all_calls}
 use Rattle.script_text.specs.declared.script.LaneCall.{LaneCall}
 use Rattle.script_text.specs.declared.script.Round.{Round}
 use Rattle.script_text.specs.declared.script.Script.{Script}
 use Rattle.record_text.proofs.Lists.{All-back, All-front}
-use Rattle.lane_notes.proofs.Kept.{turn_place}
+use Rattle.lane_notes.proofs.Kept.{IsOfQueued, signal_at, turn_place}
+use Rattle.record_laws.proofs.CounterLines.{lines_none, lines_on, lines_popped, lines_pushed, lines_queued, own_rises_on, rises_on, signalled_of, SignalMove, turns_in}
+use Rattle.script_text.specs.Declarations.{kind_of}
+use Rattle.signal_queue.specs.Turns.{popped, pushed}
 use Rattle.lane_notes.proofs.Left.{all_turns_at, AreLastOf, AreLeft, sum_below, turns_at}
 use Rattle.lane_notes.specs.Worlds.{WorldOf}
 use Rattle.lane_notes.specs.declared.lane.WorldPass.{WorldPass}
 use Rattle.record_laws.proofs.Numbered.{within_from}
-use Rattle.record_laws.proofs.OwnLines.{InSpan, rise_in}
+use Rattle.record_laws.proofs.OwnLines.{rise_in}
 
 -- ---- sums
 
@@ -67,7 +69,7 @@ one_below (suc n) f (suc i) (suc j) one i_in j_in at_i at_j =
 pub record HasTurn (log : CallLog) (p : ℕ) : Type 0 where
   pub index : ℕ
   pub turn : Turn
-  pub there : slice_get log.trace.turns index ≡ Some (p, turn)
+  pub there : slice_get log.turns index ≡ Some (p, turn)
 
 same_next : (a b : ℕ) → a + 1 ≡ b + 1 → a ≡ b
 same_next a b is = omega (arith, is)
@@ -113,7 +115,7 @@ no_lane lane lanes round (r ∷ rs) past all =
 -- turns with a label for each place
 signals_from : (ts : List Turn) → ((p : ℕ) → p < length ts → Label) → List SignalMove
 signals_from [] of = []
-signals_from (t ∷ ts) of = record { label = of 0 (omega arith); turn = t } ∷ signals_from ts (λ p less. of (suc p) (omega (arith, less)))
+signals_from (t ∷ ts) of = (of 0 (omega arith), t) ∷ signals_from ts (λ p less. of (suc p) (omega (arith, less)))
 
 turns_from : (ts : List Turn) (of : (p : ℕ) → p < length ts → Label) → turns_in (signals_from ts of) ≡ ts
 unfolding signals_from
@@ -121,11 +123,11 @@ turns_from [] of = refl
 turns_from (t ∷ ts) of = ap (λ us. t ∷ us) (turns_from ts (λ p less. of (suc p) (omega (arith, less))))
 
 signals_at : (P : ℕ → Label → Type 0) (ts : List Turn) (of : (p : ℕ) → p < length ts → Label) → ((p : ℕ) (less : p < length ts) → P p (of p less))
-    → (p : ℕ) (m : SignalMove) → slice_get (signals_from ts of) p ≡ Some m → P p m.label × (slice_get ts p ≡ Some m.turn)
+    → (p : ℕ) (m : SignalMove) → slice_get (signals_from ts of) p ≡ Some m → P p m.0 × (slice_get ts p ≡ Some m.1)
 unfolding signals_from
 signals_at P [] of so p m at = absurd (cc)
 signals_at P (t ∷ ts) of so zero m at =
-    let same = same_Some _ m at in (subst (P 0) (ap (λ (y : SignalMove). y.label) same) (so 0 (omega arith)), ap (λ (y : SignalMove). Some y.turn) same)
+    let same = same_Some _ m at in (subst (P 0) (ap (λ (y : SignalMove). y.0) same) (so 0 (omega arith)), ap (λ (y : SignalMove). Some y.1) same)
 signals_at P (t ∷ ts) of so (suc p) m at =
     signals_at (λ n c. P (suc n) c) ts (λ n less. of (suc n) (omega (arith, less))) (λ n less. so (suc n) (omega (arith, less))) p m at
 
@@ -152,11 +154,11 @@ module _ {s : Script} {x : WorldOf} {q : WorldPass} {notes : NotesOf} {logs : La
       let lane = some_below s.lanes of_lane some in
       let call = some_below (length (calls_of s lane.0)) (of lane.0) lane.2 in
       let c = label_at lane.0 call.0 in
-      let its = turn_found p (logs c).trace.turns call.2 in
+      let its = turn_found p (logs c).turns call.2 in
       (c, (call.1, record { index = its.0; turn = its.1; there = its.2 }))
 
   counted : (p : ℕ) (c : Label) → HasTurn (logs c) p → 1 ≤ turns_at (p + 1) (logs c)
-  counted p c its = turn_counted p its.index its.turn (logs c).trace.turns its.there
+  counted p c its = turn_counted p its.index its.turn (logs c).turns its.there
 
   -- a call that has one is the script's
   turn_label : (p : ℕ) (c : Label) → HasTurn (logs c) p → IsLabel s c
@@ -164,7 +166,7 @@ module _ {s : Script} {x : WorldOf} {q : WorldPass} {notes : NotesOf} {logs : La
       ⊎_elim (λ is. is)
       (λ (past : length (calls_of s c.lane) ≤ c.call).
       let none = left.unturned c (λ is. omega (arith, is, past)) in
-      absurd (omega (arith, ap length none, slice_get_within (logs c).trace.turns its.index (p, its.turn) its.there)))
+      absurd (omega (arith, ap length none, slice_get_within (logs c).turns its.index (p, its.turn) its.there)))
       (cases_lt c.call (length (calls_of s c.lane)))
 
   lane_there : (c : Label) → IsLabel s c → c.lane < s.lanes
@@ -189,80 +191,80 @@ module _ {s : Script} {x : WorldOf} {q : WorldPass} {notes : NotesOf} {logs : La
       let calls : c.call ≡ d.call = one_below (length (calls_of s c.lane)) (of c.lane) c.call d.call one is_c d_here (counted p c in_c) d_at in
       ap (λ n. label_at n c.call) lanes ∙ ap (label_at d.lane) calls
 
-  -- law: the pushes and pops, each under its call's label
-  pub signals : List SignalMove
-  signals = signals_from seen (λ p less. (found p less).0)
+  -- the pushes and pops, each under its call's label
+  pub labelled : List SignalMove
+  labelled = signals_from seen (λ p less. (found p less).0)
 
-  pub signals_seen : turns_in signals ≡ seen
-  unfolding signals
-  signals_seen = turns_from seen (λ p less. (found p less).0)
+  labelled_seen : turns_in labelled ≡ seen
+  unfolding labelled
+  labelled_seen = turns_from seen (λ p less. (found p less).0)
 
-  at_place : (p : ℕ) (m : SignalMove) → slice_get signals p ≡ Some m → IsTurnOf p m.label × (slice_get seen p ≡ Some m.turn)
-  unfolding signals
+  at_place : (p : ℕ) (m : SignalMove) → slice_get labelled p ≡ Some m → IsTurnOf p m.0 × (slice_get seen p ≡ Some m.1)
+  unfolding labelled
   at_place = signals_at IsTurnOf seen (λ p less. (found p less).0) (λ p less. (found p less).1)
 
   -- what stands at a place of a call's
   turn_there : (p : ℕ) (c : Label) (its : HasTurn (logs c) p) → slice_get seen p ≡ Some its.turn
-  turn_there p c its = (all_at _ (logs c).trace.turns its.index (p, its.turn) (left.turned c).each its.there).there
+  turn_there p c its = (all_at _ (logs c).turns its.index (p, its.turn) (left.turned c).each its.there).there
 
-  long : length signals ≡ length seen
-  long = sym (length-map signals (λ (m : SignalMove). m.turn)) ∙ ap length signals_seen
+  long : length labelled ≡ length seen
+  long = sym (length-map labelled (λ (m : SignalMove). m.1)) ∙ ap length labelled_seen
 
-  -- law: those of a call are what it made
-  pub signals_own : (c : Label) → own (λ m. m.label) (λ m. m.turn) c 0 signals ≡ (logs c).trace.turns
-  signals_own c =
-      let mine = (logs c).trace.turns in
-      own_items (λ m. m.label) (λ m. m.turn) c 0 signals mine
-      (lower 0 (logs c).signals.0 mine (omega arith) (rise_in (logs c).signals.0 mine (left.turned c).rise))
+  -- those of a call are what it made
+  labelled_own : (c : Label) → own (λ m. m.0) (λ m. m.1) c 0 labelled ≡ (logs c).turns
+  labelled_own c =
+      let mine = (logs c).turns in
+      own_items (λ m. m.0) (λ m. m.1) c 0 labelled mine (rise_in 0 mine (left.turned c).rise)
       (λ e here.
       let at = at_among e mine here in
       let its : HasTurn (logs c) e.0 = record { index = at.0; turn = e.1; there = at.1 } in
       let there = turn_there e.0 c its in
       let less = slice_get_within seen e.0 e.1 there in
-      let m = item_at signals e.0 (omega (arith, less, long)) in
+      let m = item_at labelled e.0 (omega (arith, less, long)) in
       let of = at_place e.0 m.0 m.1 in
-      let label = same_turn e.0 m.0.label c less of.0.1 its in
+      let label = same_turn e.0 m.0.0 c less of.0.1 its in
       record {
         before = e.0;
         line = m.0;
         there = m.1;
         own = ap (is_label c) label ∙ label_itself c;
-        is = ap (λ n. (n, e.1)) (from_none e.0) ∙ ap (λ t. (0 + e.0, t)) (same_Some e.1 m.0.turn (sym there ∙ of.1));
+        is = ap (λ n. (n, e.1)) (from_none e.0) ∙ ap (λ t. (0 + e.0, t)) (same_Some e.1 m.0.1 (sym there ∙ of.1));
       })
       (λ p m at is.
       let of = at_place p m at in
-      let its : HasTurn (logs c) p = subst (λ d. HasTurn (logs d) p) (same_label c m.label is) of.0.1 in
-      let turn : its.turn ≡ m.turn = same_Some its.turn m.turn (sym (turn_there p c its) ∙ of.1) in
+      let its : HasTurn (logs c) p = subst (λ d. HasTurn (logs d) p) (same_label c m.0 is) of.0.1 in
+      let turn : its.turn ≡ m.1 = same_Some its.turn m.1 (sym (turn_there p c its) ∙ of.1) in
       subst (λ y. Among y mine) (ap (λ n. (n, its.turn)) (from_none p) ∙ ap (λ t. (0 + p, t)) turn) (among_at mine its.index (p, its.turn) its.there))
     where
       from_none : (n : ℕ) → n ≡ 0 + n
       from_none n = omega arith
 
-  -- law: each is of a call of the script, in the call's span
-  pub signals_in_span : (n : ℕ) (c : Label) → slice_get (signal_labels signals) n ≡ Some c → InSpan s (λ d. (logs d).signals) c n
-  signals_in_span n c at =
-      let m = map_get (λ (m : SignalMove). m.label) signals n c at in
-      let of = at_place n m.0 m.1 in
-      let its : HasTurn (logs c) n = subst (λ d. HasTurn (logs d) n) m.2 of.0.1 in
-      let turned = left.turned c in (
-        subst (IsLabel s) m.2 of.0.0,
-        least (logs c).signals.0 (logs c).trace.turns turned.rise its.index (n, its.turn) its.there,
-        all_at _ (logs c).trace.turns its.index (n, its.turn) turned.below its.there,
-      )
-    where
-      least : (k : ℕ) (xs : List (ℕ × Turn)) → Rises k (map (λ x. x.0) xs) → (i : ℕ) (x : ℕ × Turn) → slice_get xs i ≡ Some x → k ≤ x.0
-      least k [] rise i x at = absurd (cc)
-      least k (y ∷ xs) rise zero x at = subst (λ (z : ℕ × Turn). k ≤ z.0) (same_Some y x at) rise.0
-      least k (y ∷ xs) rise (suc i) x at = let rest = least (y.0 + 1) xs rise.1 i x at in omega (arith, rest, rise.0)
+  -- law: of each counter of the queue the signals of its rises, each under its call's label
+  abbrev pub signals : ℕ → List SignalLine
+  signals k = lines_on s k labelled
+
+  -- law: those of a call are what it did
+  pub signals_own : (c : Label) (k : ℕ) → own (λ line. line.label) (λ line. line.signal) c 1 (signals k) ≡ signalled k (logs c).trace.actions
+  signals_own c k =
+      own_rises_on s k c [] labelled ∙ ap (λ ts. rises_on k (map (signal_at s ts) (own (λ m. m.0) (λ m. m.1) c 0 labelled))) labelled_seen
+      ∙ ap (λ ts. rises_on k (map (signal_at s seen) ts)) (labelled_own c) ∙ ap (rises_on k) (sym (left.turned c).are)
+      ∙ sym (signalled_of k (logs c).trace.actions)
+
+  -- law: they are those that the queue's last pass has seen pushed, and popped
+  pub signals_pushed : signals_in (signals (push_counter s)) ≡ pushed seen
+  signals_pushed = lines_pushed s labelled ∙ ap pushed labelled_seen
+
+  pub signals_popped : signals_in (signals (pop_counter s)) ≡ popped seen
+  signals_popped = lines_popped s labelled ∙ ap popped labelled_seen
+
+  -- law: other counters have none
+  pub signals_none : (k : ℕ) → (push_counter s ≡ k → ⊥) → (pop_counter s ≡ k → ⊥) → signals k ≡ []
+  signals_none k no_push no_pop = lines_none s k no_push no_pop labelled
 
   -- law: only queued timers' signals are pushed
-  pub signals_queued : AllByRecursion (IsOfQueued s) seen
-  signals_queued = each (IsOfQueued s) seen (λ p t at.
+  pub signals_queued : AllByRecursion (λ line. SendsSignals (kind_of s line.signal.timer)) (signals (push_counter s))
+  signals_queued = lines_queued s labelled (subst (AllByRecursion (IsOfQueued s)) (sym labelled_seen) (each (IsOfQueued s) seen (λ p t at.
       let its = found p (slice_get_within seen p t at) in
       let turn = its.1.1 in
       subst (IsOfQueued s) (same_Some turn.turn t (sym (turn_there p its.0 turn) ∙ at))
-      (all_at _ (logs its.0).trace.turns turn.index (p, turn.turn) (left.turned its.0).each turn.there).of)
-
-  -- law: there are as many as were seen
-  pub signals_long : length (signal_labels signals) ≡ length seen
-  signals_long = length-map signals (λ (m : SignalMove). m.label) ∙ long
+      (all_at _ (logs its.0).turns turn.index (p, turn.turn) (left.turned its.0).each turn.there).of)))

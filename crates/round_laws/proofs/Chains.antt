@@ -5,6 +5,7 @@ use Rattle.run_history.specs.Witnesses.{Trace}
 use Rattle.run_history.specs.Fits.{Seen}
 use Rattle.run_history.specs.Receipts.{PlacedEntry}
 use Rattle.run_history.specs.Runs.{CallLog}
+use Rattle.signal_queue.specs.declared.signal.Turn.{Turn}
 use Rattle.lane_notes.proofs.Kept.{log_of, seen_by}
 use Rattle.lane_notes.proofs.SeenMore.{IsNoLess}
 use Rattle.lane_notes.specs.declared.lane.WorldPass.{WorldPass}
@@ -14,32 +15,28 @@ pub record ListOf : Type 0 where
   pub seen : Seen → ℕ
   pub span : CallLog → ℕ × ℕ
   pub rises : {a b : Seen} → IsNoLess a b → seen a ≤ seen b
-  pub of_log : (p q : WorldPass) (notes : List PlacedEntry) (trace : Trace) → span (log_of p q notes trace) ≡ (seen (seen_by p), seen (seen_by q))
+  pub of_log : (p q : WorldPass) (notes : List PlacedEntry) (trace : Trace) (turns : List (ℕ × Turn))
+      → span (log_of p q notes trace turns) ≡ (seen (seen_by p), seen (seen_by q))
 
 -- all entries
 abbrev pub moves_list : ListOf
-moves_list = record { seen = λ n. n.moves; span = λ g. g.moves; rises = λ less. less.moves; of_log = λ p q notes trace. refl }
+moves_list = record { seen = λ n. n.moves; span = λ g. g.moves; rises = λ less. less.moves; of_log = λ p q notes trace turns. refl }
 
 -- the clock's writes
 abbrev pub clock_list : ListOf
-clock_list = record { seen = λ n. n.clock; span = λ g. g.clock; rises = λ less. less.clock; of_log = λ p q notes trace. refl }
-
--- the pushes and pops of signals
-abbrev pub signals_list : ListOf
-signals_list = record { seen = λ n. n.signals; span = λ g. g.signals; rises = λ less. less.signals; of_log = λ p q notes trace. refl }
+clock_list = record { seen = λ n. n.clock; span = λ g. g.clock; rises = λ less. less.clock; of_log = λ p q notes trace turns. refl }
 
 -- ---- no less was seen
 
 -- the same
 pub no_less_same : {a : Seen} → IsNoLess a a
-no_less_same = record { clock = omega arith; moves = omega arith; signals = omega arith }
+no_less_same = record { clock = omega arith; moves = omega arith }
 
 -- twice no less
 pub no_less_trans : {a b c : Seen} → IsNoLess a b → IsNoLess b c → IsNoLess a c
 no_less_trans one two = record {
   clock = omega (arith, one.clock, two.clock);
   moves = omega (arith, one.moves, two.moves);
-  signals = omega (arith, one.signals, two.signals);
 }
 
 -- ---- where rounds began
@@ -111,11 +108,11 @@ lies_pushed {x} {past} {now} {round} lies = record {
 }
 
 -- law: a call in the round that began last, when its lane had seen no less than this
-pub lies_new : (x : ListOf) (before : List Seen) {base : Seen} (p q : WorldPass) (notes : List PlacedEntry) (trace : Trace) → IsNoLess base (seen_by p)
-    → IsNoLess (seen_by p) (seen_by q) → LiesIn x (before ++ base ∷ []) (seen_by q) (length before) (log_of p q notes trace)
-lies_new x before {base} p q notes trace old new =
-    let from : (x.span (log_of p q notes trace)).0 ≡ x.seen (seen_by p) = ap (λ n. n.0) (x.of_log p q notes trace) in
-    let to : (x.span (log_of p q notes trace)).1 ≡ x.seen (seen_by q) = ap (λ n. n.1) (x.of_log p q notes trace) in
+pub lies_new : (x : ListOf) (before : List Seen) {base : Seen} (p q : WorldPass) (notes : List PlacedEntry) (trace : Trace) (turns : List (ℕ × Turn)) → IsNoLess base (seen_by p)
+    → IsNoLess (seen_by p) (seen_by q) → LiesIn x (before ++ base ∷ []) (seen_by q) (length before) (log_of p q notes trace turns)
+lies_new x before {base} p q notes trace turns old new =
+    let from : (x.span (log_of p q notes trace turns)).0 ≡ x.seen (seen_by p) = ap (λ n. n.0) (x.of_log p q notes trace turns) in
+    let to : (x.span (log_of p q notes trace turns)).1 ≡ x.seen (seen_by q) = ap (λ n. n.1) (x.of_log p q notes trace turns) in
     record {
       begun = omega (arith, length-append before (base ∷ []));
       from = omega (arith, from, ap x.seen (get_or_push before base (seen_by q) (length before) refl), x.rises old);

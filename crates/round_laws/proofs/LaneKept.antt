@@ -42,8 +42,6 @@ fits_behind w c call a less before after no_less fits = record {
   clock_steps = falls_lower less.clock before.clock ((w.traces c).at ∷ map (λ x. x.0) (wrote (w.traces c).actions)) after.clock no_less.clock
       fits.clock_steps;
   move_steps = (omega (arith, no_less.moves, fits.move_steps.0), fits.move_steps.1);
-  signalled = fits.signalled;
-  signal_steps = falls_lower less.signals before.signals (map (λ x. x.0) (w.traces c).turns) after.signals no_less.signals fits.signal_steps;
 }
 
 -- law: so does its reading
@@ -74,10 +72,10 @@ module _ {s : Script} {l : LaneOf} {call : Call} {a : Answer} {m : LaneOf} (turn
   }
 
   -- law: and it fits, with its reading, in every run that goes on from there
-  pub turn_promised : IsPromisedInTurn s l.label.lane l.label.call (log_of turn.begun.pass m.pass turn.kept.notes turn.kept.trace) (Follows m.pass) call a
+  pub turn_promised : IsPromisedInTurn s l.label.lane l.label.call (log_of turn.begun.pass m.pass turn.kept.notes turn.kept.trace turn.kept.turned) (Follows m.pass) call a
       (seen_by l.pass) (seen_by m.pass)
   turn_promised e follows has joined =
-      let log = log_of turn.begun.pass m.pass turn.kept.notes turn.kept.trace in
+      let log = log_of turn.begun.pass m.pass turn.kept.notes turn.kept.trace turn.kept.turned in
       let by_label = subst (λ (c : Label). IsPromised s c.lane c.call log (Follows m.pass) call a (seen_by turn.begun.pass) (seen_by m.pass)) turn.label
       turn.kept.promised in
       let fits = by_label e follows has joined in (

@@ -130,7 +130,7 @@ IsFrom lane start done c g = (c.lane ≡ lane) × (start ≤ c.call) × IsAt don
 module _ {s : Script} {l : LaneOf} {call : Call} {a : Answer} {m : LaneOf} (turn : KeepsTurn s l call a m) (before : List Seen) (lane : ℕ)
     (done : List DoneCall) (label : l.label ≡ label_at lane (length done)) where
   abbrev log : CallLog
-  log = log_of turn.begun.pass m.pass turn.kept.notes turn.kept.trace
+  log = log_of turn.begun.pass m.pass turn.kept.notes turn.kept.trace turn.kept.turned
 
   begun_label : turn.begun.label ≡ label_at lane (length done)
   begun_label = turn.label ∙ label
@@ -162,8 +162,8 @@ module _ {s : Script} {l : LaneOf} {call : Call} {a : Answer} {m : LaneOf} (turn
         each = All-append (Stands s (before ++ seen_by base ∷ []) m.pass) done (one ∷ []) (kept_later more so_far).each (
           record {
             stand = turn.kept.stand;
-            turned = turn.kept.turned;
-            lies = λ x. lies_new x before turn.begun.pass m.pass turn.kept.notes turn.kept.trace (no_less (more_trans sees (more_called turn.sees)))
+            turned = turn.kept.turns;
+            lies = λ x. lies_new x before turn.begun.pass m.pass turn.kept.notes turn.kept.trace turn.kept.turned (no_less (more_trans sees (more_called turn.sees)))
                 (no_less (more_called turn.kept.sees));
           },
           tt,
@@ -175,7 +175,7 @@ module _ {s : Script} {l : LaneOf} {call : Call} {a : Answer} {m : LaneOf} (turn
               arith,
               most,
               x.rises (no_less (more_called turn.sees)),
-              ap (λ n. n.0) (x.of_log turn.begun.pass m.pass turn.kept.notes turn.kept.trace),
+              ap (λ n. n.0) (x.of_log turn.begun.pass m.pass turn.kept.notes turn.kept.trace turn.kept.turned),
               ap (λ (d : DoneCall). (x.span d.log).0) new.1,
             ))
             (at_push done one (suc j) h that))
@@ -288,7 +288,7 @@ module _ {s : Script} {x : WorldOf} (each : KeepsEach s x) (world : IsWorldOf s 
               (tallies_more (both_noted start l.notes) turn.kept.added old.tallies (turn_places turn));
           turned = λ j.
               let test = is_place 0 j in
-              let turns = turn.kept.trace.turns in
+              let turns = turn.kept.turned in
               omega (
                 arith,
                 old.turned j,

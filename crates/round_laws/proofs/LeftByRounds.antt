@@ -23,7 +23,7 @@ use Rattle.round_laws.proofs.Tallies.{sum_items, sum_same}
 use Rattle.lane_notes.specs.Rounds.{LeftOf, MakesRounds, none_left}
 use Rattle.lane_notes.specs.Worlds.{AreFirst, IsWhole, IsWorldOf, WorldOf}
 use Rattle.lane_notes.specs.declared.lane.WorldPass.{WorldPass}
-use Rattle.round_laws.proofs.Chains.{clock_list, LiesIn, ListOf, moves_list, signals_list, start_of}
+use Rattle.round_laws.proofs.Chains.{clock_list, LiesIn, ListOf, moves_list, start_of}
 use Rattle.round_laws.proofs.LaneRound.{LaneSoFar, calls_in, Stands, DoneCall, answers_in, turns_done}
 use Rattle.round_laws.proofs.LanesTaken.{AreLeftSoFar}
 use Rattle.round_laws.proofs.NotesJoined.{own_notes-none}
@@ -37,10 +37,10 @@ no_call = record {
   at = record { round = 0; call = calls.Cancel 0 };
   log = record {
     notes = [];
-    trace = record { at = 0; fired = []; moved = []; actions = []; first = 0; last = 0; turns = [] };
+    trace = record { at = 0; fired = []; moved = []; actions = []; first = 0; last = 0 };
     moves = (0, 0);
     clock = (0, 0);
-    signals = (0, 0);
+    turns = [];
   };
   answer = answers.NoSignal;
 }
@@ -56,7 +56,7 @@ stand_none : (q : WorldPass) → StandAt q no_call.log
 stand_none q = record { rise = tt; below = tt; made = tt; shows = λ e follows. tt }
 
 turned_none : (s : Script) (q : WorldPass) → AreTurnsOf s q no_call.log
-turned_none s q = record { rise = tt; below = tt; each = tt }
+turned_none s q = record { rise = tt; each = tt; are = refl }
 
 -- ---- when no calls are left of any lane
 
@@ -117,7 +117,7 @@ module _ {s : Script} {past : List Seen} {q : WorldPass} {left : LeftOf} (of : �
     turned = λ c. (of_each c).2;
     unturned = λ c none. ⊎_elim (λ (is : c.call < length (calls_of s c.lane)). absurd (none is))
         (λ (past : length (calls_of s c.lane) ≤ c.call).
-        ap (λ (k : DoneCall). k.log.trace.turns) (get_or_past (of c.lane).done c.call no_call (omega (arith, past, as_many c.lane))))
+        ap (λ (k : DoneCall). k.log.turns) (get_or_past (of c.lane).done c.call no_call (omega (arith, past, as_many c.lane))))
         (cases_lt c.call (length (calls_of s c.lane)));
     turn_places = λ k. so_far.turned k ∙ sum_same s.lanes (λ j. turns_done k (of j).done)
         (λ j. sum_below (length (calls_of s j)) (λ i. turns_at k (log_in (label_at j i)))) (λ j.
@@ -156,7 +156,6 @@ module _ {s : Script} {past : List Seen} {q : WorldPass} {left : LeftOf} (of : �
   all_starts = record {
     moves = start_of moves_list past (seen_by q);
     clock = start_of clock_list past (seen_by q);
-    signals = start_of signals_list past (seen_by q);
   }
 
   -- law: then calls stand by rounds, and fit
@@ -164,10 +163,8 @@ module _ {s : Script} {past : List Seen} {q : WorldPass} {left : LeftOf} (of : �
   by_rounds = record {
     moves = λ r signals. ledger_on moves_list;
     clock = λ r signals. ledger_on clock_list;
-    signals = λ r signals. ledger_on signals_list;
     moves_most = λ c is. (lies_of moves_list c is).most;
     clock_most = λ c is. (lies_of clock_list c is).most;
-    signals_most = λ c is. (lies_of signals_list c is).most;
     lanes = so_far.lanes;
     calls = λ e follows has joined lane.
         let done = (of lane).done in

@@ -104,9 +104,9 @@ IsOne label log c g = (c ≡ label) × (log ≡ g)
 
 -- law: what a lane keeps of a call has the notes of this one
 pub call_notes : {s : Script} {l : LaneOf} {call : Call} {a : Answer} {m : LaneOf} (kept : KeepsCall s l call a m)
-    → AreOf m.pass kept.added (IsOne l.label (log_of l.pass m.pass kept.notes kept.trace))
+    → AreOf m.pass kept.added (IsOne l.label (log_of l.pass m.pass kept.notes kept.trace kept.turned))
 call_notes {l = l} {m = m} kept =
-    let log = log_of l.pass m.pass kept.notes kept.trace in record {
+    let log = log_of l.pass m.pass kept.notes kept.trace kept.turned in record {
       tell = λ c g is. subst (λ h. TellLog h (own_notes c kept.added)) is.1 (subst (TellLog log) (own c is.0) kept.tells);
       seen = λ k. each _ (list_of k kept.added) (λ i n at. (log, (all_at _ _ i n (kept.bears k) at, refl), all_at _ _ i n (kept.seen k) at));
     }

@@ -250,7 +250,7 @@ left_first s {p = p} first = record {
   kept = λ j. record {
     parts = refl;
     promised = λ e follows has joined more fits. fits_lane_behind (witness_of s e) j 0 unseen (seen_by p) (calls_of s j) more
-        (record { clock = omega arith; moves = omega arith; signals = omega arith }) fits;
+        (record { clock = omega arith; moves = omega arith }) fits;
     each = tt;
     next = λ x i g h at. absurd (cc);
   };

@@ -1,4 +1,4 @@
--- What lanes have left, by passes that have settled the clock and looked at each object since.
+-- What lanes have left, by passes that have settled the clock, and looked at the queue and at each object since.
 use Rattle.std.proofs.Common.{◌≡◌, List, arith, refl, ap, ◌∙◌}
 use Rattle.lane_notes.specs.Notes.{NotesOf}
 use Rattle.pass_names.specs.Counts.{count}
@@ -15,7 +15,7 @@ use Rattle.lane_notes.proofs.Left.{AreByRounds, AreLeft}
 use Rattle.lane_notes.proofs.PartLists.{each_weaker}
 use Rattle.lane_notes.proofs.SeenMore.{begins_same, follows_less, seen_later, SeesMore, stand_later, turned_later}
 use Rattle.signal_queue.specs.Rules.{turns}
-use Rattle.lane_notes.specs.Runs.{LooksAtAll, Settles}
+use Rattle.lane_notes.specs.Runs.{LooksAtAll, LooksAtQueue, Settles}
 use Rattle.lane_notes.specs.Worlds.{WorldOf}
 use Rattle.lane_notes.specs.declared.lane.WorldPass.{WorldPass}
 
@@ -25,7 +25,7 @@ pub record OnlySees (p q : WorldPass) : Type 0 where
   pub timers : q.timers.known.mine ≡ p.timers.known.mine
   pub objects : q.objects.knows.pass.mine ≡ p.objects.knows.pass.mine
   pub clock : q.clock.knows.pass.mine ≡ p.clock.knows.pass.mine
-  pub signals : q.signals ≡ p.signals
+  pub signals : q.signals.knows.pass.mine ≡ p.signals.knows.pass.mine
 
 -- law: as when the clock was settled
 pub only_settles : {p q : WorldPass} → Settles p q → OnlySees p q
@@ -39,16 +39,31 @@ only_settles settles = record {
   timers = settles.timers.mine;
   objects = ap (λ o. o.knows.pass.mine) settles.objects;
   clock = settles.clock.mine;
-  signals = settles.signals;
+  signals = ap (λ u. u.knows.pass.mine) settles.signals;
 }
 
--- passes that have looked at each object, that of the timers as it was before
+-- passes that have looked at the queue and the objects, that of the timers as it was before
 abbrev pub before_looks : WorldPass → WorldPass → WorldPass
 before_looks p q = record q { timers = p.timers }
 
--- law: as when each object was looked at
-pub only_looks : {x : WorldOf} {p q : WorldPass} → LooksAtAll x p q → OnlySees p (before_looks p q)
-only_looks looks = record {
+-- law: as when the queue was looked at
+pub only_hears : {x : WorldOf} {p q : WorldPass} → LooksAtQueue x p q → OnlySees p (before_looks p q)
+only_hears looks = record {
+  more = record {
+    timers = begins_same refl;
+    clock = begins_same (ap (λ c. writes c.knows) looks.clock);
+    objects = λ i. begins_same (ap (λ o. seen_of o i) looks.objects);
+    signals = looks.signals.seen.each 0;
+  };
+  timers = refl;
+  objects = ap (λ o. o.knows.pass.mine) looks.objects;
+  clock = ap (λ c. c.knows.pass.mine) looks.clock;
+  signals = looks.signals.mine;
+}
+
+-- law: and behind that each object
+pub only_looks : {x : WorldOf} (o : WorldPass) {p q : WorldPass} → LooksAtAll x p q → OnlySees (before_looks o p) (before_looks o q)
+only_looks o looks = record {
   more = record {
     timers = begins_same refl;
     clock = begins_same (ap (λ c. writes c.knows) looks.clock);
@@ -58,7 +73,7 @@ only_looks looks = record {
   timers = refl;
   objects = looks.objects.mine;
   clock = ap (λ c. c.knows.pass.mine) looks.clock;
-  signals = looks.signals;
+  signals = ap (λ u. u.knows.pass.mine) looks.signals;
 }
 
 -- law: nothing else was made since
@@ -75,7 +90,7 @@ left_later {notes = notes} {logs = logs} sees left = record {
   };
   turned = λ c. turned_later sees.more (left.turned c);
   unturned = left.unturned;
-  turn_places = λ k. ap (λ u. count (is_place 0 k) u.knows.pass.mine) sees.signals ∙ left.turn_places k;
+  turn_places = λ k. ap (count (is_place 0 k)) sees.signals ∙ left.turn_places k;
 }
 
 -- law: and calls stand by rounds as before
@@ -84,10 +99,8 @@ pub rounds_later : {s : Script} {p q : WorldPass} {logs : Label → CallLog} {st
 rounds_later sees rounds = record {
   moves = rounds.moves;
   clock = rounds.clock;
-  signals = rounds.signals;
   moves_most = λ c is. omega (arith, rounds.moves_most c is, begins_length sees.more.timers);
   clock_most = λ c is. omega (arith, rounds.clock_most c is, begins_length sees.more.clock);
-  signals_most = λ c is. omega (arith, rounds.signals_most c is, begins_length sees.more.signals);
   lanes = rounds.lanes;
   calls = λ e follows has joined lane. rounds.calls e (follows_less sees.more follows) has joined lane;
 }

@@ -7,8 +7,8 @@ use Rattle.seq_timer.specs.Systems.{after_entry, after_shift, changed, shifted}
 use Rattle.seq_timer.specs.Tables.{is_armed_on, runs_on}
 use Rattle.seq_timer.specs.declared.standing.BaseEvent.TheVariants as shifts
 use Rattle.run_history.specs.Actions.{Action, Entered, Looked, Shifted, entered}
-use Rattle.run_history.specs.Deeds.{fires, IsBody, IsExpiryRun, StartsItself}
-use Rattle.run_history.specs.Signals.{SignalMove}
+use Rattle.run_history.specs.Deeds.{fires, IsBody, IsCallback, IsExpiryRun, StartsItself}
+use Rattle.run_history.specs.Signals.{SignalLine}
 use Rattle.run_history.specs.Starts.{Arming, FindsOnLine, IsSentByHeirs, SentTo, Sight, arming_actions, from_moment}
 use Rattle.run_history.specs.Truths.{IsMoment, sight_of}
 use Rattle.fit_laws.proofs.EachTimer.{heads}
@@ -129,7 +129,7 @@ HasFound sight = (low : ℕ) × (sight.first ≤ low) × (2 ≤ sight.stamp low 
 
 -- a callback of timer 0 that made the start did
 asked_found : (sight : Sight) (reading : ℕ) (f : Fired) → own_three ≡ entered 0 (fires 0 reading (record f { timer = 0 }))
-    → IsBody sight 100 (hard_raw (callbacks.Starts 50 1)) reading (record f { timer = 0 }) → HasFound sight
+    → IsCallback sight 100 (callbacks.Starts 50 1) reading (record f { timer = 0 }) → HasFound sight
 asked_found sight reading f same body = ⊎_elim started looked body.0
   where
     claim : 2 ≡ f.claim
@@ -176,15 +176,15 @@ one_fired sight s kind limit reading (f ∷ []) actions shown same run =
     asked_found sight reading f
     (subst (λ t. own_three ≡ entered 0 (fires 0 reading (record f { timer = t }))) (sym timer)
     (same ∙ ap (entered 0) (run.done ∙ append-nil (fires 0 reading f))))
-    (subst (λ k. IsBody sight 100 k reading (record f { timer = 0 })) kind
-    (subst (λ n. IsBody sight n (kind_of s 0) reading (record f { timer = 0 })) limit
-    (subst (λ t. IsBody sight s.limit (kind_of s t) reading (record f { timer = t })) (sym timer) run.bodies.0)))
+    (subst (λ n. IsCallback sight n (callbacks.Starts 50 1) reading (record f { timer = 0 })) limit
+    (subst (λ k. IsBody sight s k reading (record f { timer = 0 })) kind
+    (subst (λ t. IsBody sight s (kind_of s t) reading (record f { timer = t })) (sym timer) run.bodies.0)))
 
 off_line : {heir : ℕ} → Some heir ≡ None → ⊥
 off_line wrong = cc
 
 -- whatever the calls did
-module _ (signals : List SignalMove) (traces : Label → Trace) where
+module _ (signals : ℕ → List SignalLine) (traces : Label → Trace) where
   abbrev w : Witness
   w = witness_with asking_script asking_off_record in_order signals traces
 

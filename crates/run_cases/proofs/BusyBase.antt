@@ -38,7 +38,7 @@ busy_move = record {
 -- what the call did that would take the base off line
 abbrev busy_trace : Trace
 busy_trace =
-    record { at = 0; fired = []; moved = busy_move ∷ []; actions = flat_map (evacuates 0 0) (busy_move ∷ []); first = 4; last = 7; turns = [] }
+    record { at = 0; fired = []; moved = busy_move ∷ []; actions = flat_map (evacuates 0 0) (busy_move ∷ []); first = 4; last = 7 }
 
 -- its witness
 abbrev busy_witness : Witness

@@ -17,10 +17,10 @@ use Rattle.run_history.specs.Deeds.{AllKeepExpiries, AllMoved}
 use Rattle.run_history.specs.Truths.{AreTrue, LeftInTurn, sight_of}
 use Rattle.run_history.specs.Witnesses.{Witness, labels, writes_along}
 use Rattle.run_history.specs.Fits.{FitsLane, HasRead, ReadsInTurn, Seen}
-use Rattle.run_history.specs.Traces.{all_entered, HasTraced, own_moves}
+use Rattle.run_history.specs.Traces.{all_entered, own_moves}
 use Rattle.run_history.proofs.OthersMade.{none_moved}
 use Rattle.run_cases.proofs.Witnesses.{Along, everywhere}
-use Rattle.run_cases.proofs.Tests.{are_made, are_timed, AreTold, is_point, is_signalled, never_fall, IsPast, made_past, point_passes, signalled_passes, steps_pass, told_pass, upto}
+use Rattle.run_cases.proofs.Tests.{are_made, are_timed, AreTold, HasOthers, heard_passes, is_heard, is_point, never_fall, IsPast, made_past, point_passes, steps_pass, told_pass, upto}
 
 -- ---- calls
 
@@ -32,15 +32,6 @@ last_of n (m ∷ ms) = last_of m ms
 -- how many writes a call has seen at its end
 abbrev pub clock_then : Witness → Label → ℕ
 clock_then w c = last_of (w.traces c).at (map (λ x. x.0) (wrote (w.traces c).actions))
-
--- how many pushes and pops of signals a call has seen at its end
-abbrev pub signals_then : Witness → Label → ℕ → ℕ
-signals_then w c signals = last_of signals (map (λ x. x.0) (w.traces c).turns)
-
--- a call's pushes and pops stand behind this number of them, and are what its answer names and the signals of what it entered
-abbrev pub is_heard : Witness → Label → Answer → ℕ → Bool
-is_heard w c answer signals =
-    is_signalled w c (w.traces c) answer && never_fall signals (map (λ x. x.0) (w.traces c).turns) (signals_then w c signals)
 
 -- a call's reading, its first and its last moment stand where they may, behind these numbers of writes and of moves, and it has as many of the clock's
 -- writes as stand before the first moment
@@ -54,11 +45,15 @@ is_placed w c clock moves =
 
 -- what a lane has seen at a call's end
 abbrev pub seen_then : Witness → Label → Seen → Seen
-seen_then w c before = record { clock = clock_then w c; moves = (w.traces c).last; signals = signals_then w c before.signals }
+seen_then w c before = record { clock = clock_then w c; moves = (w.traces c).last }
 
 -- what else makes a call fit
 pub record IsRight (w : Witness) (c : Label) (call : Call) (answer : Answer) : Type 0 where
-  pub traced : HasTraced w c (w.traces c).actions
+  pub clock : own (λ line. line.label) (λ line. line.write) c 1 w.run.clock ≡ wrote (w.traces c).actions
+  pub moves : own_moves c w.moves ≡ all_entered (w.traces c).actions
+  pub looks : (t : ℕ) → own_looks c 1 (lines_of_timer w.run t) ≡ looked t (w.traces c).actions
+  pub objects : (i : ℕ) → own (λ line. line.label) (λ line. line.entry) c 1 (lines_of_object w.run i) ≡ made i (w.traces c).actions
+  pub skips : (i : ℕ) → IsPermutation (own_skips c 1 (lines_of_object w.run i)) (skipped i (w.traces c).actions)
   pub does : Does (sight_of w (w.traces c).first (w.traces c).last) w.script (w.traces c).at call answer (w.traces c).fired (w.traces c).moved
       (w.traces c).actions
   pub keeps : AllKeepExpiries w.script w.run call (w.traces c).moved
@@ -77,7 +72,7 @@ AreRight w lane index (p ∷ ps) [] = ⊥
 -- the same of a lane's calls from one of them on
 abbrev pub are_placed : Witness → ℕ → ℕ → Seen → List CallInRound → List Answer → Bool
 are_placed w lane index before (p ∷ ps) (a ∷ more) =
-    (is_placed w (record { lane = lane; call = index }) before.clock before.moves && is_heard w (record { lane = lane; call = index }) a before.signals)
+    (is_placed w (record { lane = lane; call = index }) before.clock before.moves && is_heard w (record { lane = lane; call = index }))
     && are_placed w lane (index + 1) (seen_then w (record { lane = lane; call = index }) before) ps more
 are_placed w lane index before ps given = true
 
@@ -91,20 +86,18 @@ in_turn w c (calls.Online base) from read = tt
 in_turn w c call from read = read
 
 -- law: so the calls of a lane fit
-pub lane_fits : (w : Witness) (lane index : ℕ) (before : Seen) (ps : List CallInRound) (given : List Answer)
+pub lane_fits : (w : Witness) → HasOthers w → (lane index : ℕ) (before : Seen) (ps : List CallInRound) (given : List Answer)
     → are_placed w lane index before ps given ≡ true → AreRight w lane index ps given → FitsLane w lane index before ps given
-lane_fits w lane index before [] [] placed right = tt
-lane_fits w lane index before [] (a ∷ more) placed right = absurd right
-lane_fits w lane index before (p ∷ ps) [] placed right = absurd right
-lane_fits w lane index before (p ∷ ps) (a ∷ more) placed right =
+lane_fits w others lane index before [] [] placed right = tt
+lane_fits w others lane index before [] (a ∷ more) placed right = absurd right
+lane_fits w others lane index before (p ∷ ps) [] placed right = absurd right
+lane_fits w others lane index before (p ∷ ps) (a ∷ more) placed right =
     let c : Label = record { lane = lane; call = index } in
     let t = w.traces c in
     let these = map (λ x. x.0) (wrote t.actions) in
-    let turned = map (λ x. x.0) t.turns in
-    let all = and_parts (is_placed w c before.clock before.moves && is_heard w c a before.signals)
+    let all = and_parts (is_placed w c before.clock before.moves && is_heard w c)
     (are_placed w lane (index + 1) (seen_then w c before) ps more) placed in
-    let both = and_parts (is_placed w c before.clock before.moves) (is_heard w c a before.signals) all.0 in
-    let heard = and_parts (is_signalled w c t a) (never_fall before.signals turned (signals_then w c before.signals)) both.1 in
+    let both = and_parts (is_placed w c before.clock before.moves) (is_heard w c) all.0 in
     let halves = and_parts (is_point w.script c 0 t.at (clock_labels w.run)
     && (never_fall before.clock (t.at ∷ these) (clock_then w c) && nat_eq (writes_along w t.first) t.at))
     ((is_point w.script c 0 t.first (labels w) && is_point w.script c (length (all_entered t.actions)) t.last (labels w))
@@ -119,7 +112,14 @@ lane_fits w lane index before (p ∷ ps) (a ∷ more) placed right =
       seen_then w c before,
       (
         record {
-          traced = right.0.traced;
+          traced = record {
+            clock = right.0.clock;
+            moves = right.0.moves;
+            looks = right.0.looks;
+            objects = right.0.objects;
+            skips = right.0.skips;
+            signals = heard_passes w others c both.1;
+          };
           does = right.0.does;
           keeps = right.0.keeps;
           turns = right.0.turns;
@@ -130,8 +130,6 @@ lane_fits w lane index before (p ∷ ps) (a ∷ more) placed right =
           holds = right.0.holds;
           clock_steps = steps_pass before.clock (t.at ∷ these) (clock_then w c) readings.0;
           move_steps = (upto before.moves t.first rest.1, omega arith);
-          signalled = signalled_passes w c t a heard.0;
-          signal_steps = steps_pass before.signals turned (signals_then w c before.signals) heard.1;
         },
         in_turn w c p.call before.moves (record {
           moment = t.first;
@@ -140,7 +138,7 @@ lane_fits w lane index before (p ∷ ps) (a ∷ more) placed right =
           writes = eqb-true (writes_along w t.first) t.at readings.1;
         }),
       ),
-      lane_fits w lane (index + 1) (seen_then w c before) ps more all.1 right.1,
+      lane_fits w others lane (index + 1) (seen_then w c before) ps more all.1 right.1,
     )
 
 -- what a call did can be said of each timer and each object that is there
@@ -164,18 +162,16 @@ right_moving {w} {c} {call} {answer} said clock moves looks objects skips does m
     let ds = (w.traces c).actions in
     let past : (i : ℕ) → IsPast (length r.timers) (length r.objects) i ds = λ i. made_past (length r.timers) (length r.objects) i ds said in
     record {
-      traced = record {
-        clock = clock;
-        moves = moves;
-        looks = everywhere (λ t. own_looks c 1 (lines_of_timer r t) ≡ looked t ds) r.timers looks (λ t more.
-            ap (own_looks c 1) (get_or_past r.timers t [] more) ∙ sym ((past t).looked more));
-        objects = everywhere (λ i. own (λ line. line.label) (λ line. line.entry) c 1 (lines_of_object r i) ≡ made i ds) r.objects objects (λ i more.
-            ap (own (λ line. line.label) (λ line. line.entry) c 1) (get_or_past r.objects i [] more) ∙ sym ((past i).made more));
-        skips = λ i. subst (λ xs. IsPermutation xs (skipped i ds))
-            (sym (everywhere (λ i. own_skips c 1 (lines_of_object r i) ≡ skipped i ds) r.objects skips (λ i more.
-            ap (own_skips c 1) (get_or_past r.objects i [] more) ∙ sym ((past i).skipped more)) i))
-            (IsPermutation-refl (skipped i ds));
-      };
+      clock = clock;
+      moves = moves;
+      looks = everywhere (λ t. own_looks c 1 (lines_of_timer r t) ≡ looked t ds) r.timers looks (λ t more.
+          ap (own_looks c 1) (get_or_past r.timers t [] more) ∙ sym ((past t).looked more));
+      objects = everywhere (λ i. own (λ line. line.label) (λ line. line.entry) c 1 (lines_of_object r i) ≡ made i ds) r.objects objects (λ i more.
+          ap (own (λ line. line.label) (λ line. line.entry) c 1) (get_or_past r.objects i [] more) ∙ sym ((past i).made more));
+      skips = λ i. subst (λ xs. IsPermutation xs (skipped i ds))
+          (sym (everywhere (λ i. own_skips c 1 (lines_of_object r i) ≡ skipped i ds) r.objects skips (λ i more.
+          ap (own_skips c 1) (get_or_past r.objects i [] more) ∙ sym ((past i).skipped more)) i))
+          (IsPermutation-refl (skipped i ds));
       does = does;
       keeps = moved.0;
       turns = moved.1;

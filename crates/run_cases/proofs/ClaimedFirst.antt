@@ -25,7 +25,7 @@ use Rattle.run_cases.proofs.SentOff.{ends_on_line}
 use Rattle.run_cases.proofs.Small.{fits_by}
 use Rattle.run_cases.proofs.Standings.{event_in, shifted_by, standing_then}
 use Rattle.run_cases.proofs.Tests.{le, lt}
-use Rattle.run_cases.proofs.Witnesses.{armed_by, did, fired, none_along, ran, stays, step, two, witness_along}
+use Rattle.run_cases.proofs.Witnesses.{armed_by, did, fired, none_along, ran, stays, step, two, witness_along, quiet}
 
 -- ---- it asks for the heir
 
@@ -99,7 +99,8 @@ meanwhile_fits = fits_by meanwhile_witness (record {
 
 -- a base that has made its one entry is off line
 pub off_line_since : (k : ℕ) → 0 < k
-    → (standing_after_all first_standing (map (λ m. event_in m.shown) (take k (moves_from 0 (lines_at meanwhile_off_record (BasesList 1)))))).heir ≡ None → ⊥
+    → (standing_after_all first_standing (map (λ m. event_in m.shown)
+    (take k (moves_from 0 (lines_at (quiet meanwhile_off_record) (BasesList 1)))))).heir ≡ None → ⊥
 off_line_since zero some on = omega (arith, some)
 off_line_since (suc zero) some on = cc
 off_line_since (suc (suc k)) some on = cc

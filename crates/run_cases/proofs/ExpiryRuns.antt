@@ -34,7 +34,7 @@ pub record IsOne (base reading : ℕ) (fired : List Fired) (actions : List Actio
 module _ {sight : Sight} {s : Script} {x : Context} {reading base shown : ℕ} {actions : List Action} where
   -- law: a run that claimed timer 0 alone, which is an object's, has one callback
   pub fired_one : (fired : List Fired) → IsExpiryRun sight s x reading base fired shown (0 ∷ []) actions
-      → ((f : Fired) → IsBody sight s.limit (kind_of s 0) reading f → IsTrigger reading f) → IsOne base reading fired actions
+      → ((f : Fired) → IsBody sight s (kind_of s 0) reading f → IsTrigger reading f) → IsOne base reading fired actions
   fired_one [] run is_object = absurd (let none = run.claimed in cc)
   fired_one (f ∷ g ∷ fs) run is_object = absurd (let many = run.claimed in cc)
   fired_one (f ∷ []) run is_object =
@@ -43,7 +43,7 @@ module _ {sight : Sight} {s : Script} {x : Context} {reading base shown : ℕ} {
         one = f;
         timer = sym timer;
         done = run.done ∙ append-nil (fires base reading f);
-        trigger = is_object f (subst (λ t. IsBody sight s.limit (kind_of s t) reading f) (sym timer) run.bodies.0);
+        trigger = is_object f (subst (λ t. IsBody sight s (kind_of s t) reading f) (sym timer) run.bodies.0);
       }
 
 module _ {base reading : ℕ} {fired : List Fired} {actions : List Action} (o : IsOne base reading fired actions) where

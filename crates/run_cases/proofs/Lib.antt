@@ -28,3 +28,6 @@ pub mod TurnFirst
 pub mod VersionTwo
 pub mod Witnesses
 pub mod WrongRecords
+mod BesideRuns
+mod BesideRunsWrong
+mod CrowdsWrong

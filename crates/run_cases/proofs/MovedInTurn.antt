@@ -5,7 +5,7 @@ use Rattle.seq_timer.specs.Systems.{after_entry, after_shift, changed, shifted}
 use Rattle.record_text.specs.declared.record.Label.{Label}
 use Rattle.run_history.specs.Deeds.{evacuates}
 use Rattle.run_history.specs.Truths.{LeftInTurn, WasNextOff}
-use Rattle.run_history.specs.Signals.{SignalMove}
+use Rattle.run_history.specs.Signals.{SignalLine}
 use Rattle.run_history.specs.Fits.{Fits}
 use Rattle.run_history.specs.Traces.{all_entered}
 use Rattle.run_history.specs.Witnesses.{Evacuation, Move, OfBase, OfRise, OfTimer, Shown, TimersList, Trace, Witness, timer_along, witness_with}
@@ -34,7 +34,7 @@ not_this wrong = omega (arith, ap timer_of wrong)
     timer_of (Some p) = p.1
 
 -- whatever the calls did
-module _ (signals : List SignalMove) (traces : Label → Trace) where
+module _ (signals : ℕ → List SignalLine) (traces : Label → Trace) where
   abbrev w : Witness
   w = witness_with turns_script turns_record in_order signals traces
 

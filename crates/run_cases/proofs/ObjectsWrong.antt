@@ -11,7 +11,7 @@ use Rattle.run_history.specs.Actions.{Action, Made, made}
 use Rattle.run_history.specs.Fits.{Fits, FitsIn}
 use Rattle.run_history.specs.Histories.{timer_after}
 use Rattle.record_text.specs.declared.record.Label.{Label}
-use Rattle.run_history.specs.Signals.{SignalMove}
+use Rattle.run_history.specs.Signals.{SignalLine}
 use Rattle.run_history.specs.Witnesses.{Move, Trace, Witness, timer_along, witness_with}
 use Rattle.run_history.proofs.Actions.{made-append}
 use Rattle.fit_laws.proofs.OwnPoints.{entered_then, same_then, seen, stamp_then}
@@ -57,7 +57,7 @@ uncancelled_doesnt_fit o =
 -- ---- a settime's start stands behind the claim of an expiry, but its entry stands before that expiry's
 
 -- where the timer is idle behind the first settime and before the second one's start, its function has run
-idle_there : (moves : List Move) (signals : List SignalMove) (traces : Label → Trace)
+idle_there : (moves : List Move) (signals : ℕ → List SignalLine) (traces : Label → Trace)
     → FitsIn (witness_with crossed_script crossed_record moves signals traces) → (n k : ℕ)
     → IsIdle (timer_along (witness_with crossed_script crossed_record moves signals traces) n 0)
     → seen (witness_with crossed_script crossed_record moves signals traces) n 0 ≡ k → 0 < k → k ≤ 3 → k ≡ 3

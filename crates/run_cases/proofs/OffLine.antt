@@ -50,7 +50,6 @@ offline_trace = record {
   actions = flat_map (evacuates 0 0) (heir_move ∷ []) ++ Shifted 1 1 (shifts.Offline 0) ∷ [];
   first = 2;
   last = 5;
-  turns = [];
 }
 
 -- its witness

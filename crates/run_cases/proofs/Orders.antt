@@ -1,18 +1,26 @@
 -- What a record that fits has: a witness of its script, and, where calls in order made its entries, one order of them alone.
-use Rattle.std.proofs.Common.{◌≡◌, ◌⊎◌, ◌&&◌, ℕ, zero, suc, Bool, true, false, if◌then◌else◌, List, [], ◌∷◌, Some, map, refl, sym, ap, ◌∙◌, subst, inl, inr}
+use Rattle.std.proofs.Common.{◌≡◌, ◌⊎◌, ◌&&◌, ◌<◌, ◌≤◌, ◌++◌, arith, not, length, get_or, ℕ, zero, suc, Bool, true, false, if◌then◌else◌, List, [], ◌∷◌, Some, map, refl, sym, ap, ◌∙◌, subst, inl, inr}
 use Rattle.std.specs.List.{AllByRecursion, list_all, slice_get}
 use Rattle.std.proofs.Math.Logic.{⊎_elim}
-use Rattle.std.proofs.lemmas.Bool.{and_parts, cases_Bool, false≢true}
+use Rattle.std.proofs.lemmas.Bool.{and_parts, cases_lt, cases_Bool, false≢true}
 use Rattle.record_text.specs.declared.record.Label.{Label}
 use Rattle.record_text.specs.declared.record.RunRecord.{RunRecord}
 use Rattle.script_text.specs.declared.script.Script.{Script}
 use Rattle.run_history.specs.Actions.{also}
 use Rattle.run_history.specs.Order.{is_before, IsInOrder}
-use Rattle.run_history.specs.Witnesses.{BasesList, CountersList, is_owner, lines_at, Move, moves_from, moves_on, Owner, owner_of, TimersList, Trace, witness_with}
+use Rattle.run_history.specs.Witnesses.{BasesList, CountersList, is_owner, line_of_object, line_of_signal, lines_at, Move, moves_from, moves_on, Owner, owner_of, TimersList, Trace, twice, witness_with}
 use Rattle.run_history.specs.Fits.{Fits, FitsIn}
 use Rattle.run_history.proofs.Owners.{other_owner, owner_is, owner_itself, same_owner}
-use Rattle.run_history.specs.Signals.{SignalMove}
-use Rattle.run_cases.proofs.Witnesses.{Along, timers_moves}
+use Rattle.run_history.specs.Signals.{SendsSignals, SignalLine}
+use Rattle.run_history.specs.Objects.{lines_of_object}
+use Rattle.script_text.specs.Declarations.{kind_of}
+use Rattle.script_text.specs.declared.script.Declaration.{Declaration}
+use Rattle.script_text.specs.declared.script.Kind.{Kind}
+use Rattle.script_text.specs.declared.script.Kind.TheVariants as kinds
+use Rattle.script_text.specs.declared.script.Callback.TheVariants as callbacks
+use Rattle.seq_timer.specs.declared.context.Context.TheVariants as contexts
+use Rattle.fit_laws.proofs.Signals.{none_queued}
+use Rattle.run_cases.proofs.Witnesses.{Along, quiet, timers_moves}
 use Rattle.run_cases.proofs.Small.{each_owner, is_list}
 use Rattle.run_cases.proofs.Tests.{all_true}
 
@@ -110,25 +118,62 @@ one_order s (m ∷ ms) (n ∷ ns) same order apart =
         false≢true (sym not_before ∙ subst (λ b. (if b then true else is_before s n.label m.label) ≡ true)
         (owner_else (owner_of m.shown) (owner_of n.shown) differ) before)
 
--- the record of a script whose entries have one order has a witness in that order
-pub in_one_order_of : (s : Script) (r : RunRecord) (ns : List Move) → list_all (λ m. is_list r (owner_of m.shown)) ns ≡ true
-    → Along (λ t. moves_on (TimersList t) ns ≡ moves_from 0 (lines_at r (TimersList t))) 0 r.timers
-    → Along (λ b. moves_on (BasesList b) ns ≡ moves_from 0 (lines_at r (BasesList b))) 0 r.bases
-    → moves_on (CountersList 0) ns ≡ moves_from 0 (lines_at r (CountersList 0))
-    → Along (λ i. moves_on (CountersList (suc i)) ns ≡ moves_from 0 (lines_at r (CountersList (suc i)))) 0 r.objects → are_apart s ns ≡ true
-    → Fits s r → (signals : List SignalMove) × (traces : Label → Trace) × FitsIn (witness_with s r ns signals traces)
-in_one_order_of s r ns there all bases clock objects apart fits =
-    let o = fits in
-    let each = each_owner r ns there all bases clock objects in
-    (o.1, o.2, subst (λ ms. FitsIn (witness_with s r ms o.1 o.2)) (one_order s o.0 ns (λ x. o.3.history.all x ∙ sym (each x)) o.3.order apart) o.3)
+-- no timer of a script is queued
+abbrev pub sends : Kind → Bool
+sends (kinds.Queued base) = true
+sends kind = false
+
+abbrev pub are_silent : Script → Bool
+are_silent s = list_all (λ d. not (sends d.kind)) s.timers
+
+silent_passes : (s : Script) → are_silent s ≡ true → (t : ℕ) → SendsSignals (kind_of s t) → ⊥
+silent_passes s e t = each (s.timers) e t
+  where
+    quiet_kind : (k : Kind) → not (sends k) ≡ true → SendsSignals k → ⊥
+    quiet_kind (kinds.Queued base) e is = absurd (cc)
+    quiet_kind k e is = is
+
+    each : (ds : List Declaration) → list_all (λ d. not (sends d.kind)) ds ≡ true → (t : ℕ)
+        → SendsSignals (get_or (map (λ (d : Declaration). d.kind) ds) t (kinds.Raw contexts.Hard callbacks.Once)) → ⊥
+    each [] e t is = is
+    each (d ∷ ds) e zero is = quiet_kind d.kind (and_parts (not (sends d.kind)) (list_all (λ d. not (sends d.kind)) ds) e).0 is
+    each (d ∷ ds) e (suc t) is = each ds (and_parts (not (sends d.kind)) (list_all (λ d. not (sends d.kind)) ds) e).1 t is
+
+-- the record of a script without queued timers whose entries have one order has a witness in that order
+pub in_one_order_of : (s : Script) (r : RunRecord) (ns : List Move) → (are_silent s && list_all (λ m. is_list r 0 (owner_of m.shown)) ns) ≡ true
+    → Along (λ t. moves_on (TimersList t) ns ≡ moves_from 0 (lines_at (quiet r) (TimersList t))) 0 r.timers
+    → Along (λ b. moves_on (BasesList b) ns ≡ moves_from 0 (lines_at (quiet r) (BasesList b))) 0 r.bases
+    → moves_on (CountersList 0) ns ≡ moves_from 0 (lines_at (quiet r) (CountersList 0))
+    → Along (λ i. moves_on (CountersList (suc i)) ns ≡ moves_from 0 (lines_at (quiet r) (CountersList (suc i)))) 0 r.objects → are_apart s ns ≡ true
+    → Fits s r → (signals : ℕ → List SignalLine) × (traces : Label → Trace) × FitsIn (witness_with s r ns signals traces)
+in_one_order_of s r ns there all bases clock objects apart o =
+    let parts = and_parts (are_silent s) (list_all (λ m. is_list r 0 (owner_of m.shown)) ns) there in
+    let w = witness_with s r o.0 o.1 o.2 in
+    let each = each_owner (quiet r) 0 ns parts.1 all bases clock objects (λ i past less. absurd (omega (arith, past, less))) (λ i far. refl) in
+    let none : (i : ℕ) → o.1 (suc i) ≡ [] = λ i. ⊎_elim
+    (λ (its : i < length s.timers). o.3.signals.others i its)
+    (λ (past : length s.timers ≤ i). none_queued w o.3 (silent_passes s parts.0) (suc i) (omega (arith, past)))
+    (cases_lt i (length s.timers)) in (
+      o.1,
+      o.2,
+      subst (λ ms. FitsIn (witness_with s r ms o.1 o.2))
+          (one_order s o.0 ns (λ x. o.3.history.all x ∙ lines none x ∙ sym (each x)) o.3.order apart) o.3,
+    )
+  where
+    lines : ((i : ℕ) → o.1 (suc i) ≡ []) → (x : Owner) → moves_from 0 (lines_at (record { run = r; signals = o.1 }) x) ≡ moves_from 0 (lines_at (quiet r) x)
+    lines none (TimersList t) = refl
+    lines none (BasesList b) = refl
+    lines none (CountersList zero) = refl
+    lines none (CountersList (suc i)) =
+        ap (λ ls. moves_from 0 (twice (map (line_of_object i) (lines_of_object r i)) ++ map (line_of_signal (suc i)) ls)) (none i)
 
 -- the same, where all entries are timers', there is one base, and the clock isn't written
 pub in_one_order : (s : Script) (r : RunRecord) (order : List ℕ)
-    → list_all (λ m. is_list r (owner_of m.shown)) (timers_moves r order) ≡ true
-    → Along (λ t. moves_on (TimersList t) (timers_moves r order) ≡ moves_from 0 (lines_at r (TimersList t))) 0 r.timers
+    → (are_silent s && list_all (λ m. is_list r 0 (owner_of m.shown)) (timers_moves r order)) ≡ true
+    → Along (λ t. moves_on (TimersList t) (timers_moves r order) ≡ moves_from 0 (lines_at (quiet r) (TimersList t))) 0 r.timers
     → are_apart s (timers_moves r order) ≡ true
-    → Along (λ b. moves_on (BasesList b) (timers_moves r order) ≡ moves_from 0 (lines_at r (BasesList b))) 0 r.bases
-    → moves_on (CountersList 0) (timers_moves r order) ≡ moves_from 0 (lines_at r (CountersList 0))
-    → Along (λ i. moves_on (CountersList (suc i)) (timers_moves r order) ≡ moves_from 0 (lines_at r (CountersList (suc i)))) 0 r.objects
-    → Fits s r → (signals : List SignalMove) × (traces : Label → Trace) × FitsIn (witness_with s r (timers_moves r order) signals traces)
+    → Along (λ b. moves_on (BasesList b) (timers_moves r order) ≡ moves_from 0 (lines_at (quiet r) (BasesList b))) 0 r.bases
+    → moves_on (CountersList 0) (timers_moves r order) ≡ moves_from 0 (lines_at (quiet r) (CountersList 0))
+    → Along (λ i. moves_on (CountersList (suc i)) (timers_moves r order) ≡ moves_from 0 (lines_at (quiet r) (CountersList (suc i)))) 0 r.objects
+    → Fits s r → (signals : ℕ → List SignalLine) × (traces : Label → Trace) × FitsIn (witness_with s r (timers_moves r order) signals traces)
 in_one_order s r order there all apart bases clock objects fits = in_one_order_of s r (timers_moves r order) there all bases clock objects apart fits

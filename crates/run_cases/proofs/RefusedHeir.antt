@@ -6,7 +6,7 @@ use Rattle.seq_timer.specs.Tables.{is_armed_on, runs_on}
 use Rattle.seq_timer.specs.declared.standing.BaseEvent.TheVariants as shifts
 use Rattle.record_text.specs.declared.record.Label.{Label}
 use Rattle.run_history.specs.Actions.{Shifted}
-use Rattle.run_history.specs.Signals.{SignalMove}
+use Rattle.run_history.specs.Signals.{SignalLine}
 use Rattle.run_history.specs.Fits.{Fits}
 use Rattle.run_history.specs.Truths.{IsMoment}
 use Rattle.run_history.specs.Witnesses.{BasesList, Move, Trace, Witness, standing_along, witness_with}
@@ -59,7 +59,7 @@ abbrev in_order : List Move
 in_order = moves_by taken_record [] (BasesList 1 ∷ BasesList 2 ∷ [])
 
 -- whatever the calls did, the heir is off line wherever the second call has made no entry
-never_on : (signals : List SignalMove) (traces : Label → Trace) (n : ℕ)
+never_on : (signals : ℕ → List SignalLine) (traces : Label → Trace) (n : ℕ)
     → IsMoment (witness_with refused_script taken_record in_order signals traces) (at 0 1) [] n
     → (standing_along (witness_with refused_script taken_record in_order signals traces) n 1).heir ≡ None → ⊥
 unfolding after_entry after_shift changed shifted

@@ -10,7 +10,7 @@ use Rattle.record_text.specs.declared.record.Label.{Label}
 use Rattle.record_text.specs.declared.record.Armed.TheVariants as armings
 use Rattle.run_history.specs.Actions.{Began, Entered, Wrote, entered}
 use Rattle.run_history.specs.Fits.{Fits, FitsIn}
-use Rattle.run_history.specs.Signals.{SignalMove}
+use Rattle.run_history.specs.Signals.{SignalLine}
 use Rattle.fit_laws.proofs.EachTimer.{fits_for_each_timer}
 use Rattle.fit_laws.proofs.Moments.{all_entered_by, all_since, seen_more}
 use Rattle.fit_laws.proofs.OwnPoints.{entered_then, seen, seen_rises, stamp_then}
@@ -179,7 +179,7 @@ ended_fits = fits_by ended_witness (record {
 -- ---- it is told of the timer while its function still ran
 
 -- where the timer is idle behind the second settime, its function has run
-idle_ended : (moves : List Move) (signals : List SignalMove) (traces : Label → Trace)
+idle_ended : (moves : List Move) (signals : ℕ → List SignalLine) (traces : Label → Trace)
     → FitsIn (witness_with ended_script running_refusal_record moves signals traces) → (n k : ℕ)
     → IsIdle (timer_along (witness_with ended_script running_refusal_record moves signals traces) n 0)
     → seen (witness_with ended_script running_refusal_record moves signals traces) n 0 ≡ k → 2 < k → 5 ≤ k

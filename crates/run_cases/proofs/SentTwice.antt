@@ -27,7 +27,7 @@ use Rattle.run_cases.proofs.Orders.{found}
 use Rattle.run_cases.proofs.Small.{fits_by}
 use Rattle.run_cases.proofs.Standings.{event_in, shifted_by, standing_then}
 use Rattle.run_cases.proofs.Tests.{le, lt}
-use Rattle.run_cases.proofs.Witnesses.{armed_as, did, none_along, on_line, step, two, witness_along}
+use Rattle.run_cases.proofs.Witnesses.{armed_as, did, none_along, on_line, step, two, witness_along, quiet}
 
 -- ---- it is started on the base that is on line again
 
@@ -89,7 +89,8 @@ step_there w one p m there =
 
 -- a base that has made both its entries is on line
 on_line_since : (k : ℕ) → 1 < k
-    → (standing_after_all first_standing (map (λ m. event_in m.shown) (take k (moves_from 0 (lines_at sent_again_record (BasesList 1)))))).heir ≡ Some 0 → ⊥
+    → (standing_after_all first_standing (map (λ m. event_in m.shown)
+    (take k (moves_from 0 (lines_at (quiet sent_again_record) (BasesList 1)))))).heir ≡ Some 0 → ⊥
 on_line_since zero both off = omega (arith, both)
 on_line_since (suc zero) both off = omega (arith, both)
 on_line_since (suc (suc zero)) both off = cc

@@ -55,7 +55,7 @@ module _ {w : Witness} {c : Label} {i stamp : ℕ} (turn : TakesTurn w c i stamp
   turn_begun n some = omega (arith, first_by w history c _ (stamp + stamp + 1) n (OfRise (suc i)) turn.own some, rises_counted w (suc i) n)
 
   -- law: so at a moment at which a timer has an entry of it
-  pub turn_begun_by : length w.run.timers ≡ length w.script.timers → (t k n : ℕ) → IsLineOf w.run (TimersList t) k c → k < (timer_along w n t).stamp
+  pub turn_begun_by : length w.run.timers ≡ length w.script.timers → (t k n : ℕ) → IsLineOf w (TimersList t) k c → k < (timer_along w n t).stamp
       → stamp + stamp + 1 ≤ turns_along w n i
   turn_begun_by timers t k n line reached =
       turn_begun n (some_made w history (TimersList t) c k n line (omega (arith, reached, stamp_then w history timers n t)))

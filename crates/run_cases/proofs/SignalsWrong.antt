@@ -12,7 +12,7 @@ use Rattle.record_text.specs.declared.record.RunRecord.{RunRecord}
 use Rattle.script_text.specs.declared.script.Script.{Script}
 use Rattle.posix_timer.specs.Queued.{is_fresh}
 use Rattle.signal_queue.specs.declared.signal.Signal.{Signal}
-use Rattle.run_history.specs.Actions.{Made, made}
+use Rattle.run_history.specs.Actions.{Made, Signalled, made}
 use Rattle.run_history.specs.Fits.{Fits}
 use Rattle.run_history.specs.Objects.{queued_after}
 use Rattle.run_history.specs.Order.{is_before}
@@ -22,7 +22,7 @@ use Rattle.run_history.specs.Witnesses.{witness_with}
 use Rattle.run_history.proofs.Actions.{made-append}
 use Rattle.run_history.proofs.Lists.{all_at}
 use Rattle.fit_laws.specs.Signals.{IsCounted, IsNamedBy, NamedBefore, Names, Sent, SentNoLater}
-use Rattle.fit_laws.proofs.Signals.{found_empty, found_full, signal_named_once, signals_in_turn}
+use Rattle.fit_laws.proofs.SignalLaws.{found_empty, found_full, signal_named_once, signals_in_turn}
 use Rattle.run_cases.specs.Fitting.{filled_script}
 use Rattle.run_cases.specs.Lines.{accepted_entry, at}
 use Rattle.run_cases.specs.Wrong.{outdated_record, outdated_script, pending_record, pending_script, renamed_record, renamed_script, roomless_record, roomy_record, roomy_script, unheard_record, unheard_script, younger_record, younger_script}
@@ -89,10 +89,10 @@ younger_doesnt_fit fits =
     signal_named_once younger_script younger_record fits named.0 (at 0 7) (signal_of 0) named.1 (_, refl, (refl, refl)) in
     true≢false (subst (λ c. is_before younger_script (at 0 6) c ≡ false) last named.2)
 
--- ---- an expiry finds no room for its signal, and no other waits
+-- ---- an expiry finds no room for its signal behind a call that was told that none waits, and none was sent between
 
 none_waits : (xs : List Signal) → length xs ≡ most_signals
-    → AllByRecursion (λ x. SentNoLater roomy_script roomy_record (at 0 2) x × (NamedBefore roomy_script roomy_record (at 0 2) x → ⊥)) xs → ⊥
+    → AllByRecursion (λ x. SentNoLater roomy_script roomy_record (at 0 3) x × (NamedBefore roomy_script roomy_record (at 0 3) x → ⊥)) xs → ⊥
 none_waits [] many all = absurd (omega (arith, many))
 none_waits (x ∷ xs) many all =
     unsent roomy_script roomy_record ((λ e. e, (λ e. e, tt)), tt) all.0.0.0 x all.0.0.1
@@ -100,7 +100,7 @@ none_waits (x ∷ xs) many all =
 -- law: it does not fit
 pub roomy_doesnt_fit : Fits roomy_script roomy_record → ⊥
 roomy_doesnt_fit fits =
-    let full = found_full roomy_script roomy_record fits (at 0 2)
+    let full = found_full roomy_script roomy_record fits (at 0 3)
     (0, 2, record { before = 1; count = refl; line = _; there = refl; label = refl; such = tt }) in
     none_waits full.0 full.1 full.3
 
@@ -142,9 +142,11 @@ pub outdated_doesnt_fit : Fits outdated_script outdated_record → ⊥
 outdated_doesnt_fit o =
     let w = witness_with outdated_script outdated_record o.0 o.1 o.2 in
     let call = (o.3.calls 0).2.2.2.2.2.2.1.0 in
-    let m = call.does.0 in
+    let pop = call.does.0 in
+    let m = pop.3 in
     let e = object_entries.Accept (o.2 (at 0 6)).at m.arm (acceptances.Accepted 0) in
     let its : (5, accepted_entry 2) ∷ [] ≡ made 0 m.start ++ (m.stamp + 1, e) ∷ [] =
-    call.traced.objects 0 ∙ ap (made 0) m.done ∙ made-append 0 m.start (Made 0 (m.stamp + 1) e ∷ []) in
+    call.traced.objects 0 ∙ ap (made 0) (pop.2 ∙ ap (λ ds. Signalled 3 pop.0 (signal_of 0) ∷ ds) m.done)
+    ∙ made-append 0 m.start (Made 0 (m.stamp + 1) e ∷ []) in
     let number : 5 ≡ m.stamp + 1 = ap (λ (x : ℕ × ObjectEntry). x.0) (last_is (5, accepted_entry 2) (m.stamp + 1, e) (made 0 m.start) its) in
-    not_pending m.stamp (omega (arith, number)) (subst (λ ds. WasFresh w 0 0 2 ds) m.done call.holds)
+    not_pending m.stamp (omega (arith, number)) (subst (λ ds. WasFresh w 0 0 2 ds) (pop.2 ∙ ap (λ ds. Signalled 3 pop.0 (signal_of 0) ∷ ds) m.done) call.holds)

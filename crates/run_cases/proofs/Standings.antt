@@ -11,6 +11,7 @@ use Rattle.record_text.specs.declared.record.ClockLine.{ClockLine}
 use Rattle.script_text.specs.Declarations.{declareds_of, terms_of}
 use Rattle.run_history.specs.Actions.{also}
 use Rattle.run_history.specs.Witnesses.{BasesList, IsOneHistory, Move, OfBase, OfRise, OfTimer, Shown, Witness, entries_in, entry_of_move, entry_of_shown, is_owner, lines_at, moves_from, moves_on, owner_of, standing_along}
+use Rattle.fit_laws.proofs.OwnPoints.{lists_in}
 use Rattle.fit_laws.proofs.OwnParts.{on_take}
 
 -- the event of a base that is shown; of a timer and of a counter there is none
@@ -48,7 +49,8 @@ shifted_by w n b = length (moves_on (BasesList b) (take n w.moves))
 
 -- law: it is on line, or off line, as after so many of its lines
 pub standing_then : (w : Witness) → IsOneHistory w → (n b : ℕ)
-    → standing_along w n b ≡ standing_after_all first_standing (map (λ m. event_in m.shown) (take (shifted_by w n b) (moves_from 0 (lines_at w.run (BasesList b)))))
+    → standing_along w n b
+    ≡ standing_after_all first_standing (map (λ m. event_in m.shown) (take (shifted_by w n b) (moves_from 0 (lines_at (lists_in w) (BasesList b)))))
 standing_then w one n b =
     after_entries-shifts_of (first_system (openings (declareds_of w.script) (terms_of w.script))) b (take n (entries_in w))
     ∙ ap (λ es. standing_after_all first_standing (shifts_of b es)) (take-map (entry_of_move w.run.clock) n w.moves)

@@ -1,5 +1,5 @@
 -- What of a fit is a matter of numbers and labels, as tests that small witnesses pass by computing.
-use Rattle.std.proofs.Common.{◌≡◌, ◌<◌, ◌≤◌, ◌&&◌, ℕ, ◌+◌, zero, suc, Bool, true, false, not, if◌then◌else◌, nat_eq, nat_le, nat_lt, List, [], ◌∷◌, ◌++◌, length, map, take, drop, arith, refl, ap, ◌∙◌}
+use Rattle.std.proofs.Common.{◌≡◌, ◌<◌, ◌≤◌, ◌&&◌, ◌||◌, ℕ, ◌+◌, ◌-◌, zero, suc, Bool, true, false, not, if◌then◌else◌, nat_eq, nat_le, nat_lt, List, [], ◌∷◌, ◌++◌, length, map, take, drop, arith, refl, sym, ap, ◌∙◌, subst}
 use Rattle.std.specs.List.{AllByRecursion, list_all}
 use Rattle.std.proofs.lemmas.Bool.Decides.{nat_tests}
 use Rattle.std.proofs.lemmas.Bool.{and_parts, eqb-true}
@@ -7,19 +7,19 @@ use Rattle.seq_timer.specs.declared.event.EventBy.{EventBy}
 use Rattle.seq_timer.specs.declared.event.EventBy.TheVariants as events
 use Rattle.record_text.specs.declared.record.Label.{Label}
 use Rattle.script_text.specs.declared.script.Script.{Script}
-use Rattle.run_history.specs.Actions.{Action, also, Began, Entered, Looked, looked, Made, made, own, Shifted, Skipped, skipped, Wrote}
-use Rattle.run_history.specs.Order.{AreSorted, calls_of, is_before, is_label, is_lower, IsInOrder, IsLabel, IsPoint, StandsWithin, made_by, NeverFall}
-use Rattle.record_text.specs.declared.record.Answer.{Answer}
+use Rattle.run_history.specs.Actions.{Action, also, Began, Entered, Looked, looked, Made, made, own, Shifted, Signalled, signalled, Skipped, skipped, Wrote}
+use Rattle.run_history.specs.Order.{AreSorted, calls_of, is_before, is_label, is_lower, IsInOrder, IsLabel, IsPoint, made_by, NeverFall}
+use Rattle.seq_timer.specs.Systems.{rises_of}
+use Rattle.seq_timer.specs.declared.system.SystemEntry.{SystemEntry}
+use Rattle.seq_timer.specs.declared.system.SystemEntry.TheVariants as entries
 use Rattle.signal_queue.specs.declared.signal.Signal.{Signal}
-use Rattle.signal_queue.specs.declared.signal.Turn.{Turn}
-use Rattle.signal_queue.specs.declared.signal.Turn.TheVariants.{Popped, Pushed}
-use Rattle.signal_queue.specs.Turns.{AreTurns}
-use Rattle.run_history.specs.Signals.{SignalMove, most_signals, popped_by, pushed_in, signal_labels, turns_in, waiting_at}
-use Rattle.run_history.specs.Witnesses.{Trace, Witness, labels}
-use Rattle.run_history.specs.Fits.{HasSignalled, IsSignalOrder, LabelsNeverFall}
+use Rattle.run_history.specs.Signals.{SignalLine, most_signals, pop_counter, push_counter, signals_in}
+use Rattle.run_history.specs.Witnesses.{CountersList, Move, OfBase, OfRise, OfTimer, Shown, Witness, entries_in, labels, line_of_signal, moves_from, moves_on}
+use Rattle.run_history.specs.Fits.{LabelsNeverFall}
+use Rattle.run_history.proofs.Labels.{same_label}
 use Rattle.run_history.specs.Traces.{all_entered}
 use Rattle.run_history.specs.Told.{IsArmedBelowLimit, observed}
-use Rattle.run_history.specs.Truths.{AreTrue, IsMoment, IsTrue, IsTrueEntry, OfClaim, Saw, SawFull, SawWaiting}
+use Rattle.run_history.specs.Truths.{AreTrue, IsMoment, IsTrue, IsTrueEntry, OfClaim, Saw, SawFull}
 
 -- numbers that a test compared
 pub below : (a b : ℕ) → nat_lt a b ≡ true → a < b
@@ -88,20 +88,6 @@ point_passes s c own n ls e =
       so_many = eqb-true (made_by c (take n ls)) own two.1;
     }
 
--- a number of the list is within the call's bounds
-abbrev pub is_within : Script → Label → ℕ → List Label → Bool
-is_within s c n ls = (nat_le n (length ls) && list_all (λ x. not (is_before s c x)) (take n ls)) && list_all (λ x. not (is_before s x c)) (drop n ls)
-
-pub within_passes : (s : Script) (c : Label) (n : ℕ) (ls : List Label) → is_within s c n ls ≡ true → StandsWithin s c n ls
-within_passes s c n ls e =
-    let parts = and_parts (nat_le n (length ls) && list_all (λ x. not (is_before s c x)) (take n ls)) (list_all (λ x. not (is_before s x c)) (drop n ls)) e in
-    let early = and_parts (nat_le n (length ls)) (list_all (λ x. not (is_before s c x)) (take n ls)) parts.0 in
-    record {
-      small = upto n (length ls) early.0;
-      before = all_unless (λ x. is_before s c x) (take n ls) early.1;
-      behind = all_unless (λ x. is_before s x c) (drop n ls) parts.1;
-    }
-
 -- labels in their order, each once
 abbrev pub are_sorted : List Label → Bool
 are_sorted [] = true
@@ -144,93 +130,166 @@ same_signal a b e =
     ap {A = ℕ} (λ t. record { timer = t; number = a.number }) (eqb-true a.timer b.timer parts.0)
     ∙ ap {A = ℕ} (λ n. record { timer = b.timer; number = n }) (eqb-true a.number b.number parts.1)
 
-abbrev pub is_turn : Turn → Turn → Bool
-is_turn (Pushed a) (Pushed b) = is_signal a b
-is_turn (Popped a) (Popped b) = is_signal a b
-is_turn a b = false
+-- numbered signals are the same
+abbrev pub are_same : List (ℕ × Signal) → List (ℕ × Signal) → Bool
+are_same [] [] = true
+are_same (x ∷ xs) (y ∷ ys) = (nat_eq x.0 y.0 && is_signal x.1 y.1) && are_same xs ys
+are_same xs ys = false
 
-same_turn : (a b : Turn) → is_turn a b ≡ true → a ≡ b
-same_turn (Pushed a) (Pushed b) e = ap Pushed (same_signal a b e)
-same_turn (Popped a) (Popped b) e = ap Popped (same_signal a b e)
-same_turn (Pushed a) (Popped b) e = absurd (cc)
-same_turn (Popped a) (Pushed b) e = absurd (cc)
+pub same_pass : (xs ys : List (ℕ × Signal)) → are_same xs ys ≡ true → xs ≡ ys
+same_pass [] [] e = refl
+same_pass [] (y ∷ ys) e = absurd (cc)
+same_pass (x ∷ xs) [] e = absurd (cc)
+same_pass (x ∷ xs) (y ∷ ys) e =
+    let parts = and_parts (nat_eq x.0 y.0 && is_signal x.1 y.1) (are_same xs ys) e in
+    let one = and_parts (nat_eq x.0 y.0) (is_signal x.1 y.1) parts.0 in
+    ap {A = ℕ} (λ n. (n, x.1) ∷ xs) (eqb-true x.0 y.0 one.0) ∙ ap (λ z. (y.0, z) ∷ xs) (same_signal x.1 y.1 one.1)
+    ∙ ap (λ zs. y ∷ zs) (same_pass xs ys parts.1)
 
--- from these waiting signals on, each push finds room, and each pop takes the oldest
-abbrev pub are_legal_turns : List Signal → List Turn → Bool
-are_legal_turns waiting [] = true
-are_legal_turns waiting (Pushed s ∷ ts) = nat_lt (length waiting) most_signals && are_legal_turns (waiting ++ s ∷ []) ts
-are_legal_turns [] (Popped s ∷ ts) = false
-are_legal_turns (w ∷ waiting) (Popped s ∷ ts) = is_signal s w && are_legal_turns waiting ts
+-- the one list begins with the other
+abbrev pub begins_with : List Signal → List Signal → Bool
+begins_with ys [] = true
+begins_with (y ∷ ys) (x ∷ xs) = is_signal y x && begins_with ys xs
+begins_with [] (x ∷ xs) = false
 
-pub legal_turns_pass : (waiting : List Signal) (ts : List Turn) → are_legal_turns waiting ts ≡ true → AreTurns most_signals waiting ts
-legal_turns_pass waiting [] e = tt
-legal_turns_pass waiting (Pushed s ∷ ts) e =
-    let parts = and_parts (nat_lt (length waiting) most_signals) (are_legal_turns (waiting ++ s ∷ []) ts) e in
-    (below (length waiting) most_signals parts.0, legal_turns_pass (waiting ++ s ∷ []) ts parts.1)
-legal_turns_pass [] (Popped s ∷ ts) e = absurd (cc)
-legal_turns_pass (w ∷ waiting) (Popped s ∷ ts) e =
-    let parts = and_parts (is_signal s w) (are_legal_turns waiting ts) e in (same_signal s w parts.0, legal_turns_pass waiting ts parts.1)
+pub begins_pass : (ys xs : List Signal) → begins_with ys xs ≡ true → (rest : List Signal) × (ys ≡ xs ++ rest)
+begins_pass ys [] e = (ys, refl)
+begins_pass [] (x ∷ xs) e = absurd (cc)
+begins_pass (y ∷ ys) (x ∷ xs) e =
+    let parts = and_parts (is_signal y x) (begins_with ys xs) e in
+    let rest = begins_pass ys xs parts.1 in (rest.0, ap (λ z. z ∷ ys) (same_signal y x parts.0) ∙ ap (λ zs. x ∷ zs) rest.1)
 
--- the same pushes and pops
-abbrev pub are_turns : List Turn → List Turn → Bool
-are_turns [] [] = true
-are_turns (t ∷ ts) (u ∷ us) = is_turn t u && are_turns ts us
-are_turns ts us = false
+-- where so many wait, each push along the order finds room, and each pop finds a signal
+abbrev pub are_counted : ℕ → ℕ → ℕ → List SystemEntry → Bool
+are_counted pushes pops waiting [] = true
+are_counted pushes pops waiting (entries.Rise k ∷ es) =
+    if nat_eq k pushes then nat_lt waiting most_signals && are_counted pushes pops (waiting + 1) es
+    else if nat_eq k pops then nat_lt 0 waiting && are_counted pushes pops (waiting - 1) es
+    else are_counted pushes pops waiting es
+are_counted pushes pops waiting (entries.Timer e ∷ es) = are_counted pushes pops waiting es
+are_counted pushes pops waiting (entries.Base e ∷ es) = are_counted pushes pops waiting es
 
-pub turns_pass : (ts us : List Turn) → are_turns ts us ≡ true → ts ≡ us
-turns_pass [] [] e = refl
-turns_pass [] (u ∷ us) e = absurd (cc)
-turns_pass (t ∷ ts) [] e = absurd (cc)
-turns_pass (t ∷ ts) (u ∷ us) e =
-    let parts = and_parts (is_turn t u) (are_turns ts us) e in ap (λ x. x ∷ ts) (same_turn t u parts.0) ∙ ap (λ xs. u ∷ xs) (turns_pass ts us parts.1)
+-- behind each number of moves, at which so many were pushed and popped
+abbrev pub IsCount : ℕ → ℕ → ℕ → Type 0
+IsCount waiting pushed popped = (popped ≤ waiting + pushed) × (waiting + pushed ≤ popped + most_signals)
 
--- the same with their numbers
-abbrev pub are_numbered_turns : List (ℕ × Turn) → List (ℕ × Turn) → Bool
-are_numbered_turns [] [] = true
-are_numbered_turns (t ∷ ts) (u ∷ us) = (nat_eq t.0 u.0 && is_turn t.1 u.1) && are_numbered_turns ts us
-are_numbered_turns ts us = false
+pub counted : (pushes pops waiting n : ℕ) (es : List SystemEntry) → nat_eq pushes pops ≡ false → are_counted pushes pops waiting es ≡ true
+    → waiting ≤ most_signals → IsCount waiting (rises_of pushes (take n es)) (rises_of pops (take n es))
+counted pushes pops waiting zero [] two e few = (omega arith, omega (arith, few))
+counted pushes pops waiting zero (x ∷ es) two e few = (omega arith, omega (arith, few))
+counted pushes pops waiting (suc n) [] two e few = (omega arith, omega (arith, few))
+counted pushes pops waiting (suc n) (entries.Timer x ∷ es) two e few = counted pushes pops waiting n es two e few
+counted pushes pops waiting (suc n) (entries.Base x ∷ es) two e few = counted pushes pops waiting n es two e few
+counted pushes pops waiting (suc n) (entries.Rise k ∷ es) two e few =
+    let p = rises_of pushes (take n es) in
+    let q = rises_of pops (take n es) in
+    elim (nat_eq k pushes) as (λ b. nat_eq k pushes ≡ b
+    → (if b then nat_lt waiting most_signals && are_counted pushes pops (waiting + 1) es
+    else if nat_eq k pops then nat_lt 0 waiting && are_counted pushes pops (waiting - 1) es else are_counted pushes pops waiting es) ≡ true
+    → IsCount waiting (if b then p + 1 else p) (if nat_eq k pops then q + 1 else q)) [
+      | true ↦ λ is e.
+          let parts = and_parts (nat_lt waiting most_signals) (are_counted pushes pops (waiting + 1) es) e in
+          let room = below waiting most_signals parts.0 in
+          let rest = counted pushes pops (waiting + 1) n es two parts.1 (omega (arith, room)) in
+          let other_one : nat_eq k pops ≡ false = ap (λ j. nat_eq j pops) (eqb-true k pushes is) ∙ two in
+          subst (λ b. IsCount waiting (p + 1) (if b then q + 1 else q)) (sym other_one) (omega (arith, rest.0), omega (arith, rest.1))
+      | false ↦ λ is e. elim (nat_eq k pops) as (λ b.
+          (if b then nat_lt 0 waiting && are_counted pushes pops (waiting - 1) es else are_counted pushes pops waiting es) ≡ true
+          → IsCount waiting p (if b then q + 1 else q)) [
+            | true ↦ λ e.
+                let parts = and_parts (nat_lt 0 waiting) (are_counted pushes pops (waiting - 1) es) e in
+                let some = below 0 waiting parts.0 in
+                let rest = counted pushes pops (waiting - 1) n es two parts.1 (omega (arith, few)) in
+                (omega (arith, some, rest.0), omega (arith, some, rest.1))
+            | false ↦ λ e. counted pushes pops waiting n es two e few
+          ] e
+    ] refl e
 
-numbered_turns_pass : (ts us : List (ℕ × Turn)) → are_numbered_turns ts us ≡ true → ts ≡ us
-numbered_turns_pass [] [] e = refl
-numbered_turns_pass [] (u ∷ us) e = absurd (cc)
-numbered_turns_pass (t ∷ ts) [] e = absurd (cc)
-numbered_turns_pass (t ∷ ts) (u ∷ us) e =
-    let parts = and_parts (nat_eq t.0 u.0 && is_turn t.1 u.1) (are_numbered_turns ts us) e in
-    let one = and_parts (nat_eq t.0 u.0) (is_turn t.1 u.1) parts.0 in
-    ap {A = ℕ} (λ n. (n, t.1) ∷ ts) (eqb-true t.0 u.0 one.0) ∙ ap (λ x. (u.0, x) ∷ ts) (same_turn t.1 u.1 one.1)
-    ∙ ap (λ xs. u ∷ xs) (numbered_turns_pass ts us parts.1)
+-- the moves are the lines of a counter of signals, where so many stand before them
+abbrev pub is_rise : ℕ → Shown → Bool
+is_rise k (OfRise j) = nat_eq j k
+is_rise k shown = false
 
--- a call's pushes and pops are those of the order under its label: what its answer names, and the signals of what it entered
-abbrev pub is_signalled : Witness → Label → Trace → Answer → Bool
-is_signalled w c t answer =
-    are_numbered_turns (own (λ m. m.label) (λ m. m.turn) c 0 w.signals) t.turns
-    && are_turns (map (λ x. x.1) t.turns) (popped_by answer ++ pushed_in w.script t.actions)
+is_rise_pass : (k : ℕ) (shown : Shown) → is_rise k shown ≡ true → shown ≡ OfRise k
+is_rise_pass k (OfRise j) e = ap {A = ℕ} (λ j. OfRise j) (eqb-true j k e)
+is_rise_pass k (OfTimer t entry) e = absurd (cc)
+is_rise_pass k (OfBase b event) e = absurd (cc)
 
-pub signalled_passes : (w : Witness) (c : Label) (t : Trace) (answer : Answer) → is_signalled w c t answer ≡ true → HasSignalled w c t answer
-signalled_passes w c t answer e =
-    let parts = and_parts (are_numbered_turns (own (λ m. m.label) (λ m. m.turn) c 0 w.signals) t.turns)
-    (are_turns (map (λ x. x.1) t.turns) (popped_by answer ++ pushed_in w.script t.actions)) e in
-    record { own = numbered_turns_pass _ _ parts.0; are = turns_pass _ _ parts.1 }
+abbrev pub are_rises : ℕ → ℕ → List Move → List SignalLine → Bool
+are_rises k before [] [] = true
+are_rises k before (m ∷ ms) (l ∷ ls) = (nat_eq m.before before && (is_label l.label m.label && is_rise k m.shown)) && are_rises k (before + 1) ms ls
+are_rises k before ms ls = false
 
--- the pushes and pops are one history of a queue, in the order of calls
-abbrev pub are_signals : Script → List SignalMove → Bool
-are_signals s ms = are_legal_turns [] (turns_in ms) && (are_calls s (signal_labels ms) && are_in_order s (signal_labels ms))
+pub rises_pass : (k before : ℕ) (ms : List Move) (ls : List SignalLine) → are_rises k before ms ls ≡ true
+    → ms ≡ moves_from before (map (line_of_signal k) ls)
+rises_pass k before [] [] e = refl
+rises_pass k before [] (l ∷ ls) e = absurd (cc)
+rises_pass k before (m ∷ ms) [] e = absurd (cc)
+rises_pass k before (m ∷ ms) (l ∷ ls) e =
+    let parts = and_parts (nat_eq m.before before && (is_label l.label m.label && is_rise k m.shown)) (are_rises k (before + 1) ms ls) e in
+    let one = and_parts (nat_eq m.before before) (is_label l.label m.label && is_rise k m.shown) parts.0 in
+    let rest = and_parts (is_label l.label m.label) (is_rise k m.shown) one.1 in
+    let at : m.before ≡ before = eqb-true m.before before one.0 in
+    let by : m.label ≡ l.label = same_label l.label m.label rest.0 in
+    let shown : m.shown ≡ OfRise k = is_rise_pass k m.shown rest.1 in
+    let this : m ≡ record { before = before; label = l.label; shown = OfRise k } =
+    ap {A = ℕ} (λ n. record { before = n; label = m.label; shown = m.shown }) at
+    ∙ ap (λ c. record { before = before; label = c; shown = m.shown }) by ∙ ap (λ x. record { before = before; label = l.label; shown = x }) shown in
+    ap (λ x. x ∷ ms) this ∙ ap (λ xs. record { before = before; label = l.label; shown = OfRise k } ∷ xs) (rises_pass k (before + 1) ms ls parts.1)
 
-pub signals_pass : (s : Script) (ms : List SignalMove) → are_signals s ms ≡ true → IsSignalOrder s ms
-signals_pass s ms e =
-    let parts = and_parts (are_legal_turns [] (turns_in ms)) (are_calls s (signal_labels ms) && are_in_order s (signal_labels ms)) e in
-    let called = and_parts (are_calls s (signal_labels ms)) (are_in_order s (signal_labels ms)) parts.1 in
-    record {
-      legal = legal_turns_pass [] (turns_in ms) parts.0;
-      calls = calls_pass s (signal_labels ms) called.0;
-      order = order_passes s (signal_labels ms) called.1;
-    }
+-- the signals that were pushed, and popped, are those of one queue, and stand in the order
+abbrev pub are_signals : Witness → Bool
+are_signals w =
+    (begins_with (signals_in (w.signals (push_counter w.script))) (signals_in (w.signals (pop_counter w.script)))
+    && are_counted (push_counter w.script) (pop_counter w.script) 0 (entries_in w))
+    && (are_rises (push_counter w.script) 0 (moves_on (CountersList (push_counter w.script)) w.moves) (w.signals (push_counter w.script))
+    && are_rises (pop_counter w.script) 0 (moves_on (CountersList (pop_counter w.script)) w.moves) (w.signals (pop_counter w.script)))
 
--- so many signals waited behind a number of them that is within the call's bounds
-pub saw_waiting : {w : Witness} {c : Label} {many : ℕ} (number : ℕ) → is_within w.script c number (signal_labels w.signals) ≡ true
-    → length (waiting_at w.signals number) ≡ many → SawWaiting w c many
-saw_waiting {w} {c} number within waiting =
-    record { number = number; within = within_passes w.script c number (signal_labels w.signals) within; waiting = waiting }
+-- no other counter has signals
+abbrev pub HasOthers : Witness → Type 0
+HasOthers w = (k : ℕ) → nat_eq k (push_counter w.script) ≡ false → nat_eq k (pop_counter w.script) ≡ false → w.signals k ≡ []
+
+-- what a call pushed and popped raised these counters
+abbrev pub are_raised : ℕ → ℕ → List Action → Bool
+are_raised pushes pops [] = true
+are_raised pushes pops (Signalled counter number signal ∷ ds) = (nat_eq counter pushes || nat_eq counter pops) && are_raised pushes pops ds
+are_raised pushes pops (d ∷ ds) = are_raised pushes pops ds
+
+none_raised : (pushes pops k : ℕ) (ds : List Action) → nat_eq k pushes ≡ false → nat_eq k pops ≡ false → are_raised pushes pops ds ≡ true
+    → signalled k ds ≡ []
+none_raised pushes pops k [] one two e = refl
+none_raised pushes pops k (Signalled counter number signal ∷ ds) one two e =
+    let parts = and_parts (nat_eq counter pushes || nat_eq counter pops) (are_raised pushes pops ds) e in
+    ap (λ b. also b (number, signal) (signalled k ds)) (apart counter parts.0) ∙ none_raised pushes pops k ds one two parts.1
+  where
+    apart : (counter : ℕ) → (nat_eq counter pushes || nat_eq counter pops) ≡ true → nat_eq counter k ≡ false
+    apart counter e = grind (arith, nat_tests, one, two, e)
+none_raised pushes pops k (d ∷ ds) one two e = none_raised pushes pops k ds one two e
+
+-- a call's pushes and pops are those that the lists have under its label
+abbrev pub is_heard : Witness → Label → Bool
+is_heard w c =
+    (are_same (own (λ line. line.label) (λ line. line.signal) c 1 (w.signals (push_counter w.script))) (signalled (push_counter w.script) (w.traces c).actions)
+    && are_same (own (λ line. line.label) (λ line. line.signal) c 1 (w.signals (pop_counter w.script))) (signalled (pop_counter w.script) (w.traces c).actions))
+    && are_raised (push_counter w.script) (pop_counter w.script) (w.traces c).actions
+
+pub heard_passes : (w : Witness) → HasOthers w → (c : Label) → is_heard w c ≡ true → (k : ℕ)
+    → own (λ line. line.label) (λ line. line.signal) c 1 (w.signals k) ≡ signalled k (w.traces c).actions
+heard_passes w others c e k =
+    let ds = (w.traces c).actions in
+    let P = push_counter w.script in
+    let Q = pop_counter w.script in
+    let mine : ℕ → List (ℕ × Signal) = λ k. own (λ line. line.label) (λ line. line.signal) c 1 (w.signals k) in
+    let all = and_parts (are_same (mine P) (signalled P ds) && are_same (mine Q) (signalled Q ds)) (are_raised P Q ds) e in
+    let both = and_parts (are_same (mine P) (signalled P ds)) (are_same (mine Q) (signalled Q ds)) all.0 in
+    elim (nat_eq k P) as (λ b. nat_eq k P ≡ b → mine k ≡ signalled k ds) [
+      | true ↦ λ is. subst (λ j. mine j ≡ signalled j ds) (sym (eqb-true k P is)) (same_pass (mine P) (signalled P ds) both.0)
+      | false ↦ λ not_pushed. elim (nat_eq k Q) as (λ b. nat_eq k Q ≡ b → mine k ≡ signalled k ds) [
+        | true ↦ λ is. subst (λ j. mine j ≡ signalled j ds) (sym (eqb-true k Q is)) (same_pass (mine Q) (signalled Q ds) both.1)
+        | false ↦ λ not_popped. ap (own (λ line. line.label) (λ line. line.signal) c 1) (others k not_pushed not_popped)
+            ∙ sym (none_raised P Q k ds not_pushed not_popped all.1)
+      ] refl
+    ] refl
 
 -- ---- what a call did is true, each thing at the place of the call's next entry
 
@@ -262,10 +321,11 @@ AreTold w c before (Looked t number look ∷ ds) =
     × AreTold w c (before ++ Looked t number look ∷ []) ds
 AreTold w c before (Began i stamp ∷ ds) = AreTold w c (before ++ Began i stamp ∷ []) ds
 AreTold w c before (Made i number entry ∷ ds) =
-    IsTrueEntry w c i number entry (place_behind w c before) × AreTold w c (before ++ Made i number entry ∷ []) ds
+    IsTrueEntry w i number entry (place_behind w c before) × AreTold w c (before ++ Made i number entry ∷ []) ds
 AreTold w c before (Skipped i number generation ∷ ds) =
     SawFull w i number (place_behind w c before) × AreTold w c (before ++ Skipped i number generation ∷ []) ds
 AreTold w c before (Shifted base number event ∷ ds) = AreTold w c (before ++ Shifted base number event ∷ []) ds
+AreTold w c before (Signalled counter number signal ∷ ds) = AreTold w c (before ++ Signalled counter number signal ∷ []) ds
 
 of_claim : {P : Type 0} (event : EventBy ℕ) → P → OfClaim event P
 of_claim (events.Claim base reading) is = is
@@ -295,6 +355,7 @@ told_pass w c from before (d ∷ ds) last e told =
     here (Made i number entry) told point = (point, told.0)
     here (Skipped i number generation) told point = (point, told.0)
     here (Shifted base number event) told point = tt
+    here (Signalled counter number signal) told point = tt
 
     further : (d : Action) → AreTold w c before (d ∷ ds) → AreTold w c (before ++ d ∷ []) ds
     further (Wrote number write) told = told
@@ -304,6 +365,7 @@ told_pass w c from before (d ∷ ds) last e told =
     further (Made i number entry) told = told.1
     further (Skipped i number generation) told = told.1
     further (Shifted base number event) told = told
+    further (Signalled counter number signal) told = told
 
 -- ---- what a call did, of timers and objects that are there
 
@@ -321,6 +383,7 @@ are_made timers objects (Began i stamp ∷ ds) = are_made timers objects ds
 are_made timers objects (Made i number entry ∷ ds) = nat_lt i objects && are_made timers objects ds
 are_made timers objects (Skipped i number generation ∷ ds) = nat_lt i objects && are_made timers objects ds
 are_made timers objects (Shifted base number event ∷ ds) = are_made timers objects ds
+are_made timers objects (Signalled counter number signal ∷ ds) = are_made timers objects ds
 
 -- so past them there is nothing
 pub record IsPast (timers objects i : ℕ) (ds : List Action) : Type 0 where
@@ -359,4 +422,6 @@ made_past timers objects i (Skipped j number generation ∷ ds) e =
       skipped = λ p. ap (λ b. also b (number, generation) (skipped i ds)) (other j objects i parts.0 p) ∙ rest.skipped p;
     }
 made_past timers objects i (Shifted base number event ∷ ds) e =
+    let rest = made_past timers objects i ds e in record { looked = rest.looked; made = rest.made; skipped = rest.skipped }
+made_past timers objects i (Signalled counter number signal ∷ ds) e =
     let rest = made_past timers objects i ds e in record { looked = rest.looked; made = rest.made; skipped = rest.skipped }

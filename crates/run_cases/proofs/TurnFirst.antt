@@ -8,7 +8,6 @@ use Rattle.seq_timer.specs.Systems.{after_entry, after_shift, changed, shifted}
 use Rattle.seq_timer.specs.Tables.{is_armed_on, runs_on}
 use Rattle.seq_timer.specs.declared.event.EventBy.{EventBy}
 use Rattle.seq_timer.specs.declared.event.EventBy.TheVariants as events
-use Rattle.seq_timer.specs.declared.event.Reply.TheVariants as replies
 use Rattle.seq_timer.specs.declared.standing.BaseEvent.TheVariants as shifts
 use Rattle.seq_timer.specs.declared.standing.Standing.{Standing}
 use Rattle.record_text.specs.declared.record.Armed.{Armed}
@@ -34,7 +33,7 @@ use Rattle.run_cases.proofs.SentOff.{ends_on_line}
 use Rattle.run_cases.proofs.Small.{fits_by}
 use Rattle.run_cases.proofs.Standings.{event_in, shifted_by, standing_then}
 use Rattle.run_cases.proofs.Tests.{le, lt, point_passes}
-use Rattle.run_cases.proofs.Witnesses.{armed_by, did, none_along, set_anew, step, three, turn_of, two, witness_along}
+use Rattle.run_cases.proofs.Witnesses.{armed_by, did, none_along, set_anew, step, three, turn_of, two, witness_along, quiet}
 
 -- ---- its timer goes to the heir
 
@@ -133,7 +132,8 @@ sent_found sight ns reading stamp number cancel arm start entry arms same = by_c
 
 -- a base that has made its one entry is off line
 off_line_since : (k : ℕ) → 0 < k
-    → (standing_after_all first_standing (map (λ m. event_in m.shown) (take k (moves_from 0 (lines_at turning_off_record (BasesList 1)))))).heir ≡ None → ⊥
+    → (standing_after_all first_standing (map (λ m. event_in m.shown)
+    (take k (moves_from 0 (lines_at (quiet turning_off_record) (BasesList 1)))))).heir ≡ None → ⊥
 off_line_since zero some on = omega (arith, some)
 off_line_since (suc zero) some on = cc
 off_line_since (suc (suc k)) some on = cc

@@ -38,8 +38,9 @@ use Rattle.run_history.specs.Deeds.{fires}
 use Rattle.run_history.specs.ObjectCalls.{AreValidFor, Arms, HasBegun, MakesAnew, nanoseconds_of}
 use Rattle.timer_setting.specs.Arguments.{mode_by}
 use Rattle.run_history.specs.Truths.{IsDone}
-use Rattle.run_history.specs.Witnesses.{Witness, entries_in, entry_of_move, Fired, is_owner, Move, moves_on, OfBase, OfRise, OfTimer, Owner, owner_of, Shown, system_along, timer_along, TimersList, Trace}
+use Rattle.run_history.specs.Witnesses.{Witness, entries_in, entry_of_move, Fired, is_owner, Move, moves_on, OfBase, OfRise, OfTimer, Owner, owner_of, RunLists, Shown, system_along, timer_along, TimersList, Trace}
 use Rattle.run_history.specs.Receipts.{move_at}
+use Rattle.run_history.specs.Signals.{SignalLine, pop_counter, push_counter}
 use Rattle.run_history.proofs.OwnHistories.{entries_on, own_entry}
 use Rattle.run_cases.proofs.Tests.{all_true, le, lt, other}
 
@@ -50,9 +51,17 @@ abbrev pub times : Owner → List Owner → ℕ
 times o os = length (filter (λ x. is_owner x o) os)
 
 -- the moves of a record, where the entries of its lists follow one another so; these were before
+abbrev pub moves_in : RunLists → List Owner → List Owner → List Move
+moves_in l done [] = []
+moves_in l done (o ∷ os) = move_at l o (times o done) ∷ moves_in l (o ∷ done) os
+
+-- the lists of a run without signals
+abbrev pub quiet : RunRecord → RunLists
+quiet r = record { run = r; signals = λ k. [] }
+
+-- the same of these
 abbrev pub moves_by : RunRecord → List Owner → List Owner → List Move
-moves_by r done [] = []
-moves_by r done (o ∷ os) = move_at r o (times o done) ∷ moves_by r (o ∷ done) os
+moves_by r done os = moves_in (quiet r) done os
 
 -- the same, where all entries are timers'
 abbrev pub timers_moves : RunRecord → List ℕ → List Move
@@ -60,12 +69,12 @@ timers_moves r order = moves_by r [] (map TimersList order)
 
 -- what a call did with this reading, from one moment to another
 abbrev pub did : ℕ → List Action → ℕ → ℕ → Trace
-did reading actions first last = record { at = reading; fired = []; moved = []; actions = actions; first = first; last = last; turns = [] }
+did reading actions first last = record { at = reading; fired = []; moved = []; actions = actions; first = first; last = last }
 
 -- what an expiry run did
 abbrev pub ran : ℕ → ℕ → List Fired → ℕ → ℕ → Trace
 ran base reading each first last =
-    record { at = reading; fired = each; moved = []; actions = flat_map (fires base reading) each; first = first; last = last; turns = [] }
+    record { at = reading; fired = each; moved = []; actions = flat_map (fires base reading) each; first = first; last = last }
 
 -- what a call did in a turn of an object that had so many entries: these things, and then its entry of the object
 abbrev pub turn_of : ℕ → ℕ → List Action → ObjectEntry → List Action
@@ -76,15 +85,24 @@ abbrev pub fired : ℕ → ℕ → List Action → ℕ → Bool → Fired
 fired claim generation body finish restart =
     record { timer = 0; claim = claim; generation = generation; body = body; finish = finish; restart = restart; restarted = restarts.No }
 
--- the witness of a script and a record, where entries of lists follow one another so, and each lane's calls did these things
-abbrev pub witness_along : Script → RunRecord → List Owner → List (List Trace) → Witness
-witness_along s r order traces = record {
+-- these signals were pushed, and popped
+abbrev pub queue_of : Script → List SignalLine → List SignalLine → ℕ → List SignalLine
+queue_of s pushed popped k = if nat_eq k (push_counter s) then pushed else if nat_eq k (pop_counter s) then popped else []
+
+-- the witness of a script and a record, where these signals were pushed, and popped, entries of lists follow one another so, and each lane's calls did these
+-- things
+abbrev pub witness_queued : Script → RunRecord → List SignalLine → List SignalLine → List Owner → List (List Trace) → Witness
+witness_queued s r pushed popped order traces = record {
   script = s;
   run = r;
-  moves = moves_by r [] order;
-  signals = [];
+  moves = moves_in (record { run = r; signals = queue_of s pushed popped }) [] order;
+  signals = queue_of s pushed popped;
   traces = λ c. get_or (get_or traces c.lane []) c.call (did 0 [] 0 0);
 }
+
+-- the same without signals
+abbrev pub witness_along : Script → RunRecord → List Owner → List (List Trace) → Witness
+witness_along s r order traces = witness_queued s r [] [] order traces
 
 -- the same, where all entries are timers'
 abbrev pub witness_by : Script → RunRecord → List ℕ → List (List Trace) → Witness

@@ -19,7 +19,7 @@ use Rattle.run_history.specs.Histories.{reading_at, timer_after}
 use Rattle.script_text.specs.Declarations.{declared_of, declareds_of, terms_of}
 use Rattle.run_history.specs.Order.{is_before, IsPoint}
 use Rattle.run_history.specs.Witnesses.{CountersList, labels, Move, OfTimer, TimersList, timer_along, entries_in, Witness, Trace, Fired, witness_with}
-use Rattle.run_history.specs.Signals.{SignalMove}
+use Rattle.run_history.specs.Signals.{SignalLine}
 use Rattle.run_history.specs.Fits.{Fits}
 use Rattle.run_history.specs.Truths.{IsDone}
 use Rattle.fit_laws.proofs.EachTimer.{heads}
@@ -97,7 +97,7 @@ tie_doesnt_fit fits =
 -- ---- an expiry run has nothing left to do, though at each moment one timer or the other was due
 
 -- the one order: the first timer is started, the second is, and the first is cancelled
-abbrev due_witness : List SignalMove → (Label → Trace) → Witness
+abbrev due_witness : (ℕ → List SignalLine) → (Label → Trace) → Witness
 due_witness signals traces = witness_with due_script due_record (timers_moves due_record (0 ∷ 1 ∷ 0 ∷ [])) signals traces
 
 -- a base is stopped for the monotonic clock, as the hard context's timers stand after so many entries of a witness
@@ -115,7 +115,7 @@ not_stopped w reading n t stopped kept reached =
     let reached_so = upto (timers t).expires (reading_at w.run.clock reading).mono reached in
     omega (arith, late, reached_so)
 
-one_is_due : (signals : List SignalMove) (traces : Label → Trace) (n made : ℕ)
+one_is_due : (signals : ℕ → List SignalLine) (traces : Label → Trace) (n made : ℕ)
     → IsPoint due_script (at 1 0) made n (labels (due_witness signals traces)) → IsStoppedHard (due_witness signals traces) 0 n → ⊥
 unfolding after_entry changed
 one_is_due signals traces zero made point stopped = false≢true (sym point.within.behind.0)
@@ -162,10 +162,10 @@ past_doesnt_fit fits =
 abbrev missed_moves : List Move
 missed_moves = moves_by missed_record [] (TimersList 0 ∷ CountersList 0 ∷ [])
 
-abbrev missed_witness : List SignalMove → (Label → Trace) → Witness
+abbrev missed_witness : (ℕ → List SignalLine) → (Label → Trace) → Witness
 missed_witness signals traces = witness_with missed_script missed_record missed_moves signals traces
 
-one_is_missed : (signals : List SignalMove) (traces : Label → Trace) (n made : ℕ)
+one_is_missed : (signals : ℕ → List SignalLine) (traces : Label → Trace) (n made : ℕ)
     → IsPoint missed_script (at 0 2) made n (labels (missed_witness signals traces)) → IsStoppedHard (missed_witness signals traces) 1 n → ⊥
 unfolding after_entry changed
 one_is_missed signals traces zero made point stopped = false≢true (sym point.within.behind.0)

@@ -1,3 +1,4 @@
 pub mod Lines
 pub mod Fitting
 pub mod Wrong
+pub mod BesideRuns

@@ -265,6 +265,18 @@ sent_off_record = off_line_record ([] ∷ (base_entry_line 0 (shifts.Offline 0) 
     ((line 0 1 (out_entry 1 false) ∷ line 0 1 (out_entry 0 false) ∷ line 0 1 (case_start_entry modes.Abs 100 0 0 0 100 false) ∷ []) ∷ [])
     (answers.Offline 0 1 ∷ answers.Started 3 0 false ∷ [])
 
+-- ---- an armed timer leaves for its base's heir by a start, and the base goes off line only behind that
+
+-- the script
+abbrev pub left_early_script : Script
+left_early_script = two_bases (case_start 0 modes.Abs 100 1 ∷ case_start 0 modes.Abs 100 1 ∷ calls.Offline 1 0 4 ∷ [])
+
+-- a record that breaks it
+abbrev pub left_early_record : RunRecord
+left_early_record = off_line_record ([] ∷ (base_entry_line 2 (shifts.Offline 0) ∷ []) ∷ [])
+    ((lines_there 0 ++ line 0 1 (out_entry 0 true) ∷ line 0 1 (case_start_entry modes.Abs 100 0 0 0 100 false) ∷ []) ∷ [])
+    (answers.Started 2 1 false ∷ answers.Started 4 0 true ∷ answers.Offline 0 1 ∷ [])
+
 -- ---- a callback's start tells that it asked for a base that is off line: the script of the callback that asks for the heir
 
 -- a record that breaks it
@@ -386,15 +398,17 @@ renamed_script = expired_script (calls.Sigwait ∷ calls.Sigwait ∷ [])
 abbrev pub renamed_record : RunRecord
 renamed_record = expired_record (counted_entry 1 1) (case_object_line 0 3 (accepted_entry 1) ∷ []) (answers.Signal 0 2 0 ∷ answers.StaleSignal 0 2 ∷ [])
 
--- ---- an expiry finds no room for its signal, and no other waits
+-- ---- a call is told that no signal waits; then an expiry finds no room for its signal, and none was sent between
 
 -- the script
 abbrev pub roomy_script : Script
-roomy_script = expired_script []
+roomy_script = queued_script 1 (settime_to 100 ∷ calls.Clock (writes.Advance 100) ∷ calls.Sigwait ∷ hard_expire 0 4 ∷ [])
 
 -- a record that breaks it
 abbrev pub roomy_record : RunRecord
-roomy_record = expired_record (object_entries.Overflow 1 1) [] []
+roomy_record = queued_record (advance_line 0 1 100 ∷ []) (claimed_by 0 100 0 3 1 ∷ [])
+    ((case_object_line 0 0 (set_entry_of 100 0 1 0) ∷ case_object_line 0 3 (object_entries.Overflow 1 1) ∷ []) ∷ [])
+    (answers.Old 0 0 ∷ answers.Clock 1 ∷ answers.NoneQueued ∷ answers.Done 1 (0 ∷ []) ∷ [])
 
 -- ---- of two signals the one that was sent later is named first
 

@@ -1,5 +1,6 @@
 //! Records that fit their scripts.
 ghost use Rattle.run_history.specs.Fits.{Fits};
+ghost use Rattle.run_cases.specs.BesideRuns as beside;
 ghost use Rattle.run_cases.specs.Fitting as fitting;
 
 /// A timer is started, expires, is cancelled when it is idle, and is looked at.
@@ -182,4 +183,28 @@ pub fn a_signal_that_goes_stale_as_its_timer_gets_full_is_spent()
 #[tactic(auto, using(crate::proofs::SignalsFitting::spent_fits))]
 pub fn a_signal_of_a_full_timer_is_spent()
     ensures { Fits fitting.spent_script fitting.spent_record }
+{}
+
+/// A lane looks at a queued timer beside the run by which it expires, before the expiry, and then finds no signal.
+#[tactic(auto, using(crate::proofs::BesideRuns::early_wait_fits))]
+pub fn a_wait_before_an_expiry_finds_no_signal()
+    ensures { Fits beside.early_wait_script beside.early_wait_record }
+{}
+
+/// A queued timer expires in one lane's run, and behind that another one in another lane's. Their signals are taken in that order.
+#[tactic(auto, using(crate::proofs::BesideRuns::two_runs_fit))]
+pub fn signals_of_two_runs_are_taken_in_the_order_of_the_expiries()
+    ensures { Fits beside.two_runs_script beside.two_runs_record }
+{}
+
+/// Of two signals that wait a lane takes the older one, and then another lane the younger one.
+#[tactic(auto, using(crate::proofs::BesideRuns::two_waits_fit))]
+pub fn two_lanes_take_two_signals()
+    ensures { Fits beside.two_waits_script beside.two_waits_record }
+{}
+
+/// A queued timer expires, is set anew by another lane, and expires again. Its first signal is taken first, and is stale.
+#[tactic(auto, using(crate::proofs::BesideRuns::set_again_fits))]
+pub fn two_signals_of_one_timer_are_taken_in_turn()
+    ensures { Fits beside.set_again_script beside.set_again_record }
 {}

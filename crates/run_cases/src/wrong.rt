@@ -1,5 +1,6 @@
 //! Records that don't fit their scripts.
 ghost use Rattle.run_history.specs.Fits.{Fits};
+ghost use Rattle.run_cases.specs.BesideRuns as beside;
 ghost use Rattle.run_cases.specs.Fitting as fitting;
 ghost use Rattle.run_cases.specs.Wrong as wrong;
 
@@ -154,6 +155,12 @@ pub fn no_start_is_sent_to_a_base_off_line()
     ensures { Fits wrong.stranded_script wrong.sent_off_record → ⊥ }
 {}
 
+/// An armed timer doesn't leave for its base's heir before the base goes off line.
+#[tactic(auto, using(crate::proofs::SentOff::left_early_doesnt_fit))]
+pub fn no_timer_leaves_for_an_heir_of_a_base_on_line()
+    ensures { Fits wrong.left_early_script wrong.left_early_record → ⊥ }
+{}
+
 /// A callback's start doesn't tell that it asked for a base that is off line since before its run.
 #[tactic(auto, using(crate::proofs::AskedOff::asking_off_doesnt_fit))]
 pub fn no_callback_asks_for_a_base_off_line()
@@ -250,7 +257,7 @@ pub fn signals_of_a_run_are_named_in_the_order_of_its_claims()
     ensures { Fits fitting.signals_script wrong.swapped_record → ⊥ }
 {}
 
-/// No expiry finds the queue of signals full while it has room.
+/// No expiry finds the queue of signals full while it has room: a call was told that none waits, and none was sent since.
 #[tactic(auto, using(crate::proofs::SignalsWrong::roomy_doesnt_fit))]
 pub fn no_queue_is_found_full_while_it_has_room()
     ensures { Fits wrong.roomy_script wrong.roomy_record → ⊥ }
@@ -278,4 +285,46 @@ pub fn no_signal_is_sent_where_as_many_wait_as_may()
 #[tactic(auto, using(crate::proofs::SignalsWrong::outdated_doesnt_fit))]
 pub fn no_signal_is_accepted_whose_timer_was_set_since()
     ensures { Fits wrong.outdated_script wrong.outdated_record → ⊥ }
+{}
+
+/// No lane is told that no signal waits when it has seen an expiry that sent one, and nobody has taken that.
+#[tactic(auto, using(crate::proofs::BesideRunsWrong::late_wait_doesnt_fit))]
+pub fn no_queue_is_found_empty_behind_an_expiry_that_was_seen()
+    ensures { Fits beside.early_wait_script beside.late_wait_record → ⊥ }
+{}
+
+/// Of two signals of two lanes' runs the one isn't taken first whose lane had seen the other's expiry.
+#[tactic(auto, using(crate::proofs::BesideRunsWrong::seen_older_doesnt_fit))]
+pub fn no_signal_is_taken_before_one_whose_expiry_was_seen()
+    ensures { Fits beside.two_runs_script beside.seen_older_record → ⊥ }
+{}
+
+/// No lane takes the older of two signals when it has seen the younger one accepted.
+#[tactic(auto, using(crate::proofs::BesideRunsWrong::crossed_waits_dont_fit))]
+pub fn no_older_signal_is_taken_behind_a_younger_one_that_was_accepted()
+    ensures { Fits beside.two_waits_script beside.crossed_waits_record → ⊥ }
+{}
+
+/// Of two signals of one timer the younger isn't taken first, whichever lanes' runs sent them.
+#[tactic(auto, using(crate::proofs::BesideRunsWrong::turned_round_doesnt_fit))]
+pub fn signals_of_one_timer_are_taken_in_its_order()
+    ensures { Fits beside.set_again_script beside.turned_round_record → ⊥ }
+{}
+
+/// No lane whose expiry found no room is told behind that that no signal waits, where nobody has taken one.
+#[tactic(auto, using(crate::proofs::CrowdsWrong::full_then_empty_doesnt_fit))]
+pub fn no_full_queue_is_found_empty_next()
+    ensures { Fits beside.full_then_empty_script beside.full_then_empty_record → ⊥ }
+{}
+
+/// No expiry counts while as many signals wait as may, where one is taken only by a lane that has seen that expiry.
+#[tactic(auto, using(crate::proofs::CrowdsWrong::room_too_late_doesnt_fit))]
+pub fn no_room_is_made_by_a_later_wait()
+    ensures { Fits beside.room_too_late_script beside.room_too_late_record → ⊥ }
+{}
+
+/// No expiry finds the queue full by what its own run pushes later.
+#[tactic(auto, using(crate::proofs::CrowdsWrong::later_pushes_dont_fit))]
+pub fn no_queue_is_found_full_by_later_pushes()
+    ensures { Fits beside.later_pushes_script beside.later_pushes_record → ⊥ }
 {}

@@ -1,6 +1,6 @@
 -- What a call did, of one list, in two parts.
 use Rattle.std.proofs.Common.{◌≡◌, ℕ, ◌+◌, suc, true, false, nat_eq, List, [], ◌∷◌, ◌++◌, refl, ap}
-use Rattle.run_history.specs.Actions.{Action, also, Began, Entered, Looked, Made, made, Shifted, Skipped, Wrote}
+use Rattle.run_history.specs.Actions.{Action, also, Began, Entered, Looked, Made, made, Shifted, Signalled, Skipped, Wrote}
 use Rattle.run_history.specs.Traces.{all_entered}
 use Rattle.run_history.specs.Witnesses.{OfBase, OfRise, OfTimer}
 
@@ -13,6 +13,7 @@ all_entered-append (Began i stamp ∷ ds) es = ap (λ xs. (stamp + stamp + 1, Of
 all_entered-append (Made i number entry ∷ ds) es = ap (λ xs. (number + number, OfRise (suc i)) ∷ xs) (all_entered-append ds es)
 all_entered-append (Skipped i number generation ∷ ds) es = all_entered-append ds es
 all_entered-append (Shifted base number event ∷ ds) es = ap (λ xs. (number, OfBase base event) ∷ xs) (all_entered-append ds es)
+all_entered-append (Signalled counter number signal ∷ ds) es = ap (λ xs. (number, OfRise counter) ∷ xs) (all_entered-append ds es)
 
 pub made-append : (i : ℕ) (ds es : List Action) → made i (ds ++ es) ≡ made i ds ++ made i es
 made-append i [] es = refl
@@ -27,3 +28,4 @@ made-append i (Made j number entry ∷ ds) es =
     ]
 made-append i (Skipped j number generation ∷ ds) es = made-append i ds es
 made-append i (Shifted base number event ∷ ds) es = made-append i ds es
+made-append i (Signalled counter number signal ∷ ds) es = made-append i ds es

@@ -6,9 +6,8 @@ use Rattle.std.proofs.lemmas.List.{length-map, take_all}
 use Rattle.std.proofs.lemmas.Option.{same_Some, slice_get_within}
 use Rattle.seq_timer.specs.declared.system.SystemEntry.{SystemEntry}
 use Rattle.record_text.specs.declared.record.Label.{Label}
-use Rattle.record_text.specs.declared.record.RunRecord.{RunRecord}
 use Rattle.run_history.specs.Actions.{also}
-use Rattle.run_history.specs.Witnesses.{BasesList, CountersList, Owner, ShownLine, TimersList, is_owner, lines_at, owner_of}
+use Rattle.run_history.specs.Witnesses.{RunLists, BasesList, CountersList, Owner, ShownLine, TimersList, is_owner, lines_at, owner_of}
 use Rattle.run_history.specs.Receipts.{AreFiled, count_owned, Filed, files_on, IsAhead, IsMade, line_filed, owner_filed, PlacedEntry, RiseBy, Rises}
 use Rattle.run_history.proofs.Laid.{AreReceipts, counts_more, IsLine, IsNoted}
 use Rattle.run_history.proofs.Lists.{all_at, at_map, each, map_get}
@@ -127,7 +126,7 @@ found_on o j f (x ∷ fs) at =
     here zero at is further = (0, at, ap owner_filed (sym (same_Some x f at)) ∙ is)
     here (suc j) at is further = let r = further j at in (suc r.0, r.1, r.2)
 
-module _ (r : RunRecord) (order : List SystemEntry) (notes : Label → List PlacedEntry) (sorted : List Filed) (filed : AreFiled r order notes sorted) where
+module _ (r : RunLists) (order : List SystemEntry) (notes : Label → List PlacedEntry) (sorted : List Filed) (filed : AreFiled r order notes sorted) where
   made_of : (i : ℕ) (f : Filed) → slice_get sorted i ≡ Some f → IsMade order f.note
   made_of i f at = let b = filed.back i f at in all_at (IsMade order) (notes f.label) b.0 f.note (filed.made f.label) b.1
 

@@ -89,7 +89,7 @@ module _ {X A : Type 0} (label : X → Label) (thing : X → A) (c : Label) wher
     | false ↦ lower k (k + 1) (own label thing c (k + 1) xs) (omega arith) (own_rises (k + 1) xs)
   ]
 
-  own_stands : (k : ℕ) (xs : List X) (e : ℕ × A) → Among e (own label thing c k xs) → StandsIn X A label thing c k xs e
+  pub own_stands : (k : ℕ) (xs : List X) (e : ℕ × A) → Among e (own label thing c k xs) → StandsIn X A label thing c k xs e
   own_stands k [] e here = absurd here
   own_stands k (x ∷ xs) e here =
       elim (is_label c (label x)) as (λ b. is_label c (label x) ≡ b → Among e (also b (k, thing x) (own label thing c (k + 1) xs))

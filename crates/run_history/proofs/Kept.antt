@@ -5,17 +5,16 @@ use Rattle.std.specs.List.Sorted.{IsPermutation}
 use Rattle.std.proofs.lemmas.List.{append-nil, length-map, map-append}
 use Rattle.record_text.specs.declared.record.Answer.{Answer}
 use Rattle.record_text.specs.declared.record.Label.{Label}
-use Rattle.run_history.specs.Actions.{Action, also, looked, made, own, own_looks, own_skips, skipped, wrote}
+use Rattle.run_history.specs.Actions.{Action, also, looked, made, own, own_looks, own_skips, signalled, skipped, wrote}
 use Rattle.run_history.specs.Histories.{clock_labels, lines_of_timer}
 use Rattle.run_history.specs.Objects.{lines_of_object}
-use Rattle.run_history.specs.Order.{is_label, IsLabel, IsPoint, StandsWithin, NeverFall}
+use Rattle.run_history.specs.Order.{is_label, IsLabel, IsPoint, NeverFall}
 use Rattle.script_text.specs.declared.script.Call.{Call}
 use Rattle.run_history.specs.Calls.{Does, AnswerHolds}
 use Rattle.run_history.specs.Deeds.{AllKeepExpiries, AllMoved}
 use Rattle.run_history.specs.Truths.{AreTrue, IsMoment, LeftInTurn, sight_of}
 use Rattle.run_history.specs.Witnesses.{Witness, labels, Move, Trace}
-use Rattle.run_history.specs.Fits.{FitsCall, TraceExplains, HasSignalled, Seen}
-use Rattle.run_history.specs.Signals.{signal_labels}
+use Rattle.run_history.specs.Fits.{FitsCall, TraceExplains, Seen}
 use Rattle.run_history.specs.Receipts.{AreAll, at_place, PlacedEntry, receipt, shape}
 use Rattle.run_history.specs.Rounds.{IsLaid, Spans}
 use Rattle.run_history.specs.Traces.{all_entered, own_moves}
@@ -63,9 +62,9 @@ inside_behind low high (x ∷ xs) all = (all.0.0, inside_behind low high xs all.
 
 -- ---- a call
 
--- What is known of every call at the end of the run: what it did; its receipts stand in the order, in its span; the record's other lists, and the order of
--- signals, have what it did; its reading is within its bounds, as each number of signals in its span is; and its lane's numbers never fall.
-pub record IsKept (w : Witness) (moves signals : Spans) (c : Label) (t : Trace) (notes : List PlacedEntry) (call : Call) (answer : Answer)
+-- What is known of every call at the end of the run: what it did; its receipts stand in the order, in its span; the record's other lists, and the queue's, have
+-- what it did; its reading is within its bounds; and its lane's numbers never fall.
+pub record IsKept (w : Witness) (moves : Spans) (c : Label) (t : Trace) (notes : List PlacedEntry) (call : Call) (answer : Answer)
     (before after : Seen) : Type 0 where
   pub trace : w.traces c ≡ t
   pub laid : IsLaid w.script (labels w) moves
@@ -82,12 +81,10 @@ pub record IsKept (w : Witness) (moves signals : Spans) (c : Label) (t : Trace) 
   pub reading : IsPoint w.script c 0 t.at (clock_labels w.run)
   pub clock_steps : NeverFall before.clock (t.at ∷ map (λ x. x.0) (wrote t.actions)) after.clock
   pub move_steps : (before.moves ≤ moves.first c) × (moves.last c ≤ after.moves)
-  pub signalled : HasSignalled w c t answer
-  pub hears : (n : ℕ) → signals.first c ≤ n → n ≤ signals.last c → StandsWithin w.script c n (signal_labels w.signals)
-  pub signal_steps : NeverFall before.signals (map (λ x. x.0) t.turns) after.signals
+  pub signals : (k : ℕ) → own (λ line. line.label) (λ line. line.signal) c 1 (w.signals k) ≡ signalled k t.actions
 
-module _ {w : Witness} {moves signals : Spans} {c : Label} {t : Trace} {notes : List PlacedEntry} {call : Call} {answer : Answer} {before after : Seen}
-    (kept : IsKept w moves signals c t notes call answer before after) where
+module _ {w : Witness} {moves : Spans} {c : Label} {t : Trace} {notes : List PlacedEntry} {call : Call} {answer : Answer} {before after : Seen}
+    (kept : IsKept w moves c t notes call answer before after) where
   -- a number in the call's span, before which these of its receipts stand, and behind which the others, is a moment of it
   pub moment_of : (early : List Action) (n : ℕ) → moves.first c ≤ n → n ≤ t.last → Stops c notes early n → IsMoment w c early n
   moment_of early n low high stops =
@@ -125,6 +122,7 @@ module _ {w : Witness} {moves signals : Spans} {c : Label} {t : Trace} {notes : 
           looks = kept.looks;
           objects = kept.objects;
           skips = kept.skips;
+          signals = kept.signals;
         };
         does = does;
         keeps = moved.0;
@@ -136,8 +134,6 @@ module _ {w : Witness} {moves signals : Spans} {c : Label} {t : Trace} {notes : 
         holds = holds;
         clock_steps = kept.clock_steps;
         move_steps = (omega (arith, kept.move_steps.0, low), omega (arith, kept.last, kept.move_steps.1));
-        signalled = kept.signalled;
-        signal_steps = kept.signal_steps;
       })
 
   -- the same, where it begins with what its pass had seen

@@ -67,6 +67,31 @@ pub one_note : (xs : List PlacedEntry) (e : ℕ × Shown) → map receipt xs ≡
 one_note xs e is =
     let first = first_note xs e [] is in (first.0, first.2 ∙ ap (λ rest. first.0 ∷ rest) (no_notes first.1 first.4), first.3)
 
+pub last_note : (xs : List PlacedEntry) (es : List (ℕ × Shown)) (e : ℕ × Shown) → map receipt xs ≡ es ++ e ∷ []
+    → (early : List PlacedEntry) × (x : PlacedEntry) × (xs ≡ early ++ x ∷ []) × (map receipt early ≡ es) × (receipt x ≡ e)
+last_note xs [] e is = let one = one_note xs e is in ([], one.0, one.1, refl, one.2)
+last_note xs (y ∷ es) e is =
+    let first = first_note xs y (es ++ e ∷ []) is in
+    let rest = last_note first.1 es e first.4 in (
+      first.0 ∷ rest.0,
+      rest.1,
+      first.2 ∙ ap (λ zs. first.0 ∷ zs) rest.2,
+      ap (λ z. z ∷ map receipt rest.0) first.3 ∙ ap (λ zs. y ∷ zs) rest.3,
+      rest.4,
+    )
+
+-- the entries before the last one were made before its place
+pub before_last : (order : List SystemEntry) (low high : ℕ) (early : List PlacedEntry) (x : PlacedEntry) → AreMade order low high (early ++ x ∷ [])
+    → (low ≤ x.place) × AreMade order low x.place early × AreMade order x.place high (x ∷ [])
+before_last order low high [] x made =
+    (made.rise.0, record { rise = tt; below = tt; made = tt }, record { rise = (omega arith, tt); below = made.below; made = made.made })
+before_last order low high (y ∷ early) x made =
+    let rest = before_last order (y.place + 1) high early x (record { rise = made.rise.1; below = made.below.1; made = made.made.1 }) in (
+      omega (arith, made.rise.0, rest.0),
+      record { rise = (made.rise.0, rest.1.rise); below = (omega (arith, rest.0), rest.1.below); made = (made.made.0, rest.1.made) },
+      rest.2,
+    )
+
 -- ---- a call's entries
 
 -- behind an entry of a list there is one more

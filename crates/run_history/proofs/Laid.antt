@@ -7,9 +7,8 @@ use Rattle.std.proofs.lemmas.List.{append-nil, append_assoc, take_all}
 use Rattle.std.proofs.lemmas.Option.{get_or_from_slice_get, same_Some, slice_get-get_or, slice_get_within}
 use Rattle.seq_timer.specs.declared.system.SystemEntry.{SystemEntry}
 use Rattle.record_text.specs.declared.record.Label.{Label}
-use Rattle.record_text.specs.declared.record.RunRecord.{RunRecord}
 use Rattle.run_history.specs.Order.{is_label}
-use Rattle.run_history.specs.Witnesses.{Move, Owner, Shown, ShownLine, is_owner, lines_at, owner_of, owner_of_entry}
+use Rattle.run_history.specs.Witnesses.{RunLists, Move, Owner, Shown, ShownLine, is_owner, lines_at, owner_of, owner_of_entry}
 use Rattle.run_history.specs.Receipts.{AreAll, at_place, count_owned, IsMade, move_at, move_of, no_line, PlacedEntry, Rises, shape, weave}
 use Rattle.run_history.proofs.Items.{Among, among_at, at_among, own_items, RiseIn, StandsIn}
 use Rattle.run_history.proofs.Labels.{label_itself, same_label}
@@ -18,7 +17,7 @@ use Rattle.run_history.proofs.Owners.{and_one, count_cons, count_none, owner_is}
 
 -- ---- moves of an order, by place
 
-weave_at : (r : RunRecord) (done xs : List SystemEntry) (p : ℕ) (x : SystemEntry) → slice_get xs p ≡ Some x
+weave_at : (r : RunLists) (done xs : List SystemEntry) (p : ℕ) (x : SystemEntry) → slice_get xs p ≡ Some x
     → slice_get (weave r done xs) p ≡ Some (move_of r (done ++ take p xs) x)
 weave_at r done [] p x at = absurd (cc)
 weave_at r done (y ∷ xs) zero x at =
@@ -26,7 +25,7 @@ weave_at r done (y ∷ xs) zero x at =
 weave_at r done (y ∷ xs) (suc p) x at =
     weave_at r (done ++ y ∷ []) xs p x at ∙ ap (λ ds. Some (move_of r ds x)) (append_assoc done (y ∷ []) (take p xs))
 
-step_there : (r : RunRecord) (done xs : List SystemEntry) (p : ℕ) (m : Move) → slice_get (weave r done xs) p ≡ Some m
+step_there : (r : RunLists) (done xs : List SystemEntry) (p : ℕ) (m : Move) → slice_get (weave r done xs) p ≡ Some m
     → (x : SystemEntry) × (slice_get xs p ≡ Some x)
 step_there r done [] p m at = absurd (cc)
 step_there r done (y ∷ xs) zero m at = (y, refl)
@@ -62,7 +61,7 @@ same_place xs p q o x y at_p at_q is_x is_y same =
 -- ---- receipts and lines
 
 -- the line at an entry's number is the call's, with this entry
-pub record IsLine (r : RunRecord) (c : Label) (x : PlacedEntry) : Type 0 where
+pub record IsLine (r : RunLists) (c : Label) (x : PlacedEntry) : Type 0 where
   pub before : ℕ
   pub number : before + 1 ≡ x.number
   pub there : slice_get (lines_at r (owner_of x.shown)) before ≡ Some (record { label = c; shown = x.shown })
@@ -77,7 +76,7 @@ pub record IsNoted (notes : Label → List PlacedEntry) (o : Owner) (before : �
 
 -- the receipts of all calls: of each call they stand at rising places of the order; the record's lines are just they; and each list has
 -- as many lines as entries
-pub record AreReceipts (r : RunRecord) (order : List SystemEntry) (notes : Label → List PlacedEntry) : Type 0 where
+pub record AreReceipts (r : RunLists) (order : List SystemEntry) (notes : Label → List PlacedEntry) : Type 0 where
   pub rise : (c : Label) → Rises 0 (map (λ x. x.place) (notes c))
   pub made : (c : Label) → AllByRecursion (IsMade order) (notes c)
   pub lines : (c : Label) → AllByRecursion (IsLine r c) (notes c)
@@ -97,10 +96,10 @@ placed_among e xs here =
     let at = at_among e (map at_place xs) here in let of = map_get at_place xs at.0 e at.1 in (at.0, of.0, of.1, sym of.2)
 
 -- a receipt's move stands at its place, under the call's label
-abbrev Stands : RunRecord → List SystemEntry → Label → PlacedEntry → Type 0
+abbrev Stands : RunLists → List SystemEntry → Label → PlacedEntry → Type 0
 Stands r order c x = StandsIn Move (ℕ × Shown) (λ m. m.label) shape c 0 (weave r [] order) (at_place x)
 
-stands_at : (r : RunRecord) (order : List SystemEntry) (c : Label) (x : PlacedEntry) → IsMade order x → IsLine r c x → Stands r order c x
+stands_at : (r : RunLists) (order : List SystemEntry) (c : Label) (x : PlacedEntry) → IsMade order x → IsLine r c x → Stands r order c x
 stands_at r order c x here line =
     let o = owner_of x.shown in
     let move = move_of r (take x.place order) here.step in
@@ -120,7 +119,7 @@ stands_at r order c x here line =
     from_none : (n : ℕ) → n ≡ 0 + n
     from_none n = omega arith
 
-module _ (r : RunRecord) (order : List SystemEntry) (notes : Label → List PlacedEntry) (all : AreReceipts r order notes) (c : Label) where
+module _ (r : RunLists) (order : List SystemEntry) (notes : Label → List PlacedEntry) (all : AreReceipts r order notes) (c : Label) where
   each_stands : (i : ℕ) (x : PlacedEntry) → slice_get (notes c) i ≡ Some x → Stands r order c x
   each_stands i x at = stands_at r order c x (all_at (IsMade order) (notes c) i x (all.made c) at) (all_at (IsLine r c) (notes c) i x (all.lines c) at)
 

@@ -28,7 +28,7 @@ use Rattle.record_text.specs.declared.record.InterruptReply.TheVariants as inter
 use Rattle.record_text.specs.declared.record.InterruptReply.{InterruptReply}
 use Rattle.timer_setting.specs.Arguments.{mode_by}
 use Rattle.timer_setting.specs.declared.arming.Wanted.{Wanted}
-use Rattle.run_history.specs.Actions.{Action, Began, Made}
+use Rattle.run_history.specs.Actions.{Action, Began, Made, Signalled}
 use Rattle.run_history.specs.ObjectCalls.{AreValidFor, Arms, ArmsAs, HasBegun, cancels, IsProperSleep, MakesAnew, MakesRearming, nanoseconds_of}
 use Rattle.script_text.specs.Declarations.{base_of, kind_of, without_slack}
 use Rattle.run_history.specs.Starts.{SentTo, arming_actions, Sight}
@@ -36,17 +36,18 @@ use Rattle.script_text.specs.declared.script.Call.TheVariants as calls
 use Rattle.script_text.specs.declared.script.Call.{Call}
 use Rattle.script_text.specs.declared.script.Kind.TheVariants as kinds
 use Rattle.run_history.specs.Calls.{AnswerHolds, Does, IsFd}
-use Rattle.run_history.specs.Truths.{DisarmedFirst, IsMoment, IsTrueEntry, IsTrueStart, RefusedBefore, SawRefusal, WasIdle, sight_of}
+use Rattle.run_history.specs.Truths.{AreTrue, DisarmedFirst, IsMoment, IsTrueEntry, IsTrueStart, RefusedBefore, SawRefusal, WasIdle, sight_of}
 use Rattle.run_history.specs.Witnesses.{Witness, timer_along}
 use Rattle.run_history.specs.Fits.{FitsCall, Seen}
 use Rattle.run_history.specs.Receipts.{PlacedEntry}
 use Rattle.run_history.specs.Rounds.{Spans}
 use Rattle.run_history.specs.Objects.{queued_after}
-use Rattle.run_history.specs.Signals.{SendsSignals}
+use Rattle.run_history.specs.Signals.{SendsSignals, pop_counter}
 use Rattle.posix_timer.specs.Queued.{is_fresh}
-use Rattle.signal_queue.specs.declared.signal.Turn.{Turn}
 use Rattle.run_history.proofs.Kept.{call_made, IsKept, moment_of, Stops}
-use Rattle.run_history.proofs.OthersMade.{none_moved, plain, turning}
+use Rattle.run_history.proofs.OthersMade.{none_moved, plain}
+use Rattle.script_text.proofs.Lists.{All-append}
+use Rattle.std.proofs.lemmas.List.{append_assoc}
 use Rattle.run_history.proofs.Plain.{IsPlain, plain_arms, plain_then}
 
 -- ---- entries of its timer, and then the object's
@@ -130,9 +131,9 @@ disarmed sight limit w c timer at base begin begun last wanted None arm start st
     by_wanted None is = none is.1
     by_wanted (Some wanted) is = by_start wanted.mode wanted.ns arm is
 
-module _ {w : Witness} {moves signals : Spans} {c : Label} {at begin last timer : ℕ} {wanted : Option Wanted} {cancel : Option (ℕ × ℕ)} {arm : Armed}
+module _ {w : Witness} {moves : Spans} {c : Label} {at begin last timer : ℕ} {wanted : Option Wanted} {cancel : Option (ℕ × ℕ)} {arm : Armed}
     {start : List Action} {stamp : ℕ} {notes : List PlacedEntry} {call : Call} {answer : Answer} {before after : Seen} (entry : Armed → ObjectEntry)
-    (kept : IsKept w moves signals c (plain at begin last (anew_actions timer cancel start stamp (entry arm))) notes call answer before after)
+    (kept : IsKept w moves c (plain at begin last (anew_actions timer cancel start stamp (entry arm))) notes call answer before after)
     (low : moves.first c ≤ begin) (anew : IsAnew w c notes at begin last timer wanted cancel arm start stamp) where
   abbrev turn : List Action
   turn = Began timer stamp ∷ cancels timer cancel ++ start
@@ -168,7 +169,7 @@ module _ {w : Witness} {moves signals : Spans} {c : Label} {at begin last timer 
     refused = saw;
   }
 
-  anew_made : (IsTrueStart w timer (stamp + 1) true arm anew.ends → IsTrueEntry w c timer (stamp + 1) (entry arm) anew.ends)
+  anew_made : (IsTrueStart w timer (stamp + 1) true arm anew.ends → IsTrueEntry w timer (stamp + 1) (entry arm) anew.ends)
       → (MakesAnew (sight_of w begin last) w.script.limit (kind_of w.script timer) timer wanted at entry (anew_actions timer cancel start stamp (entry arm))
       → Does (sight_of w begin last) w.script at call answer [] [] (anew_actions timer cancel start stamp (entry arm)))
       → AnswerHolds w begin last c at (anew_actions timer cancel start stamp (entry arm)) call answer → FitsCall w c call answer before after
@@ -200,11 +201,11 @@ UnsleptBy w timer (sleeps.Unarmed stamp) last = SawRefusal w timer stamp last
 abbrev pub start_of : ℕ → TimeSpec → Option Wanted
 start_of flags time = Some (record { mode = mode_by flags; ns = nanoseconds_of time })
 
-module _ {w : Witness} {moves signals : Spans} {c : Label} {at begin last timer : ℕ} {cancel : Option (ℕ × ℕ)} {arm : Armed} {start : List Action} {stamp : ℕ}
+module _ {w : Witness} {moves : Spans} {c : Label} {at begin last timer : ℕ} {cancel : Option (ℕ × ℕ)} {arm : Armed} {start : List Action} {stamp : ℕ}
     {notes : List PlacedEntry} {before after : Seen} where
   -- law: a settime that makes an entry fits
   pub settime_made : {flags : ℕ} {value interval : TimeSpec} (reply : SettimeReply)
-      → IsKept w moves signals c (plain at begin last (anew_actions timer cancel start stamp
+      → IsKept w moves c (plain at begin last (anew_actions timer cancel start stamp
       (object_entries.Settime flags (nanoseconds_of value) (nanoseconds_of interval) at arm reply))) notes
       (calls.Settime timer flags value interval) (answer_of_settime reply) before after
       → moves.first c ≤ begin → (anew : IsAnew w c notes at begin last timer (start_of flags value) cancel arm start stamp)
@@ -222,7 +223,7 @@ module _ {w : Witness} {moves signals : Spans} {c : Label} {at begin last timer 
 
   -- law: a sleep that makes an entry fits
   pub sleep_made : {flags : ℕ} {time : TimeSpec} (reply : SleepReply)
-      → IsKept w moves signals c (plain at begin last (anew_actions timer cancel start stamp (object_entries.Sleep flags
+      → IsKept w moves c (plain at begin last (anew_actions timer cancel start stamp (object_entries.Sleep flags
       (nanoseconds_of time) at arm reply))) notes
       (calls.Sleep timer flags time) (answer_of_sleep reply) before after
       → moves.first c ≤ begin → (anew : IsAnew w c notes at begin last timer (start_of flags time) cancel arm start stamp)
@@ -240,7 +241,7 @@ module _ {w : Witness} {moves signals : Spans} {c : Label} {at begin last timer 
 
   -- law: an interrupt that makes an entry fits
   pub interrupt_made : (reply : InterruptReply)
-      → IsKept w moves signals c (plain at begin last (anew_actions timer cancel start stamp (object_entries.Interrupt at reply))) notes
+      → IsKept w moves c (plain at begin last (anew_actions timer cancel start stamp (object_entries.Interrupt at reply))) notes
       (calls.Interrupt timer) (answer_of_interrupt reply) before after
       → moves.first c ≤ begin → IsAnew w c notes at begin last timer None cancel arm start stamp
       → FitsCall w c (calls.Interrupt timer) (answer_of_interrupt reply) before after
@@ -256,9 +257,9 @@ module _ {w : Witness} {moves signals : Spans} {c : Label} {at begin last timer 
 
 -- ---- an acceptance, a read, a descriptor's gettime
 
--- What such a call of a reading knows at its end, between a moment before its turn and its last. There are three cases: it wanted no start, its start was
--- made, or its start was refused.
-pub record IsRearmed (w : Witness) (c : Label) (notes : List PlacedEntry) (at begin last timer : ℕ) (arm : Armed) (start : List Action)
+-- What such a call of a reading knows at its end, between a moment before its turn and its last, where it had done so much before. There are three cases: it
+-- wanted no start, its start was made, or its start was refused.
+pub record IsRearmed (w : Witness) (c : Label) (notes : List PlacedEntry) (at begin last timer : ℕ) (done : List Action) (arm : Armed) (start : List Action)
     (stamp : ℕ) : Type 0 where
   pub ns : ℕ
   pub timely : ns ≤ last_time
@@ -269,22 +270,26 @@ pub record IsRearmed (w : Witness) (c : Label) (notes : List PlacedEntry) (at be
   pub between : begin ≤ ends
   pub high : ends ≤ last
   pub behind : AllByRecursion (λ x. begin ≤ x.place) notes
-  pub stops : Stops c notes (Began timer stamp ∷ start) ends
+  pub stops : Stops c notes (done ++ Began timer stamp ∷ start) ends
   pub holds : IsTrueStart w timer (stamp + 1) false arm ends
 
 -- what such a call did, behind so many entries of the object
 abbrev pub rearming_actions : ℕ → List Action → ℕ → ObjectEntry → List Action
 rearming_actions timer start stamp entry = Began timer stamp ∷ start ++ Made timer (stamp + 1) entry ∷ []
 
-module _ {w : Witness} {moves signals : Spans} {c : Label} {at begin last timer : ℕ} {arm : Armed} {start : List Action} {stamp : ℕ} {notes : List PlacedEntry}
-    {call : Call} {answer : Answer} {before after : Seen} {turns : List (ℕ × Turn)} (entry : Armed → ObjectEntry)
-    (kept : IsKept w moves signals c (turning at begin last (rearming_actions timer start stamp (entry arm)) turns) notes call answer before after)
-    (low : moves.first c ≤ begin) (rearmed : IsRearmed w c notes at begin last timer arm start stamp) where
-  rearming_made : (IsTrueStart w timer (stamp + 1) false arm rearmed.ends → IsTrueEntry w c timer (stamp + 1) (entry arm) rearmed.ends)
+module _ {w : Witness} {moves : Spans} {c : Label} {at begin last timer : ℕ} {arm : Armed} {start : List Action} {stamp : ℕ} {notes : List PlacedEntry}
+    {call : Call} {answer : Answer} {before after : Seen} (popped : List Action) (plain_pops : AllByRecursion IsPlain popped) (entry : Armed → ObjectEntry)
+    (kept : IsKept w moves c (plain at begin last (popped ++ rearming_actions timer start stamp (entry arm))) notes call answer before after)
+    (low : moves.first c ≤ begin) (rearmed : IsRearmed w c notes at begin last timer popped arm start stamp) where
+  abbrev its : List Action
+  its = popped ++ rearming_actions timer start stamp (entry arm)
+
+  rearming_made : (IsTrueStart w timer (stamp + 1) false arm rearmed.ends → IsTrueEntry w timer (stamp + 1) (entry arm) rearmed.ends)
       → (MakesRearming (sight_of w begin last) w.script.limit (kind_of w.script timer) timer at entry (rearming_actions timer start stamp (entry arm))
-      → Does (sight_of w begin last) w.script at call answer [] [] (rearming_actions timer start stamp (entry arm)))
-      → AnswerHolds w begin last c at (rearming_actions timer start stamp (entry arm)) call answer → FitsCall w c call answer before after
+      → Does (sight_of w begin last) w.script at call answer [] [] its)
+      → AnswerHolds w begin last c at its call answer → FitsCall w c call answer before after
   rearming_made holds does seen =
+      let turn = popped ++ Began timer stamp ∷ start in
       call_made kept low (omega (arith, rearmed.between, rearmed.high)) rearmed.behind
       (does (record {
         arm = arm;
@@ -297,59 +302,74 @@ module _ {w : Witness} {moves signals : Spans} {c : Label} {at begin last timer 
         done = refl;
       }))
       (none_moved _ call, none_moved _ call)
-      (plain_then w c begin rearmed.ends last [] (Began timer stamp ∷ start) (Made timer (stamp + 1) (entry arm)) (
+      (subst (λ ds. AreTrue w c begin [] ds last) (append_assoc popped (Began timer stamp ∷ start) (Made timer (stamp + 1) (entry arm) ∷ []))
+      (plain_then w c begin rearmed.ends last [] turn (Made timer (stamp + 1) (entry arm))
+      (All-append IsPlain popped (Began timer stamp ∷ start) plain_pops (
         tt,
         plain_start (sight_of w rearmed.turn.begun last) w.script.limit timer rearmed.ns
             at (base_of (kind_of w.script timer)) modes.Keep arm start rearmed.arms,
-      ) rearmed.between rearmed.high (
-        moment_of kept (Began timer stamp ∷ start) rearmed.ends (omega (arith, low, rearmed.between)) rearmed.high rearmed.stops,
+      )) rearmed.between rearmed.high (
+        moment_of kept turn rearmed.ends (omega (arith, low, rearmed.between)) rearmed.high rearmed.stops,
         holds rearmed.holds,
-      ))
+      )))
       seen
 
-module _ {w : Witness} {moves signals : Spans} {c : Label} {at begin last timer : ℕ} {arm : Armed} {start : List Action} {stamp : ℕ} {notes : List PlacedEntry}
+-- law: a call for the next signal that popped one fits, and did nothing more: it wasn't pending, or its timer's history was full
+pub popped_made : {w : Witness} {moves : Spans} {c : Label} {at begin last : ℕ} {notes : List PlacedEntry} {answer : Answer} {before after : Seen}
+    (timer number pops : ℕ)
+    → IsKept w moves c (plain at begin last (Signalled (pop_counter w.script) pops (record { timer = timer; number = number }) ∷ [])) notes calls.Sigwait answer
+    before after → moves.first c ≤ begin → begin ≤ last → AllByRecursion (λ x. begin ≤ x.place) notes
+    → Does (sight_of w begin last) w.script at calls.Sigwait answer [] []
+    (Signalled (pop_counter w.script) pops (record { timer = timer; number = number }) ∷ [])
+    → AnswerHolds w begin last c at (Signalled (pop_counter w.script) pops (record { timer = timer; number = number }) ∷ []) calls.Sigwait answer
+    → FitsCall w c calls.Sigwait answer before after
+popped_made {begin = begin} timer number pops kept low high behind does holds = call_made kept low high behind does (tt, tt) (begin, omega arith, tt, high) holds
+
+module _ {w : Witness} {moves : Spans} {c : Label} {at begin last timer : ℕ} {arm : Armed} {start : List Action} {stamp : ℕ} {notes : List PlacedEntry}
     {before after : Seen} where
   -- law: an acceptance that makes an entry fits
   pub accept_made : (reply : AcceptReply)
-      → IsKept w moves signals c (plain at begin last (rearming_actions timer start stamp (object_entries.Accept at arm reply))) notes (calls.Accept timer)
+      → IsKept w moves c (plain at begin last (rearming_actions timer start stamp (object_entries.Accept at arm reply))) notes (calls.Accept timer)
       (answer_of_accept reply) before after
-      → moves.first c ≤ begin → IsRearmed w c notes at begin last timer arm start stamp
+      → moves.first c ≤ begin → IsRearmed w c notes at begin last timer [] arm start stamp
       → FitsCall w c (calls.Accept timer) (answer_of_accept reply) before after
   accept_made (acceptances.Accepted overrun) kept low rearmed =
-      rearming_made (λ arm. object_entries.Accept at arm (acceptances.Accepted overrun)) kept low rearmed (λ is. is) (λ makes. makes) tt
+      rearming_made [] tt (λ arm. object_entries.Accept at arm (acceptances.Accepted overrun)) kept low rearmed (λ is. is) (λ makes. makes) tt
   accept_made acceptances.NoSignal kept low rearmed =
-      rearming_made (λ arm. object_entries.Accept at arm acceptances.NoSignal) kept low rearmed (λ is. is) (λ makes. makes) tt
+      rearming_made [] tt (λ arm. object_entries.Accept at arm acceptances.NoSignal) kept low rearmed (λ is. is) (λ makes. makes) tt
 
-  -- law: an acceptance of the next signal fits, which was pending
-  pub signal_made : {turns : List (ℕ × Turn)} (number overrun : ℕ)
-      → IsKept w moves signals c (turning at begin last (rearming_actions timer start stamp (object_entries.Accept at arm
-      (acceptances.Accepted overrun))) turns)
+  -- law: an acceptance of the next signal fits, which was pending once it was popped
+  pub signal_made : (number pops overrun : ℕ)
+      → IsKept w moves c (plain at begin last (Signalled (pop_counter w.script) pops (record { timer = timer; number = number })
+      ∷ rearming_actions timer start stamp (object_entries.Accept at arm (acceptances.Accepted overrun))))
       notes calls.Sigwait (answers.Signal timer number overrun) before after
-      → moves.first c ≤ begin → IsRearmed w c notes at begin last timer arm start stamp → SendsSignals (kind_of w.script timer)
-      → is_fresh (queued_after w.script w.run timer (base_of (kind_of w.script timer)) stamp) number ≡ true
+      → moves.first c ≤ begin
+      → IsRearmed w c notes at begin last timer (Signalled (pop_counter w.script) pops (record { timer = timer; number = number }) ∷ []) arm start stamp
+      → SendsSignals (kind_of w.script timer) → is_fresh (queued_after w.script w.run timer (base_of (kind_of w.script timer)) stamp) number ≡ true
       → FitsCall w c calls.Sigwait (answers.Signal timer number overrun) before after
-  signal_made number overrun kept low rearmed queued fresh =
-      rearming_made (λ arm. object_entries.Accept at arm (acceptances.Accepted overrun)) kept low rearmed (λ is. is) (λ makes. (makes, queued)) fresh
+  signal_made number pops overrun kept low rearmed queued fresh =
+      rearming_made (Signalled (pop_counter w.script) pops (record { timer = timer; number = number }) ∷ []) (tt, tt)
+      (λ arm. object_entries.Accept at arm (acceptances.Accepted overrun)) kept low rearmed (λ is. is) (λ makes. ((pops, _, refl, makes), queued)) fresh
 
   -- law: a read that makes an entry fits
   pub read_made : (len : ℕ) (reply : ReadReply)
-      → IsKept w moves signals c (plain at begin last (rearming_actions timer start stamp (object_entries.Read at arm reply))) notes (calls.Read timer len)
+      → IsKept w moves c (plain at begin last (rearming_actions timer start stamp (object_entries.Read at arm reply))) notes (calls.Read timer len)
       (answer_of_read reply) before after
-      → moves.first c ≤ begin → IsRearmed w c notes at begin last timer arm start stamp → count_length ≤ len
+      → moves.first c ≤ begin → IsRearmed w c notes at begin last timer [] arm start stamp → count_length ≤ len
       → FitsCall w c (calls.Read timer len) (answer_of_read reply) before after
   read_made len (reads.Count total) kept low rearmed room =
-      rearming_made (λ arm. object_entries.Read at arm (reads.Count total)) kept low rearmed (λ is. is) (λ makes. (makes, room)) tt
+      rearming_made [] tt (λ arm. object_entries.Read at arm (reads.Count total)) kept low rearmed (λ is. is) (λ makes. (makes, room)) tt
   read_made len reads.Again kept low rearmed room =
-      rearming_made (λ arm. object_entries.Read at arm reads.Again) kept low rearmed (λ is. is) (λ makes. (makes, room)) tt
+      rearming_made [] tt (λ arm. object_entries.Read at arm reads.Again) kept low rearmed (λ is. is) (λ makes. (makes, room)) tt
   read_made len reads.Canceled kept low rearmed room =
-      rearming_made (λ arm. object_entries.Read at arm reads.Canceled) kept low rearmed (λ is. is) (λ makes. (makes, room)) tt
+      rearming_made [] tt (λ arm. object_entries.Read at arm reads.Canceled) kept low rearmed (λ is. is) (λ makes. (makes, room)) tt
 
   -- law: a gettime of a descriptor that makes an entry fits
   pub gettime_made : (base left interval : ℕ)
-      → IsKept w moves signals c (plain at begin last (rearming_actions timer start stamp (object_entries.Gettime at arm left interval))) notes
+      → IsKept w moves c (plain at begin last (rearming_actions timer start stamp (object_entries.Gettime at arm left interval))) notes
       (calls.Gettime timer) (answers.Left left interval) before after
-      → moves.first c ≤ begin → IsRearmed w c notes at begin last timer arm start stamp → kind_of w.script timer ≡ kinds.Fd base
+      → moves.first c ≤ begin → IsRearmed w c notes at begin last timer [] arm start stamp → kind_of w.script timer ≡ kinds.Fd base
       → FitsCall w c (calls.Gettime timer) (answers.Left left interval) before after
   gettime_made base left interval kept low rearmed kind =
-      rearming_made (λ arm. object_entries.Gettime at arm left interval) kept low rearmed (λ is. is)
+      rearming_made [] tt (λ arm. object_entries.Gettime at arm left interval) kept low rearmed (λ is. is)
       (λ makes. (makes, subst IsFd (sym kind) tt)) tt

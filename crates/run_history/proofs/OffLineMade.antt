@@ -27,7 +27,7 @@ plain_evacuations heir reading (e ∷ moved) end all = (tt, (tt, plain_evacuatio
 -- what a call did that moved these timers to the heir, and ended so
 abbrev pub evacuating : ℕ → ℕ → ℕ → ℕ → List Evacuation → List Action → Trace
 evacuating at first last heir moved end =
-    record { at = at; fired = []; moved = moved; actions = flat_map (evacuates heir at) moved ++ end; first = first; last = last; turns = [] }
+    record { at = at; fired = []; moved = moved; actions = flat_map (evacuates heir at) moved ++ end; first = first; last = last }
 
 -- the entry that ends it, where the base went off line
 abbrev pub shift_by : ℕ → ℕ → Answer → List Action
@@ -35,9 +35,9 @@ shift_by base heir (answers.Offline count stamp) = Shifted base stamp (shifts.Of
 shift_by base heir answer = []
 
 -- law: a call that took a base off line, or was refused while it moved timers, fits
-pub offline_made : {w : Witness} {moves signals : Spans} {c : Label} {at first last : ℕ} {notes : List PlacedEntry} {before after : Seen} (base heir budget : ℕ)
+pub offline_made : {w : Witness} {moves : Spans} {c : Label} {at first last : ℕ} {notes : List PlacedEntry} {before after : Seen} (base heir budget : ℕ)
     (moved : List Evacuation) (answer : Answer)
-    → IsKept w moves signals c (evacuating at first last heir moved (shift_by base heir answer)) notes (calls.Offline base heir budget) answer before after
+    → IsKept w moves c (evacuating at first last heir moved (shift_by base heir answer)) notes (calls.Offline base heir budget) answer before after
     → first ≡ moves.first c
     → Does (sight_of w first last) w.script at (calls.Offline base heir budget) answer [] moved (flat_map
     (evacuates heir at) moved ++ shift_by base heir answer)
@@ -54,8 +54,8 @@ offline_made {w = w} {c = c} {at = at} {first = first} {last = last} base heir b
     plain_shift answer = tt
 
 -- law: so does one that brought a base on line again
-pub online_made : {w : Witness} {moves signals : Spans} {c : Label} {at first last : ℕ} {notes : List PlacedEntry} {before after : Seen} (base stamp : ℕ)
-    → IsKept w moves signals c (plain at first last (Shifted base stamp shifts.Online ∷ [])) notes (calls.Online base) (answers.Online stamp) before after
+pub online_made : {w : Witness} {moves : Spans} {c : Label} {at first last : ℕ} {notes : List PlacedEntry} {before after : Seen} (base stamp : ℕ)
+    → IsKept w moves c (plain at first last (Shifted base stamp shifts.Online ∷ [])) notes (calls.Online base) (answers.Online stamp) before after
     → first ≡ moves.first c → FitsCall w c (calls.Online base) (answers.Online stamp) before after
 online_made {first = first} base stamp kept starts =
     call_made_whole kept starts refl (tt, tt) (first, omega arith, tt, omega (arith, starts, kept.forward)) tt

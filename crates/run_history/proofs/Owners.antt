@@ -11,13 +11,13 @@ use Rattle.seq_timer.specs.declared.system.SystemEntry.TheVariants as entries
 use Rattle.record_text.specs.declared.record.BaseLine.{BaseLine}
 use Rattle.record_text.specs.declared.record.ClockLine.{ClockLine}
 use Rattle.record_text.specs.declared.record.ObjectLine.{ObjectLine}
-use Rattle.record_text.specs.declared.record.RunRecord.{RunRecord}
 use Rattle.record_text.specs.declared.record.TimerLine.{TimerLine}
 use Rattle.run_history.specs.Actions.{also}
 use Rattle.run_history.specs.Histories.{lines_of_base, lines_of_timer}
 use Rattle.run_history.specs.Objects.{lines_of_object}
 use Rattle.run_history.specs.Receipts.{count_owned, no_line}
-use Rattle.run_history.specs.Witnesses.{BasesList, CountersList, Owner, TimersList, is_owner, line_of_base, line_of_object, line_of_timer, line_of_write, lines_at, owner_of, owner_of_entry, twice}
+use Rattle.run_history.specs.Signals.{SignalLine}
+use Rattle.run_history.specs.Witnesses.{RunLists, BasesList, CountersList, Owner, TimersList, is_owner, line_of_base, line_of_object, line_of_signal, line_of_timer, line_of_write, lines_at, owner_of, owner_of_entry, twice}
 
 pub owner_itself : (o : Owner) → is_owner o o ≡ true
 owner_itself (TimersList t) = eq-eqb t t refl
@@ -42,30 +42,37 @@ pub other_owner : (a o : Owner) → is_owner a o ≡ false → a ≡ o → ⊥
 other_owner a o not same = true≢false (sym (owner_is a o same) ∙ not)
 
 -- each line of a list is its own
-pub owner_at : (r : RunRecord) (o : Owner) (n : ℕ) → owner_of (get_or (lines_at r o) n (no_line o)).shown ≡ o
-owner_at r (TimersList t) n = of_timers (lines_of_timer r t) n
+pub owner_at : (r : RunLists) (o : Owner) (n : ℕ) → owner_of (get_or (lines_at r o) n (no_line o)).shown ≡ o
+owner_at r (TimersList t) n = of_timers (lines_of_timer r.run t) n
   where
     of_timers : (lines : List TimerLine) (n : ℕ) → owner_of (get_or (map (line_of_timer t) lines) n (no_line (TimersList t))).shown ≡ TimersList t
     of_timers [] n = refl
     of_timers (line ∷ lines) zero = refl
     of_timers (line ∷ lines) (suc n) = of_timers lines n
-owner_at r (BasesList b) n = of_bases (lines_of_base r b) n
+owner_at r (BasesList b) n = of_bases (lines_of_base r.run b) n
   where
     of_bases : (lines : List BaseLine) (n : ℕ) → owner_of (get_or (map (line_of_base b) lines) n (no_line (BasesList b))).shown ≡ BasesList b
     of_bases [] n = refl
     of_bases (line ∷ lines) zero = refl
     of_bases (line ∷ lines) (suc n) = of_bases lines n
-owner_at r (CountersList zero) n = of_writes r.clock n
+owner_at r (CountersList zero) n = of_writes r.run.clock n
   where
     of_writes : (lines : List ClockLine) (n : ℕ) → owner_of (get_or (map line_of_write lines) n (no_line (CountersList 0))).shown ≡ CountersList 0
     of_writes [] n = refl
     of_writes (line ∷ lines) zero = refl
     of_writes (line ∷ lines) (suc n) = of_writes lines n
-owner_at r (CountersList (suc i)) n = of_objects (lines_of_object r i) n
+owner_at r (CountersList (suc i)) n = of_objects (lines_of_object r.run i) n
   where
+    of_signals : (lines : List SignalLine) (n : ℕ)
+        → owner_of (get_or (map (line_of_signal (suc i)) lines) n (no_line (CountersList (suc i)))).shown ≡ CountersList (suc i)
+    of_signals [] n = refl
+    of_signals (line ∷ lines) zero = refl
+    of_signals (line ∷ lines) (suc n) = of_signals lines n
+
     of_objects : (lines : List ObjectLine) (n : ℕ)
-        → owner_of (get_or (twice (map (line_of_object i) lines)) n (no_line (CountersList (suc i)))).shown ≡ CountersList (suc i)
-    of_objects [] n = refl
+        → owner_of (get_or (twice (map (line_of_object i) lines) ++ map (line_of_signal (suc i)) (r.signals (suc i))) n (no_line (CountersList (suc i)))).shown
+        ≡ CountersList (suc i)
+    of_objects [] n = of_signals (r.signals (suc i)) n
     of_objects (line ∷ lines) zero = refl
     of_objects (line ∷ lines) (suc zero) = refl
     of_objects (line ∷ lines) (suc (suc n)) = of_objects lines n

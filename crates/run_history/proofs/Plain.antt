@@ -1,11 +1,11 @@
--- Entries that tell nothing that must be looked up: those of bases, the beginnings of turns, and those of timers that aren't claims.
+-- Entries that tell nothing that must be looked up: those of bases, the beginnings of turns, pushes and pops, and those of timers that aren't claims.
 use Rattle.std.proofs.Common.{◌≤◌, ℕ, List, [], ◌∷◌, ◌++◌, arith, sym, subst}
 use Rattle.std.specs.List.{AllByRecursion}
 use Rattle.std.proofs.lemmas.List.{append-nil, append_assoc}
 use Rattle.seq_timer.specs.declared.event.EventBy.{EventBy}
 use Rattle.seq_timer.specs.declared.event.EventBy.TheVariants as events
 use Rattle.record_text.specs.declared.record.Label.{Label}
-use Rattle.run_history.specs.Actions.{Action, Began, Entered, Looked, Made, Shifted, Skipped, Wrote}
+use Rattle.run_history.specs.Actions.{Action, Began, Entered, Looked, Made, Shifted, Signalled, Skipped, Wrote}
 use Rattle.run_history.specs.Starts.{Arming, SentTo, arming_actions, moves}
 use Rattle.run_history.specs.Truths.{AreTrue, IsMoment, IsTrue, OfClaim}
 use Rattle.run_history.specs.Witnesses.{Witness}
@@ -15,6 +15,7 @@ abbrev pub IsPlain : Action → Type 0
 IsPlain (Entered timer number entry) = OfClaim entry.event ⊥
 IsPlain (Began i stamp) = Unit
 IsPlain (Shifted base number event) = Unit
+IsPlain (Signalled counter number signal) = Unit
 IsPlain action = ⊥
 
 no_claim : (event : EventBy ℕ) (P : Type 0) → OfClaim event ⊥ → OfClaim event P
@@ -35,6 +36,8 @@ plain_true w c from to before (Began i stamp ∷ ds) plain le =
     (from, omega arith, tt, plain_true w c from to (before ++ Began i stamp ∷ []) ds plain.1 le)
 plain_true w c from to before (Shifted base number event ∷ ds) plain le =
     (from, omega arith, tt, plain_true w c from to (before ++ Shifted base number event ∷ []) ds plain.1 le)
+plain_true w c from to before (Signalled counter number signal ∷ ds) plain le =
+    (from, omega arith, tt, plain_true w c from to (before ++ Signalled counter number signal ∷ []) ds plain.1 le)
 plain_true w c from to before (Wrote number write ∷ ds) plain le = absurd plain.0
 plain_true w c from to before (Looked timer number reply ∷ ds) plain le = absurd plain.0
 plain_true w c from to before (Made i number entry ∷ ds) plain le = absurd plain.0
@@ -64,6 +67,13 @@ plain_then w c from n last before (Shifted base number event ∷ ds) d plain le 
   tt,
   plain_then w c from n last (before ++ Shifted base number event ∷ []) ds d plain.1 le high
       (subst (λ b. IsTrue w c b d n) (sym (append_assoc before (Shifted base number event ∷ []) ds)) is),
+)
+plain_then w c from n last before (Signalled counter number signal ∷ ds) d plain le high is = (
+  from,
+  omega arith,
+  tt,
+  plain_then w c from n last (before ++ Signalled counter number signal ∷ []) ds d plain.1 le high
+      (subst (λ b. IsTrue w c b d n) (sym (append_assoc before (Signalled counter number signal ∷ []) ds)) is),
 )
 plain_then w c from n last before (Wrote number write ∷ ds) d plain le high is = absurd plain.0
 plain_then w c from n last before (Looked timer number reply ∷ ds) d plain le high is = absurd plain.0

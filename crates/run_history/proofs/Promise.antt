@@ -16,9 +16,7 @@ use Rattle.run_history.specs.Witnesses.{entries_in}
 use Rattle.run_history.specs.Fits.{Seen}
 use Rattle.run_history.specs.Promises.{RunGoesOn, GoesOnClock, HasLog, IsRightLog}
 use Rattle.run_history.specs.Receipts.{AreAll}
-use Rattle.run_history.specs.Runs.{CallLog, clock_spans, witness_of, Ending, IsJoined, moves_spans, signal_spans}
-use Rattle.run_history.specs.Signals.{signal_labels}
-use Rattle.run_history.proofs.Rounds.{within_span}
+use Rattle.run_history.specs.Runs.{CallLog, clock_spans, witness_of, Ending, IsJoined, moves_spans}
 use Rattle.run_history.proofs.Kept.{IsKept}
 use Rattle.run_history.proofs.Points.{reading_from}
 
@@ -26,8 +24,8 @@ use Rattle.run_history.proofs.Points.{reading_from}
 
 module _ {s : Script} {e : Ending} {c : Label} {log : CallLog} (joined : IsJoined s e) (is : IsLabel s c) (has : HasLog e c log) where
   -- law: then the call is as the lemmas of calls ask
-  pub kept_from : {call : Call} {answer : Answer} {before after : Seen} → IsRightLog s log call answer before after
-      → IsKept (witness_of s e) (moves_spans e) (signal_spans e) c log.trace log.notes call answer before after
+  pub kept_from : {call : Call} {answer : Answer} {before after : Seen} → IsRightLog log before after
+      → IsKept (witness_of s e) (moves_spans e) c log.trace log.notes call answer before after
   kept_from {before = before} {after = after} logged =
       let of : (P : CallLog → Type 0) → P log → P (e.logs c) = λ P. subst P (sym has.kept) in record {
         trace = ap (λ (l : CallLog). l.trace) has.kept;
@@ -46,9 +44,7 @@ module _ {s : Script} {e : Ending} {c : Label} {log : CallLog} (joined : IsJoine
             (of (λ l. l.clock.0 ≤ log.trace.at) logged.reading.0) (of (λ l. log.trace.at ≤ l.clock.1) logged.reading.1) has.clock logged.writes;
         clock_steps = logged.clock_steps;
         move_steps = (of (λ l. before.moves ≤ l.moves.0) logged.move_steps.0, of (λ l. l.moves.1 ≤ after.moves) logged.move_steps.1);
-        signalled = record { own = has.turns; are = logged.turns };
-        hears = λ n low high. within_span s (signal_labels e.signals) (signal_spans e) joined.signals.laid c n is low high;
-        signal_steps = logged.signal_steps;
+        signals = has.signals;
       }
 
 -- ---- what its passes had seen

@@ -8,6 +8,7 @@ use Rattle.timer_setting.specs.declared.arming.Wanted.{Wanted}
 use Rattle.script_text.specs.declared.script.Callback.{Callback}
 use Rattle.script_text.specs.declared.script.Callback.TheVariants as callbacks
 use Rattle.script_text.specs.declared.script.Kind.{Kind}
+use Rattle.script_text.specs.declared.script.Script.{Script}
 use Rattle.script_text.specs.declared.script.Kind.TheVariants as kinds
 use Rattle.run_history.specs.Actions.{Action}
 use Rattle.run_history.specs.Deeds.{IsBody, IsCallback, StartsItself}
@@ -94,9 +95,9 @@ module _ (narrow wide : Sight) (is : IsWider narrow wide) where
   callback_wider limit (callbacks.Starts ns base) reading f is =
       (⊎_elim (λ started. inl (started.0, started.1, starts_wider started.2)) (λ spent. inr spent) is.0, is.1)
 
-  pub body_wider : (limit : ℕ) (kind : Kind) (reading : ℕ) (f : Fired) → IsBody narrow limit kind reading f → IsBody wide limit kind reading f
-  body_wider limit (kinds.Raw context callback) reading f is = callback_wider limit callback reading f is
-  body_wider limit (kinds.Posix base) reading f is = is
-  body_wider limit (kinds.Fd base) reading f is = is
-  body_wider limit (kinds.Queued base) reading f is = is
-  body_wider limit (kinds.Sleeper base) reading f is = is
+  pub body_wider : (s : Script) (kind : Kind) (reading : ℕ) (f : Fired) → IsBody narrow s kind reading f → IsBody wide s kind reading f
+  body_wider s (kinds.Raw context callback) reading f is = callback_wider s.limit callback reading f is
+  body_wider s (kinds.Posix base) reading f is = is
+  body_wider s (kinds.Fd base) reading f is = is
+  body_wider s (kinds.Queued base) reading f is = is
+  body_wider s (kinds.Sleeper base) reading f is = is

@@ -11,8 +11,8 @@ use Rattle.script_text.specs.declared.script.Script.{Script}
 use Rattle.run_history.specs.Witnesses.{labels, Move, Shown, witness_with}
 use Rattle.run_history.specs.Fits.{Fits, FitsIn}
 use Rattle.run_history.specs.Receipts.{AreAll, shape, weave}
-use Rattle.run_history.specs.Runs.{clock_spans, witness_of, Ending, IsEnding, IsJoined, IsRun, moves_spans, notes_in, signal_spans}
-use Rattle.run_history.specs.Signals.{signal_labels}
+use Rattle.run_history.specs.Runs.{clock_spans, witness_of, Ending, IsEnding, IsJoined, IsRun, lists_of, moves_spans, notes_in}
+use Rattle.run_history.specs.Signals.{AreSignals}
 use Rattle.run_history.proofs.Filed.{receipts_from}
 use Rattle.run_history.proofs.Labels.{label_itself}
 use Rattle.run_history.proofs.Laid.{are_all, AreReceipts, is_among, placed_among}
@@ -23,15 +23,15 @@ use Rattle.run_history.proofs.Shown.{shows_from}
 use Rattle.run_history.proofs.Weave.{IsShown, length_weave, one_history_from, woven}
 
 module _ (s : Script) (e : Ending) (ends : IsEnding s e) where
-  receipts : AreReceipts e.run e.order (notes_in e)
-  receipts = receipts_from e.run e.order (notes_in e) ends.sorted ends.filed
+  receipts : AreReceipts (lists_of e) e.order (notes_in e)
+  receipts = receipts_from (lists_of e) e.order (notes_in e) ends.sorted ends.filed
 
   each_is_all : (c : Label) → AreAll c (witness_of s e).moves (notes_in e c)
-  each_is_all c = are_all e.run e.order (notes_in e) receipts c
+  each_is_all c = are_all (lists_of e) e.order (notes_in e) receipts c
 
   -- each entry of the order is shown by its line
-  shown_each : (before : List SystemEntry) (x : SystemEntry) (later : List SystemEntry) → e.order ≡ before ++ x ∷ later → IsShown e.run before x
-  shown_each = shows_from e.run e.order (notes_in e) receipts ends.entries
+  shown_each : (before : List SystemEntry) (x : SystemEntry) (later : List SystemEntry) → e.order ≡ before ++ x ∷ later → IsShown (lists_of e) before x
+  shown_each = shows_from (lists_of e) e.order (notes_in e) receipts ends.entries
 
   -- each entry of the order stands in the span of its call, as the call's receipt does
   pub joined_from : IsJoined s e
@@ -42,16 +42,16 @@ module _ (s : Script) (e : Ending) (ends : IsEnding s e) where
     all = each_is_all;
     moves_laid = record {
       inside = λ p x at.
-          let m = map_get (λ (m : Move). m.label) (weave e.run [] e.order) p x at in
+          let m = map_get (λ (m : Move). m.label) (weave (lists_of e) [] e.order) p x at in
           let own : is_label x m.0.label ≡ true = ap (is_label x) m.2 ∙ label_itself x in
-          let note = placed_among (0 + p, shape m.0) (notes_in e x) (is_among e.run e.order (notes_in e) receipts x p m.0 m.1 own) in
+          let note = placed_among (0 + p, shape m.0) (notes_in e x) (is_among (lists_of e) e.order (notes_in e) receipts x p m.0 m.1 own) in
           let here = all_at (λ y. IsLabel s x × ((e.logs x).moves.0 ≤ y.place) × (y.place < (e.logs x).moves.1)) (notes_in e x) note.0 note.1 (ends.inside x)
           note.2 in
           let place : 0 + p ≡ note.1.place = ap (λ (y : ℕ × (ℕ × Shown)). y.0) note.3 in
           (here.0, omega (arith, place, here.1), omega (arith, place, here.2));
       ledger = ends.ledger;
       most = λ c is. subst (λ n. (e.logs c).moves.1 ≤ n)
-          (sym (length-map (weave e.run [] e.order) (λ (m : Move). m.label) ∙ length_weave e.run [] e.order)) (ends.whole c is);
+          (sym (length-map (weave (lists_of e) [] e.order) (λ (m : Move). m.label) ∙ length_weave (lists_of e) [] e.order)) (ends.whole c is);
     };
     clock_laid = ends.clock_laid;
     signals = ends.signals;
@@ -77,11 +77,7 @@ module _ (s : Script) (e : Ending) (ends : IsEnding s e) where
     object_histories = ends.object_histories;
     clock_order = in_order s (clock_labels e.run) (clock_spans e) ends.clock_laid;
     order = in_order s (labels (witness_of s e)) (moves_spans e) joined_from.moves_laid;
-    signals = record {
-      legal = ends.signals.legal;
-      calls = labels_from s (signal_labels e.signals) (signal_spans e) ends.signals.laid;
-      order = in_order s (signal_labels e.signals) (signal_spans e) ends.signals.laid;
-    };
+    signals = subst (AreSignals s e.signals) (sym joined_from.entries) ends.signals.legal;
     calls = λ lane. ends.calls lane joined_from;
   }
 

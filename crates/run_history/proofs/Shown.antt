@@ -6,9 +6,8 @@ use Rattle.std.proofs.lemmas.List.{take_all}
 use Rattle.std.proofs.lemmas.Option.{get_or_from_slice_get, same_Some, slice_get-get_or, slice_get_within}
 use Rattle.seq_timer.specs.declared.system.SystemEntry.{SystemEntry}
 use Rattle.record_text.specs.declared.record.Label.{Label}
-use Rattle.record_text.specs.declared.record.RunRecord.{RunRecord}
 use Rattle.run_history.specs.Actions.{also}
-use Rattle.run_history.specs.Witnesses.{Owner, ShownLine, entry_of_shown, is_owner, lines_at, owner_of_entry}
+use Rattle.run_history.specs.Witnesses.{RunLists, Owner, ShownLine, entry_of_shown, is_owner, lines_at, owner_of_entry}
 use Rattle.run_history.specs.Receipts.{count_owned, IsMade, no_line, PlacedEntry, ShowsEntry}
 use Rattle.run_history.proofs.Laid.{AreReceipts, counts_more, IsLine, same_place}
 use Rattle.run_history.proofs.Lists.{all_at, at_seam}
@@ -56,8 +55,8 @@ entry_place o k e (y ∷ xs) at =
         one_more a k e = omega (arith, e)
 
 -- law: so each entry of the order is shown by its line
-pub shows_from : (r : RunRecord) (order : List SystemEntry) (notes : Label → List PlacedEntry) → AreReceipts r order notes
-    → ((c : Label) → AllByRecursion (ShowsEntry r order) (notes c))
+pub shows_from : (r : RunLists) (order : List SystemEntry) (notes : Label → List PlacedEntry) → AreReceipts r order notes
+    → ((c : Label) → AllByRecursion (ShowsEntry r.run order) (notes c))
     → (before : List SystemEntry) (x : SystemEntry) (later : List SystemEntry) → order ≡ before ++ x ∷ later → IsShown r before x
 shows_from r order notes all entries before x later is =
     let o = owner_of_entry x in
@@ -72,7 +71,7 @@ shows_from r order notes all entries before x later is =
     let note = noted.note in
     let made = all_at (IsMade order) (notes line.label) noted.index note (all.made line.label) noted.there in
     let its = all_at (IsLine r line.label) (notes line.label) noted.index note (all.lines line.label) noted.there in
-    let shows = all_at (ShowsEntry r order) (notes line.label) noted.index note (entries line.label) noted.there in
+    let shows = all_at (ShowsEntry r.run order) (notes line.label) noted.index note (entries line.label) noted.there in
     let number : count_owned o (take note.place order) + 1 ≡ note.number =
     subst (λ u. count_owned u (take note.place order) + 1 ≡ note.number) noted.owner made.number in
     let owner : owner_of_entry made.step ≡ o = ◌∙◌ {a = owner_of_entry made.step} made.owner noted.owner in
@@ -85,7 +84,7 @@ shows_from r order notes all entries before x later is =
     get_or_from_slice_get (lines_at r o) n (record { label = line.label; shown = note.shown }) (no_line o)
     (subst (λ k. slice_get (lines_at r o) k ≡ Some (record { label = line.label; shown = note.shown })) before_is
     (subst (λ u. slice_get (lines_at r u) its.before ≡ Some (record { label = line.label; shown = note.shown })) noted.owner its.there)) in
-    ap (λ (l : ShownLine). entry_of_shown r.clock l.shown) line_is ∙ sym shows.entry ∙ step_is
+    ap (λ (l : ShownLine). entry_of_shown r.run.clock l.shown) line_is ∙ sym shows.entry ∙ step_is
   where
     within : (n l k m : ℕ) {a : ℕ} → m ≡ n → l ≡ k → m + 1 ≤ a → a ≡ k → n < l
     within n l k m u e le f = omega (arith, u, e, le, f)

@@ -43,7 +43,7 @@ use Rattle.run_history.specs.Told.{IsOutOfRange}
 use Rattle.run_history.specs.Witnesses.{Evacuation, Fired, Witness, standing_along, timer_along}
 use Rattle.run_history.specs.Truths.{DisarmedFirst, HadEntries, IsDone, MayGo, NothingTold, RefusedBefore, RanFirst, RanNone}
 use Rattle.run_history.specs.Truths.{Saw, SawFull, SawFullOn, SawRefusal, SawStale, SawWaiting, StandsAt, WasFresh}
-use Rattle.run_history.specs.Deeds.{Anew, Cancels, Deed, Did, Evacuates, Never, Nothing, Rearms, Runs, Shifts, Starts, Where, Writes}
+use Rattle.run_history.specs.Deeds.{Anew, Cancels, Deed, Did, Evacuates, Never, Nothing, Pops, Rearms, Runs, Shifts, Starts, Where, Writes}
 
 -- a call in the one order: its label, its first and its last moment, and what it did
 pub record CallSpan : Type 0 where
@@ -112,8 +112,8 @@ IsFd kind = ⊥
 -- The table, by the script and the call's reading. What an answer tells of timers, bases and objects held at the call's last moment; that a base might go off
 -- line held at its first. A settime that cancelled nothing found an idle timer when it had begun its turn; one whose start was refused tells of a moment behind
 -- that, and before its object's entry. A write is refused only while the clock may take more of them, and where one of its times would be past the latest; the
--- answer is the greatest of these. That the clock has taken too many writes is never answered. What a call popped off the queue of signals its answer names
--- (`popped_by`).
+-- answer is the greatest of these. That the clock has taken too many writes is never answered. A call for the next signal popped the signal that its answer
+-- names, before all else that it did.
 abbrev pub call_row : Script → ℕ → Call → Answer → CallRow
 call_row s reading (calls.Start timer request) (answers.Started generation on was_armed) = only (Starts timer request generation on was_armed)
 call_row s reading (calls.Start timer request) (answers.Spent stamp) = told_by_look (λ c. SawRefusal c.w timer stamp c.last)
@@ -192,18 +192,19 @@ call_row s reading (calls.Slept timer) (answers.Sleeping stamp) = told_by_look (
 call_row s reading (calls.Slept timer) (answers.SleptAt stamp) = told_by_look (SawSleep s timer stamp (λ sleep. slept_answer sleep ≡ looks.Slept))
 call_row s reading (calls.Slept timer) (answers.Awake stamp) = told_by_look (SawSleep s timer stamp (λ sleep. slept_answer sleep ≡ looks.Awake))
 call_row s reading calls.Sigwait (answers.Signal timer number overrun) = record {
-  did = Where (Rearms timer (λ arm. object_entries.Accept reading arm (acceptances.Accepted overrun))) (SendsSignals (kind_of s timer));
+  did = Where (Pops (record { timer = timer; number = number }) (Rearms timer (λ arm. object_entries.Accept reading arm (acceptances.Accepted overrun))))
+      (SendsSignals (kind_of s timer));
   tells = λ c. WasFresh c.w timer (base_of (kind_of s timer)) number c.actions;
 }
 call_row s reading calls.Sigwait (answers.StaleSignal timer number) = record {
-  did = Where Nothing (SendsSignals (kind_of s timer));
+  did = Where (Pops (record { timer = timer; number = number }) Nothing) (SendsSignals (kind_of s timer));
   tells = λ c. SawStale c.w timer (base_of (kind_of s timer)) number c.last;
 }
 call_row s reading calls.Sigwait (answers.SpentSignal timer number) = record {
-  did = Where Nothing (SendsSignals (kind_of s timer));
+  did = Where (Pops (record { timer = timer; number = number }) Nothing) (SendsSignals (kind_of s timer));
   tells = λ c. (stamp : ℕ) × SawFull c.w timer stamp c.last × (number ≤ stamp);
 }
-call_row s reading calls.Sigwait answers.NoneQueued = told_by_look (λ c. SawWaiting c.w c.label 0)
+call_row s reading calls.Sigwait answers.NoneQueued = told_by_look (λ c. SawWaiting c.w 0 c.last)
 call_row s reading (calls.Offline base heir budget) (answers.Offline moved stamp) = record {
   did = Evacuates heir moved (Shifted base stamp (shifts.Offline heir) ∷ []) (λ number. number ≤ budget);
   tells = λ c. MayGo c.w base heir c.first × IsUnused (timer_along c.w c.last) base;

@@ -28,7 +28,9 @@ use Rattle.script_text.specs.Declarations.{declared_of, without_slack, kind_of}
 use Rattle.run_history.specs.Histories.{timer_after}
 use Rattle.run_history.specs.Starts.{Arming, IsArming, Sight, arming_actions, from_moment, was_armed_before}
 use Rattle.run_history.specs.ObjectCalls.{MakesAnew, MakesRearming}
-use Rattle.run_history.specs.Actions.{Action, Began, Wrote, Entered, Looked, Made, Shifted, Skipped}
+use Rattle.run_history.specs.Actions.{Action, Began, Wrote, Entered, Looked, Made, Shifted, Signalled, Skipped}
+use Rattle.run_history.specs.Signals.{pop_counter, push_counter}
+use Rattle.signal_queue.specs.declared.signal.Signal.{Signal}
 use Rattle.run_history.specs.Witnesses.{Evacuation, Fired}
 
 -- all that an expiry run did for one callback
@@ -46,11 +48,17 @@ IsTrigger reading f =
     ⊎ ((number : ℕ) × (f.body ≡ Skipped f.timer number f.generation ∷ [])))
     × (f.restart ≡ false)
 
--- the same of a queued timer's, whose expiry may find no room for its signal
-abbrev pub IsQueuedTrigger : ℕ → Fired → Type 0
-IsQueuedTrigger reading f =
-    IsTrigger reading f
-    ⊎ (((stamp : ℕ) × (f.body ≡ Began f.timer stamp ∷ Made f.timer (stamp + 1) (object_entries.Overflow f.generation reading) ∷ [])) × (f.restart ≡ false))
+-- The same of a queued timer's, whose pushes raise this counter. An expiry that counts pushes its signal, which has the number of the entry, in the turn of the
+-- object; or it found no room there for it.
+abbrev pub IsQueuedTrigger : ℕ → ℕ → Fired → Type 0
+IsQueuedTrigger pushes reading f =
+    (((stamp : ℕ) × (f.body ≡ Began f.timer stamp ∷ Made f.timer (stamp + 1) (object_entries.Trigger f.generation reading false) ∷ []))
+    ⊎ (((stamp : ℕ) × (number : ℕ)
+    × (f.body ≡ Began f.timer stamp ∷ Signalled pushes number (record { timer = f.timer; number = stamp + 1 })
+    ∷ Made f.timer (stamp + 1) (object_entries.Trigger f.generation reading true) ∷ []))
+    ⊎ (((stamp : ℕ) × (f.body ≡ Began f.timer stamp ∷ Made f.timer (stamp + 1) (object_entries.Overflow f.generation reading) ∷ []))
+    ⊎ ((number : ℕ) × (f.body ≡ Skipped f.timer number f.generation ∷ [])))))
+    × (f.restart ≡ false)
 
 -- the entries of one move of a timer to an heir, which keeps its expiries
 abbrev pub evacuates : ℕ → ℕ → Evacuation → List Action
@@ -106,12 +114,12 @@ module _ (sight : Sight) where
       × (f.restart ≡ true)
 
   -- what runs when a timer is claimed, by its kind
-  abbrev pub IsBody : ℕ → Kind → ℕ → Fired → Type 0
-  IsBody limit (kinds.Raw context callback) reading f = IsCallback limit callback reading f
-  IsBody limit (kinds.Posix base) reading f = IsTrigger reading f
-  IsBody limit (kinds.Fd base) reading f = IsTrigger reading f
-  IsBody limit (kinds.Queued base) reading f = IsQueuedTrigger reading f
-  IsBody limit (kinds.Sleeper base) reading f = IsTrigger reading f
+  abbrev pub IsBody : Script → Kind → ℕ → Fired → Type 0
+  IsBody s (kinds.Raw context callback) reading f = IsCallback s.limit callback reading f
+  IsBody s (kinds.Posix base) reading f = IsTrigger reading f
+  IsBody s (kinds.Fd base) reading f = IsTrigger reading f
+  IsBody s (kinds.Queued base) reading f = IsQueuedTrigger (push_counter s) reading f
+  IsBody s (kinds.Sleeper base) reading f = IsTrigger reading f
 
   -- what an expiry run did: each callback as its timer declares it, of the run's context, all by one reading, and the timers in the order of their
   -- claims
@@ -121,7 +129,7 @@ module _ (sight : Sight) where
     pub claimed : timers ≡ map (λ f. f.timer) fired
     pub done : actions ≡ flat_map (fires base reading) fired
     pub contexts : AllByRecursion (λ f. (declared_of s f.timer).context ≡ context) fired
-    pub bodies : AllByRecursion (λ f. IsBody s.limit (kind_of s f.timer) reading f) fired
+    pub bodies : AllByRecursion (λ f. IsBody s (kind_of s f.timer) reading f) fired
 
 -- ---- what a call did
 
@@ -143,6 +151,8 @@ pub data Deed : Type 1 where
   Evacuates : (heir count : ℕ) (end : List Action) (IsCount : ℕ → Type 0) → Deed
   -- an entry of a base
   Shifts : (base stamp : ℕ) (event : BaseEvent) → Deed
+  -- a pop of this signal, and one of these behind it
+  Pops : (signal : Signal) (did : Deed) → Deed
   -- one of these, and this holds besides
   Where : (did : Deed) (IsSo : Type 0) → Deed
 
@@ -162,4 +172,6 @@ Did sight s reading (Anew timer wanted entry) fired moved actions = MakesAnew si
 Did sight s reading (Rearms timer entry) fired moved actions = MakesRearming sight s.limit (kind_of s timer) timer reading entry actions
 Did sight s reading (Evacuates heir count end IsCount) fired moved actions = IsEvacuation heir reading count moved end actions × IsCount count
 Did sight s reading (Shifts base stamp event) fired moved actions = actions ≡ Shifted base stamp event ∷ []
+Did sight s reading (Pops signal did) fired moved actions =
+    (number : ℕ) × (behind : List Action) × (actions ≡ Signalled (pop_counter s) number signal ∷ behind) × Did sight s reading did fired moved behind
 Did sight s reading (Where did IsSo) fired moved actions = Did sight s reading did fired moved actions × IsSo

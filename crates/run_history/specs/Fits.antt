@@ -1,6 +1,6 @@
 -- What it means that a record fits a script: each call is there once, in the order of its lane; all timers' and bases' entries are one history, in which
--- the clock's writes and readings and the objects' entries have their places; and each object's are one history.
-use Rattle.std.specs.Prelude.{ℕ, ◌≡◌, ◌≤◌, ◌+◌, false, MatchBool, List, [], ◌∷◌, ◌++◌, length, map}
+-- the clock's writes and readings, the objects' entries, and the pushes and pops of signals have their places; and each object's are one history.
+use Rattle.std.specs.Prelude.{ℕ, ◌≡◌, ◌≤◌, ◌+◌, false, MatchBool, List, [], ◌∷◌, length, map}
 use Rattle.std.specs.List.{AllByRecursion}
 use Rattle.ktime.specs.Clocks.{at_stamp}
 use Rattle.script_text.specs.declared.script.Call.{Call}
@@ -12,29 +12,22 @@ use Rattle.run_history.specs.Order.{AreUnder, CallInRound, calls_of, is_lower, I
 use Rattle.run_history.specs.Histories.{answers_of, AreWrites, clock_labels, lines_of_timer}
 use Rattle.run_history.specs.Objects.{IsLegalObject, lines_of_object}
 use Rattle.script_text.specs.Declarations.{kind_of}
-use Rattle.run_history.specs.Actions.{own, wrote}
-use Rattle.run_history.specs.Signals.{SignalMove, most_signals, popped_by, pushed_in, signal_labels, turns_in}
-use Rattle.signal_queue.specs.Turns.{AreTurns}
-use Rattle.run_history.specs.Witnesses.{Move, Trace, Witness, IsOneHistory, labels, witness_with, writes_along}
+use Rattle.run_history.specs.Actions.{wrote}
+use Rattle.run_history.specs.Signals.{AreSignals, SignalLine}
+use Rattle.run_history.specs.Witnesses.{Move, Trace, Witness, IsOneHistory, entries_in, labels, witness_with, writes_along}
 use Rattle.run_history.specs.Traces.{HasTraced}
 use Rattle.run_history.specs.Calls.{AnswerHolds, Does, reads_clock}
 use Rattle.run_history.specs.Deeds.{AllKeepExpiries, AllMoved}
 use Rattle.run_history.specs.Truths.{AreTrue, IsMoment, LeftInTurn, sight_of}
 
--- how many of the clock's writes, how many moves, and how many pushes and pops of signals, a lane has seen
+-- how many of the clock's writes, and how many moves, a lane has seen
 pub record Seen : Type 0 where
   pub clock : ℕ
   pub moves : ℕ
-  pub signals : ℕ
 
 -- nothing is seen yet
 abbrev pub unseen : Seen
-unseen = record { clock = 0; moves = 0; signals = 0 }
-
--- what a call pushed and popped is what the order of signals has under its label: what its answer names, and the signals of what it entered
-pub record HasSignalled (w : Witness) (c : Label) (t : Trace) (answer : Answer) : Type 0 where
-  pub own : own (λ m. m.label) (λ m. m.turn) c 0 w.signals ≡ t.turns
-  pub are : map (λ x. x.1) t.turns ≡ popped_by answer ++ pushed_in w.script t.actions
+unseen = record { clock = 0; moves = 0 }
 
 -- One call with its answer, by this trace of it: what it did is what the record shows, and makes the answer right; it saw no less than its lane had seen
 -- before, and no more than its lane has seen after it.
@@ -53,8 +46,6 @@ pub record TraceExplains (w : Witness) (c : Label) (t : Trace) (call : Call) (an
   pub holds : AnswerHolds w t.first t.last c t.at t.actions call answer
   pub clock_steps : NeverFall before.clock (t.at ∷ map (λ x. x.0) (wrote t.actions)) after.clock
   pub move_steps : (before.moves ≤ t.first) × (t.last ≤ after.moves)
-  pub signalled : HasSignalled w c t answer
-  pub signal_steps : NeverFall before.signals (map (λ x. x.0) t.turns) after.signals
 
 -- the same, by what the witness says that the call did
 abbrev pub FitsCall : Witness → Label → Call → Answer → Seen → Seen → Type 0
@@ -94,13 +85,7 @@ pub record AreSkipsUnder (s : Script) (labels : List Label) : Type 0 where
   pub calls : AllByRecursion (IsLabel s) labels
   pub in_order : LabelsNeverFall labels
 
--- the pushes and pops of signals are one history of a queue with its room, in which rounds follow one another, and a lane's calls keep their order
-pub record IsSignalOrder (s : Script) (signals : List SignalMove) : Type 0 where
-  pub legal : AreTurns most_signals [] (turns_in signals)
-  pub calls : AllByRecursion (IsLabel s) (signal_labels signals)
-  pub order : IsInOrder s (signal_labels signals)
-
--- the record fits the script, in these orders of all entries and writes, and of all pushes and pops of signals
+-- the record fits the script, in this order of all entries, writes, pushes and pops
 pub record FitsIn (w : Witness) : Type 0 where
   -- the record is of the script's version
   pub version : w.run.version ≡ w.script.version
@@ -121,11 +106,12 @@ pub record FitsIn (w : Witness) : Type 0 where
   -- along each list, rounds follow one another, and a lane's calls keep their order
   pub clock_order : IsInOrder w.script (clock_labels w.run)
   pub order : IsInOrder w.script (labels w)
-  pub signals : IsSignalOrder w.script w.signals
+  -- and the pushes and pops of signals are those of one queue
+  pub signals : AreSignals w.script w.signals (entries_in w)
   -- each call of each lane has its answer, and the answer is right
   pub calls : (lane : ℕ) → FitsLane w lane 0 unseen (calls_of w.script lane) (answers_of w.run lane)
 
--- the record fits the script: there are an order of all entries and writes, one of all pushes and pops of signals, and for each call what it did, with which
--- it does
+-- the record fits the script: there are one order of all entries, writes, pushes and pops, the signals that were pushed and popped, and for each call what it
+-- did, with which it does
 abbrev pub Fits : Script → RunRecord → Type 0
-Fits s r = (moves : List Move) × (signals : List SignalMove) × (traces : Label → Trace) × FitsIn (witness_with s r moves signals traces)
+Fits s r = (moves : List Move) × (signals : ℕ → List SignalLine) × (traces : Label → Trace) × FitsIn (witness_with s r moves signals traces)

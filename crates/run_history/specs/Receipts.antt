@@ -9,7 +9,7 @@ use Rattle.seq_timer.specs.declared.event.Reply.TheVariants as replies
 use Rattle.record_text.specs.declared.record.Label.{Label}
 use Rattle.record_text.specs.declared.record.RunRecord.{RunRecord}
 use Rattle.run_history.specs.Actions.{also, own}
-use Rattle.run_history.specs.Witnesses.{BasesList, CountersList, Move, OfBase, OfRise, OfTimer, Owner, Shown, ShownLine, TimersList, entry_of_shown, is_owner, lines_at, owner_of, owner_of_entry}
+use Rattle.run_history.specs.Witnesses.{BasesList, CountersList, Move, OfBase, OfRise, OfTimer, Owner, RunLists, Shown, ShownLine, TimersList, entry_of_shown, is_owner, lines_at, owner_of, owner_of_entry}
 
 -- a receipt of an entry or a rise: how many moves stand before it, and what it shows, with its number in its list
 pub record PlacedEntry : Type 0 where
@@ -80,7 +80,7 @@ abbrev pub line_filed : Filed → ShownLine
 line_filed f = record { label = f.label; shown = f.note.shown }
 
 -- the record's lines are the receipts of all calls, sorted; there are as many as entries in the order
-pub record AreFiled (r : RunRecord) (order : List SystemEntry) (notes : Label → List PlacedEntry) (sorted : List Filed) : Type 0 where
+pub record AreFiled (l : RunLists) (order : List SystemEntry) (notes : Label → List PlacedEntry) (sorted : List Filed) : Type 0 where
   -- each call's receipts stand at rising places of the order
   pub rise : (c : Label) → Rises 0 (map (λ x. x.place) (notes c))
   pub made : (c : Label) → AllByRecursion (IsMade order) (notes c)
@@ -90,7 +90,7 @@ pub record AreFiled (r : RunRecord) (order : List SystemEntry) (notes : Label �
   pub sorts : RiseBy (TimersList 0) 0 sorted
   pub as_many : (o : Owner) → length (files_on o sorted) ≡ count_owned o order
   -- the record's lines are made of it
-  pub lines : (o : Owner) → lines_at r o ≡ map line_filed (files_on o sorted)
+  pub lines : (o : Owner) → lines_at l o ≡ map line_filed (files_on o sorted)
 
 -- ---- along the order
 
@@ -102,22 +102,22 @@ no_line (BasesList b) = record { label = record { lane = 0; call = 0 }; shown = 
 no_line (CountersList k) = record { label = record { lane = 0; call = 0 }; shown = OfRise k }
 
 -- the line of this number in a list, as a move
-abbrev pub move_at : RunRecord → Owner → ℕ → Move
-move_at r o before =
+abbrev pub move_at : RunLists → Owner → ℕ → Move
+move_at l o before =
     record {
       before = before;
-      label = (get_or (lines_at r o) before (no_line o)).label;
-      shown = (get_or (lines_at r o) before (no_line o)).shown;
+      label = (get_or (lines_at l o) before (no_line o)).label;
+      shown = (get_or (lines_at l o) before (no_line o)).shown;
     }
 
 -- the line of an entry that stands behind these
-abbrev pub move_of : RunRecord → List SystemEntry → SystemEntry → Move
-move_of r before x = move_at r (owner_of_entry x) (count_owned (owner_of_entry x) before)
+abbrev pub move_of : RunLists → List SystemEntry → SystemEntry → Move
+move_of l before x = move_at l (owner_of_entry x) (count_owned (owner_of_entry x) before)
 
 -- the lines along an order, behind a part of it
-abbrev pub weave : RunRecord → List SystemEntry → List SystemEntry → List Move
-weave r done [] = []
-weave r done (x ∷ xs) = move_of r done x ∷ weave r (done ++ x ∷ []) xs
+abbrev pub weave : RunLists → List SystemEntry → List SystemEntry → List Move
+weave l done [] = []
+weave l done (x ∷ xs) = move_of l done x ∷ weave l (done ++ x ∷ []) xs
 
 -- what a move tells but for its label
 abbrev pub shape : Move → ℕ × Shown

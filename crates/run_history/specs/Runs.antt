@@ -11,36 +11,33 @@ use Rattle.script_text.specs.Declarations.{terms_of, declareds_of, kind_of}
 use Rattle.run_history.specs.Objects.{IsLegalObject, lines_of_object}
 use Rattle.run_history.specs.Order.{AreUnder, calls_of, IsLabel}
 use Rattle.script_text.specs.declared.script.Script.{Script}
-use Rattle.run_history.specs.Witnesses.{Witness, entries_in, IsOneHistory, labels, Trace}
+use Rattle.run_history.specs.Witnesses.{RunLists, Witness, entries_in, IsOneHistory, labels, Trace}
 use Rattle.run_history.specs.Fits.{AreSkipsUnder, FitsLane, unseen}
 use Rattle.run_history.specs.Receipts.{AreAll, AreFiled, Filed, PlacedEntry, ShowsEntry, weave}
 use Rattle.run_history.specs.Rounds.{IsLaid, IsLedger, Spans}
-use Rattle.run_history.specs.Signals.{SendsSignals, most_signals, SignalMove, signal_labels, turns_in}
+use Rattle.run_history.specs.Signals.{AreSignals, SendsSignals, SignalLine, push_counter}
 use Rattle.signal_queue.specs.declared.signal.Turn.{Turn}
-use Rattle.signal_queue.specs.declared.signal.Turn.TheVariants.{Popped, Pushed}
-use Rattle.signal_queue.specs.Turns.{AreTurns}
 
--- What a lane keeps of one call: its receipts with their places; what it did; and how many entries of all timers, bases and objects, writes of the clock, and
--- pushes and pops of signals its passes had seen when it began and when it ended.
+-- What a lane keeps of one call: its receipts with their places; what it did; how many entries of all timers, bases and objects, and writes of the clock, its
+-- passes had seen when it began and when it ended; and its turns of the queue of signals, each with how many the queue had before it.
 pub record CallLog : Type 0 where
   pub notes : List PlacedEntry
   pub trace : Trace
   pub moves : ℕ × ℕ
   pub clock : ℕ × ℕ
-  pub signals : ℕ × ℕ
+  pub turns : List (ℕ × Turn)
 
--- of each list how long it was when each round began: of all entries, of the clock's writes, and of the pushes and pops of signals
+-- of each list how long it was when each round began: of all entries, and of the clock's writes
 pub record RoundStarts : Type 0 where
   pub moves : ℕ → ℕ
   pub clock : ℕ → ℕ
-  pub signals : ℕ → ℕ
 
--- The record; the order of all entries, which is what the last pass of the timers' table has seen; the pushes and pops of signals, which the last pass of the
--- queue has seen, with their calls; what the lanes kept of each call; and where rounds began.
+-- The record; the order of all entries, which is what the last pass of the timers' table has seen; of each counter of the queue its signals, which the last
+-- pass of the queue has seen, with their calls; what the lanes kept of each call; and where rounds began.
 pub record Ending : Type 0 where
   pub run : RunRecord
   pub order : List SystemEntry
-  pub signals : List SignalMove
+  pub signals : ℕ → List SignalLine
   pub logs : Label → CallLog
   pub starts : RoundStarts
 
@@ -55,25 +52,19 @@ moves_spans e = record { first = λ c. (e.logs c).moves.0; last = λ c. (e.logs 
 abbrev pub clock_spans : Ending → Spans
 clock_spans e = record { first = λ c. (e.logs c).clock.0; last = λ c. (e.logs c).clock.1; starts = e.starts.clock }
 
--- and on that of the pushes and pops
-abbrev pub signal_spans : Ending → Spans
-signal_spans e = record { first = λ c. (e.logs c).signals.0; last = λ c. (e.logs c).signals.1; starts = e.starts.signals }
+-- the lists of the run
+abbrev pub lists_of : Ending → RunLists
+lists_of e = record { run = e.run; signals = e.signals }
 
 -- the record's lines along the order
 abbrev pub witness_of : Script → Ending → Witness
 witness_of s e =
-    record { script = s; run = e.run; moves = weave e.run [] e.order; signals = e.signals; traces = λ c. (e.logs c).trace }
+    record { script = s; run = e.run; moves = weave (lists_of e) [] e.order; signals = e.signals; traces = λ c. (e.logs c).trace }
 
--- a push is of a signal of a queued timer
-abbrev pub IsOfQueued : Script → Turn → Type 0
-IsOfQueued s (Pushed signal) = SendsSignals (kind_of s signal.timer)
-IsOfQueued s (Popped signal) = Unit
-
--- the queue's table: its pushes and pops are one history, each in the span of its call, and only queued timers' signals are pushed
-pub record AreSignals (s : Script) (e : Ending) : Type 0 where
-  pub legal : AreTurns most_signals [] (turns_in e.signals)
-  pub of : AllByRecursion (IsOfQueued s) (turns_in e.signals)
-  pub laid : IsLaid s (signal_labels e.signals) (signal_spans e)
+-- the queue's signals are those of one queue, and only queued timers' signals are pushed
+pub record AreQueued (s : Script) (e : Ending) : Type 0 where
+  pub legal : AreSignals s e.signals e.order
+  pub of : AllByRecursion (λ line. SendsSignals (kind_of s line.signal.timer)) (e.signals (push_counter s))
 
 -- what holds of the whole run, for each lane to use
 pub record IsJoined (s : Script) (e : Ending) : Type 0 where
@@ -86,7 +77,7 @@ pub record IsJoined (s : Script) (e : Ending) : Type 0 where
   -- calls stand along each list by rounds
   pub moves_laid : IsLaid s (labels (witness_of s e)) (moves_spans e)
   pub clock_laid : IsLaid s (clock_labels e.run) (clock_spans e)
-  pub signals : AreSignals s e
+  pub signals : AreQueued s e
 
 -- the parts that make a run, each of which is what one table or one lane gives
 pub record IsEnding (s : Script) (e : Ending) : Type 0 where
@@ -94,7 +85,7 @@ pub record IsEnding (s : Script) (e : Ending) : Type 0 where
   pub history : IsSystemHistory s.bases (declareds_of s) (terms_of s) e.order
   -- the record's lines are the receipts of all calls, sorted, and each shows its entry
   pub sorted : List Filed
-  pub filed : AreFiled e.run e.order (notes_in e) sorted
+  pub filed : AreFiled (lists_of e) e.order (notes_in e) sorted
   pub entries : (c : Label) → AllByRecursion (ShowsEntry e.run e.order) (notes_in e c)
   -- the receipts stand in their calls' spans
   pub ledger : IsLedger s (moves_spans e)
@@ -104,7 +95,7 @@ pub record IsEnding (s : Script) (e : Ending) : Type 0 where
   -- the clock's list
   pub clock_laid : IsLaid s (clock_labels e.run) (clock_spans e)
   pub writes : AreWrites (at_stamp 0) e.run.clock
-  pub signals : AreSignals s e
+  pub signals : AreQueued s e
   -- the objects' lists
   pub object_histories : (i : ℕ) → IsLegalObject s e.run i (kind_of s i)
   -- looks and skips under their lines, and one list for each base, timer and lane

@@ -11,12 +11,12 @@ use Rattle.record_text.specs.declared.record.Armed.TheVariants as armings
 use Rattle.record_text.specs.declared.record.ObjectEntry.{ObjectEntry}
 use Rattle.record_text.specs.declared.record.ObjectEntry.TheVariants as object_entries
 use Rattle.script_text.specs.Declarations.{kind_of, terms_of}
-use Rattle.run_history.specs.Order.{IsPoint, StandsWithin}
-use Rattle.run_history.specs.Signals.{most_signals, signal_labels, waiting_at}
+use Rattle.run_history.specs.Order.{IsPoint}
+use Rattle.run_history.specs.Signals.{most_signals, pops_at, pushes_at}
 use Rattle.run_history.specs.Histories.{reading_at}
 use Rattle.run_history.specs.Objects.{object_armed_after, queued_after}
 use Rattle.posix_timer.specs.Queued.{is_fresh}
-use Rattle.run_history.specs.Actions.{Action, Began, Entered, Looked, Made, Shifted, Skipped, Wrote}
+use Rattle.run_history.specs.Actions.{Action, Began, Entered, Looked, Made, Shifted, Signalled, Skipped, Wrote}
 use Rattle.run_history.specs.Told.{IsArmedBelowLimit, IsArmedLike, observed}
 use Rattle.ktime.specs.declared.clock_id.ClockId.{ClockId}
 use Rattle.seq_timer.specs.Contents.{front_of}
@@ -28,7 +28,7 @@ use Rattle.seq_timer.specs.Standings.{last_standing}
 use Rattle.seq_timer.specs.Tables.{IsStopped, in_context, is_armed_on, runs_on}
 use Rattle.run_history.specs.Starts.{Sight}
 use Rattle.run_history.specs.Traces.{all_entered}
-use Rattle.run_history.specs.Witnesses.{Witness, labels, standing_along, system_along, timer_along, turns_along}
+use Rattle.run_history.specs.Witnesses.{Witness, entries_in, labels, standing_along, system_along, timer_along, turns_along}
 use Rattle.run_history.specs.Witnesses.{Evacuation}
 
 -- a number of moves of the order is one at which the call has done so much, and that it may have seen
@@ -135,31 +135,30 @@ IsTrueStart w i number on_clock (armings.Generation generation) n =
     × IsArmedLike on_clock (object_armed_after w.script w.run i number (kind_of w.script i)) generation (timer_along w n i)
 IsTrueStart w i number on_clock armings.Unarmed n = SawRefusal w i (timer_along w n i).stamp n
 
--- behind so many pushes and pops, a number within the call's bounds, just so many signals waited
-pub record SawWaiting (w : Witness) (c : Label) (many : ℕ) : Type 0 where
-  pub number : ℕ
-  pub within : StandsWithin w.script c number (signal_labels w.signals)
-  pub waiting : length (waiting_at w.signals number) ≡ many
+-- at this moment just so many signals waited
+abbrev pub SawWaiting : Witness → ℕ → ℕ → Type 0
+SawWaiting w many n = pushes_at w.script (entries_in w) n ≡ pops_at w.script (entries_in w) n + many
 
 -- the same, of each entry of an object
-abbrev pub IsTrueEntry : Witness → Label → ℕ → ℕ → ObjectEntry → ℕ → Type 0
-IsTrueEntry w c i number (object_entries.Settime flags value interval reading arm reply) n = IsTrueStart w i number true arm n
-IsTrueEntry w c i number (object_entries.Trigger generation reading counted) n = NothingTold
-IsTrueEntry w c i number (object_entries.Overflow generation reading) n = SawWaiting w c most_signals
-IsTrueEntry w c i number (object_entries.Accept reading arm reply) n = IsTrueStart w i number false arm n
-IsTrueEntry w c i number (object_entries.Read reading arm reply) n = IsTrueStart w i number false arm n
-IsTrueEntry w c i number (object_entries.Gettime reading arm left interval) n = IsTrueStart w i number false arm n
-IsTrueEntry w c i number (object_entries.Sleep flags time reading arm reply) n = IsTrueStart w i number true arm n
-IsTrueEntry w c i number (object_entries.Interrupt reading reply) n = NothingTold
+abbrev pub IsTrueEntry : Witness → ℕ → ℕ → ObjectEntry → ℕ → Type 0
+IsTrueEntry w i number (object_entries.Settime flags value interval reading arm reply) n = IsTrueStart w i number true arm n
+IsTrueEntry w i number (object_entries.Trigger generation reading counted) n = NothingTold
+IsTrueEntry w i number (object_entries.Overflow generation reading) n = SawWaiting w most_signals n
+IsTrueEntry w i number (object_entries.Accept reading arm reply) n = IsTrueStart w i number false arm n
+IsTrueEntry w i number (object_entries.Read reading arm reply) n = IsTrueStart w i number false arm n
+IsTrueEntry w i number (object_entries.Gettime reading arm left interval) n = IsTrueStart w i number false arm n
+IsTrueEntry w i number (object_entries.Sleep flags time reading arm reply) n = IsTrueStart w i number true arm n
+IsTrueEntry w i number (object_entries.Interrupt reading reply) n = NothingTold
 
 -- what a thing that a call did tells of a timer or an object is true, at a moment after what the call did before it
 abbrev pub IsTrue : Witness → Label → List Action → Action → ℕ → Type 0
 IsTrue w c before (Entered timer number entry) n = OfClaim entry.event (IsMoment w c before n)
 IsTrue w c before (Looked timer number look) n = IsMoment w c before n × Saw w timer number (observed look) n × IsArmedBelowLimit w.script.limit number look
 IsTrue w c before (Began i stamp) n = NothingTold
-IsTrue w c before (Made i number entry) n = IsMoment w c before n × IsTrueEntry w c i number entry n
+IsTrue w c before (Made i number entry) n = IsMoment w c before n × IsTrueEntry w i number entry n
 IsTrue w c before (Skipped i number generation) n = IsMoment w c before n × SawFull w i number n
 IsTrue w c before (Shifted base number event) n = NothingTold
+IsTrue w c before (Signalled counter number signal) n = NothingTold
 IsTrue w c before (Wrote number write) n = NothingTold
 
 -- each thing that a call did tells the truth, at moments that never go back, from one moment to another
@@ -200,7 +199,7 @@ pub record SawStale (w : Witness) (timer base number n : ℕ) : Type 0 where
   pub room : stamp < w.script.limit
   pub stale : is_fresh (queued_after w.script w.run timer base stamp) number ≡ false
 
--- a call whose turn of the timer began behind so many entries found the signal of this number pending
+-- a call whose turn of the timer began behind so many entries, once it had taken a signal, found the signal of this number pending
 abbrev pub WasFresh : Witness → ℕ → ℕ → ℕ → List Action → Type 0
-WasFresh w timer base number (Began i stamp ∷ actions) = is_fresh (queued_after w.script w.run timer base stamp) number ≡ true
+WasFresh w timer base number (Signalled counter k signal ∷ Began i stamp ∷ actions) = is_fresh (queued_after w.script w.run timer base stamp) number ≡ true
 WasFresh w timer base number actions = ⊥

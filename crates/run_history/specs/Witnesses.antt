@@ -1,6 +1,6 @@
--- One order of all entries of a record's timers, bases and objects, of the beginnings of calls' turns of objects, and of the clock's writes; and all timers
--- and bases after each number of them.
-use Rattle.std.specs.Prelude.{ℕ, zero, suc, ◌≡◌, ◌+◌, nat_eq, Bool, false, List, [], ◌∷◌, map, take}
+-- One order of all entries of a record's timers, bases and objects, of the beginnings of calls' turns of objects, of the clock's writes, and of pushes and
+-- pops of signals; and all timers and bases after each number of them.
+use Rattle.std.specs.Prelude.{ℕ, zero, suc, ◌≡◌, ◌+◌, nat_eq, Bool, false, List, [], ◌∷◌, ◌++◌, map, take}
 use Rattle.record_text.specs.declared.record.BaseLine.{BaseLine}
 use Rattle.record_text.specs.declared.record.ClockLine.{ClockLine}
 use Rattle.record_text.specs.declared.record.Entry.{Entry}
@@ -9,8 +9,7 @@ use Rattle.record_text.specs.declared.record.ObjectLine.{ObjectLine}
 use Rattle.record_text.specs.declared.record.RunRecord.{RunRecord}
 use Rattle.record_text.specs.declared.record.TimerLine.{TimerLine}
 use Rattle.run_history.specs.Actions.{Action, also}
-use Rattle.signal_queue.specs.declared.signal.Turn.{Turn}
-use Rattle.run_history.specs.Signals.{SignalMove}
+use Rattle.run_history.specs.Signals.{SignalLine}
 use Rattle.run_history.specs.Histories.{entry_shown, lines_of_base, lines_of_timer}
 use Rattle.run_history.specs.Objects.{lines_of_object}
 use Rattle.script_text.specs.Declarations.{declareds_of, terms_of}
@@ -43,9 +42,8 @@ pub record Evacuation : Type 0 where
   pub slack : ℕ
   pub placement : Placement
 
--- what one call did: the stamp of its one reading; the callbacks that it ran; the timers that it moved off a base; its actions in their order; two
--- numbers of the order, at the first of which it had made no entry yet, and at the last of which it had made them all; and its pushes and pops of signals,
--- each with how many stand before it
+-- what one call did: the stamp of its one reading; the callbacks that it ran; the timers that it moved off a base; its actions in their order; and two
+-- numbers of the order, at the first of which it had made no entry yet, and at the last of which it had made them all
 pub record Trace : Type 0 where
   pub at : ℕ
   pub fired : List Fired
@@ -53,16 +51,15 @@ pub record Trace : Type 0 where
   pub actions : List Action
   pub first : ℕ
   pub last : ℕ
-  pub turns : List (ℕ × Turn)
 
 -- what a line shows: an entry of a timer, or of a base; or a rise of a counter. Counter 0 counts the clock's writes. Counter i + 1 rises where a call's turn of
--- object i begins and again where the call makes its entry: it is odd while a call has its turn.
+-- object i begins and again where the call makes its entry: it is odd while a call has its turn. Behind these are the counters of pushes and pops.
 pub data Shown : Type 0 where
   OfTimer : ℕ → Entry → Shown
   OfBase : ℕ → BaseEvent → Shown
   OfRise : ℕ → Shown
 
--- whose list of a record a line stands in: a timer's, or a base's; or a counter's, which is the clock's or an object's
+-- whose list a line stands in: a timer's, or a base's; or a counter's, which is the clock's, an object's, or one of the queue's two
 pub data Owner : Type 0 where
   TimersList : ℕ → Owner
   BasesList : ℕ → Owner
@@ -87,7 +84,7 @@ owner_of_entry (entries.Timer e) = TimersList e.timer
 owner_of_entry (entries.Base c) = BasesList c.base
 owner_of_entry (entries.Rise k) = CountersList k
 
--- a line's label and what it shows: looks, skips, what was written and an object's entry are left out
+-- a line's label and what it shows: looks, skips, what was written, an object's entry and a signal are left out
 pub record ShownLine : Type 0 where
   pub label : Label
   pub shown : Shown
@@ -105,17 +102,27 @@ line_of_write line = record { label = line.label; shown = OfRise 0 }
 abbrev pub line_of_object : ℕ → ObjectLine → ShownLine
 line_of_object i line = record { label = line.label; shown = OfRise (suc i) }
 
+-- and of a push or a pop
+abbrev pub line_of_signal : ℕ → SignalLine → ShownLine
+line_of_signal k line = record { label = line.label; shown = OfRise k }
+
 -- each item twice
 abbrev pub twice : {A : Type 0} → List A → List A
 twice [] = []
 twice (x ∷ xs) = x ∷ x ∷ twice xs
 
--- the lines of a list; none for one that isn't there. An object's line stands for two moves: a call's turn begins, and it makes the line's entry.
-abbrev pub lines_at : RunRecord → Owner → List ShownLine
-lines_at r (TimersList t) = map (line_of_timer t) (lines_of_timer r t)
-lines_at r (BasesList b) = map (line_of_base b) (lines_of_base r b)
-lines_at r (CountersList zero) = map line_of_write r.clock
-lines_at r (CountersList (suc i)) = twice (map (line_of_object i) (lines_of_object r i))
+-- the lists of a run: those that its record prints, and the signals of each counter's rises
+pub record RunLists : Type 0 where
+  pub run : RunRecord
+  pub signals : ℕ → List SignalLine
+
+-- The lines of a list; none for one that isn't there. An object's line stands for two moves: a call's turn begins, and it makes the line's entry. No counter is
+-- an object's and the queue's.
+abbrev pub lines_at : RunLists → Owner → List ShownLine
+lines_at l (TimersList t) = map (line_of_timer t) (lines_of_timer l.run t)
+lines_at l (BasesList b) = map (line_of_base b) (lines_of_base l.run b)
+lines_at l (CountersList zero) = map line_of_write l.run.clock
+lines_at l (CountersList (suc i)) = twice (map (line_of_object i) (lines_of_object l.run i)) ++ map (line_of_signal (suc i)) (l.signals (suc i))
 
 -- a line along the order, and how many lines of its list stand before it
 pub record Move : Type 0 where
@@ -123,17 +130,17 @@ pub record Move : Type 0 where
   pub label : Label
   pub shown : Shown
 
--- a script, a record of it, and what the record doesn't print: an order of all timers', bases' and objects' entries, the beginnings of turns and the clock's
--- writes; an order of the pushes and pops of signals; and what each call did
+-- a script, a record of it, and what the record doesn't print: an order of all timers', bases' and objects' entries, the beginnings of turns, the clock's
+-- writes, and the pushes and pops of signals; the signals of each counter's rises; and what each call did
 pub record Witness : Type 0 where
   pub script : Script
   pub run : RunRecord
   pub moves : List Move
-  pub signals : List SignalMove
+  pub signals : ℕ → List SignalLine
   pub traces : Label → Trace
 
 -- the same of this script and this record
-abbrev pub witness_with : Script → RunRecord → List Move → List SignalMove → (Label → Trace) → Witness
+abbrev pub witness_with : Script → RunRecord → List Move → (ℕ → List SignalLine) → (Label → Trace) → Witness
 witness_with s r moves signals traces = record { script = s; run = r; moves = moves; signals = signals; traces = traces }
 
 -- the moves of one list
@@ -185,9 +192,10 @@ writes_along w n = rises_of 0 (take n (entries_in w))
 abbrev pub turns_along : Witness → ℕ → ℕ → ℕ
 turns_along w n i = rises_of (suc i) (take n (entries_in w))
 
--- The order is one of all entries and writes, and those of timers and bases together are one history that a library on one thread gives: each is a step of
--- its timer and of the base that it is on, is sent only to a base that is there, on its way to the heir of the base that it was sent to, and is started only on
--- one that is on line; each claim takes the first timer of its context in the base's queues; and a base is taken off line only while it has no timer.
+-- The order is one of all entries, writes, pushes and pops, and the entries of timers and bases together are one history that a library on one thread gives:
+-- each is a step of its timer and of the base that it is on, is sent only to a base that is there, on its way to the heir of the base that it was sent to, and
+-- is started only on one that is on line; each claim takes the first timer of its context in the base's queues; and a base is taken off line only while it has
+-- no timer.
 pub record IsOneHistory (w : Witness) : Type 0 where
-  pub all : (o : Owner) → moves_on o w.moves ≡ moves_from 0 (lines_at w.run o)
+  pub all : (o : Owner) → moves_on o w.moves ≡ moves_from 0 (lines_at (record { run = w.run; signals = w.signals }) o)
   pub history : IsSystemHistory w.script.bases (declareds_of w.script) (terms_of w.script) (entries_in w)

@@ -1,4 +1,4 @@
-use Rattle.fit_laws.proofs.Signals.{signal_named_once, signal_sent}
+use Rattle.fit_laws.proofs.SignalLaws.{signal_named_once, signal_sent}
 use Rattle.fit_laws.proofs.a_signal_that_is_named_was_sent.Goals as goal
 
 pub returns-clause-sent : goal.returns-clause-sent

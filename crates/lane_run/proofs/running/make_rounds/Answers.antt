@@ -58,4 +58,4 @@ returns-clause-run g c =
     let all = take_all old.number items.result.now (omega (arith, c.loop-number-test.false)) ∙ items.ensures in
     let none = none_left c.args.script.now.lanes in
     let rounds = subst (λ (rs : List Round). MakesRounds c.args.world.now rs c.args.main none old.main old.left) all old.invariant.rounds in
-    run_made c.args.script.now c.args.main old.left c.record_left.result rounds c.settle.ensures.main c.settle.ensures.settles c.look_at_all.ensures.looks c.record_left.ensures
+    run_made c.args.script.now c.args.main old.left c.record_left.result rounds c.settle.ensures.main c.settle.ensures.settles c.look_at_queue.ensures.looks c.look_at_all.ensures.looks c.record_left.ensures

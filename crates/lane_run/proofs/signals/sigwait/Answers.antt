@@ -9,5 +9,5 @@ returns-clause-call g c =
     let taken = c.next_signal-next in
     let mid : WorldPass = record c.args.lane.now.pass { timers = taken.new.pass; objects = taken.new.objects_pass; signals = taken.new.signal_pass } in
     calls_sigwait {p = mid} c.args.reading taken.new.log.receipts taken.new.object_log.receipts taken.result c.world.view_is c.note_logs.ensures.rest.3
-    (record { same = refl; shows = was.shows; count = was.count }) c.in_ok-logs.ensures.empty taken.ensures.next
+    c.requires.pass.signals taken.ensures.known (record { same = refl; shows = was.shows; count = was.count }) c.in_ok-logs.ensures.empty taken.ensures.next
     c.in_ok-note_logs.ensures.notes c.next_answer.ensures
