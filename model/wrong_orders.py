@@ -1,4 +1,4 @@
-"""Twenty-nine records that no order of all moves explains, each beside one of the same script that fits. In both each list by itself is a right history, and
+"""Thirty-three records that no order of all moves explains, each beside one of the same script that fits. In both each list by itself is a right history, and
 each call did what its words say: what is wrong shows only where the lists are put beside each other."""
 from typing import NamedTuple, Tuple
 
@@ -29,6 +29,30 @@ def script(declarations, *rounds, limit=100, version=1, bases=1, lanes=2):
 
 def record(*lines, version=1):
     return "\n".join([f"record {version}", *lines, "end", ""])
+
+
+def in_turn(line):
+    """Where a line stands in a record: by its kind, and then by its numbers."""
+    kind, first, second = line.split()[:3]
+    return ("clock", "timer", "object", "call").index(kind), int(first), int(second)
+
+
+def queued_script(timers, *rounds, limit=100):
+    """Timers of lane 0 that are set, and due; then these rounds."""
+    sets = [*(f"0 settime {i} 1 0 100 0 0" for i in range(timers)), "0 advance 100"]
+    return script([f"queued {i} monotonic 0" for i in range(timers)], sets, *rounds, limit=limit, version=2)
+
+
+def queued_record(expiries, *lines):
+    """Its record: each timer expires by one of these calls, counted; and these lines."""
+    timers = [
+        line for i, call in enumerate(expiries) for line in (
+            f"timer {i} 1 0 {i} start abs 100 0 0 0 0 monotonic 100 100 0", f"timer {i} 2 {call} claim 0 1 1", f"timer {i} 3 {call} finish stop 1 none",
+            f"object {i} 1 0 {i} settime 1 100 0 0 1 old 0 0", f"object {i} 2 {call} trigger 1 1 counted", f"call 0 {i} old 0 0",
+        )
+    ]
+    lines = [f"clock 1 0 {len(expiries)} advance 100 100 100 100 0", f"call 0 {len(expiries)} clock 1", *timers, *lines]
+    return record(*sorted(lines, key=in_turn), version=2)
 
 
 PAIRS = [
@@ -436,5 +460,53 @@ PAIRS = [
         ),
         (("call 2 0 peek 2 1 1 0 0", "call 2 0 peek 3 1 0 1 0"),),
         ("0 2",),
+    ),
+    Pair(
+        "of two signals that two lanes' runs sent, the one is taken first whose lane had seen the other's expiry",
+        queued_script(2, ["0 expire 0 1", "1 overrun 0", "1 expire 0 4"], ["0 sigwait", "0 sigwait"]),
+        queued_record(
+            ["0 3", "1 1"], "object 0 3 0 4 accept 1 none accepted 0", "object 1 3 0 5 accept 1 none accepted 0",
+            "call 0 3 more 1 1 0", "call 0 4 signal 0 2 0", "call 0 5 signal 1 2 0", "call 1 0 overrun 0 2", "call 1 1 done 1 1 1",
+        ),
+        (
+            ("object 0 3 0 4 accept 1 none accepted 0", "object 0 3 0 5 accept 1 none accepted 0"),
+            ("object 1 3 0 5 accept 1 none accepted 0", "object 1 3 0 4 accept 1 none accepted 0"),
+            ("call 0 4 signal 0 2 0", "call 0 4 signal 1 2 0"), ("call 0 5 signal 1 2 0", "call 0 5 signal 0 2 0"),
+        ),
+        ("0 3", "1 0", "1 1"),
+    ),
+    Pair(
+        "a lane takes the older of two signals, and had seen the younger one accepted",
+        queued_script(2, ["0 expire 0 1", "0 expire 0 4"], ["0 overrun 1", "0 sigwait", "1 sigwait"]),
+        queued_record(
+            ["0 3", "0 4"], "object 0 3 0 6 accept 1 none accepted 0", "object 1 3 1 0 accept 1 none accepted 0", "call 0 3 more 1 1 0",
+            "call 0 4 done 1 1 1", "call 0 5 overrun 0 2", "call 0 6 signal 0 2 0", "call 1 0 signal 1 2 0",
+        ),
+        (("call 0 5 overrun 0 2", "call 0 5 overrun 0 3"),),
+        ("1 0",),
+    ),
+    Pair(
+        "of two signals of one timer the one that was sent later is taken first",
+        queued_script(1, ["0 expire 0 4", "1 settime 0 1 0 100 0 0", "1 expire 0 4"], ["0 sigwait", "0 sigwait"]),
+        queued_record(
+            ["0 2"], "timer 0 4 1 0 start abs 100 0 1 0 0 monotonic 100 100 0", "timer 0 5 1 1 claim 0 1 4", "timer 0 6 1 1 finish stop 4 none",
+            "object 0 3 1 0 settime 1 100 0 1 4 old 0 0", "object 0 4 1 1 trigger 4 1 counted", "object 0 5 0 4 accept 1 none accepted 0",
+            "call 0 2 done 1 1 0", "call 0 3 stale 0 2", "call 0 4 signal 0 4 0", "call 1 0 old 0 0", "call 1 1 done 1 1 0",
+        ),
+        (
+            ("object 0 5 0 4 accept 1 none accepted 0", "object 0 5 0 3 accept 1 none accepted 0"),
+            ("call 0 3 stale 0 2", "call 0 3 signal 0 4 0"), ("call 0 4 signal 0 4 0", "call 0 4 stale 0 2"),
+        ),
+        ("0 2", "1 0", "1 1"),
+    ),
+    Pair(
+        "a signal finds room while 64 wait, and a lane that has seen its expiry makes room",
+        queued_script(65, ["0 expire 0 64"], ["0 expire 0 4", "1 overrun 64", "1 sigwait"], limit=2),
+        queued_record(
+            ["0 66"] * 64 + ["0 67"], "call 0 66 more 64 1 " + " ".join(map(str, range(64))), "call 0 67 done 1 1 64",
+            "call 1 0 overrun 0 1", "call 1 1 spent 0 2",
+        ),
+        (("call 1 0 overrun 0 1", "call 1 0 overrun 0 2"),),
+        ("0 67",),
     ),
 ]
