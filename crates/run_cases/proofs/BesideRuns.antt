@@ -3,17 +3,19 @@ use Rattle.std.proofs.Common.{false, [], ◌∷◌, refl, inl, inr}
 use Rattle.ktime.specs.declared.write.Write.TheVariants as writes
 use Rattle.ktime.specs.Times.{passed}
 use Rattle.seq_timer.specs.declared.context.Context.TheVariants as contexts
-use Rattle.seq_timer.specs.Systems.{after_entry, changed}
+use Rattle.seq_timer.specs.Systems.{IsSystemHistory, after_entry, changed}
 use Rattle.run_history.specs.Actions.{Entered, Signalled, Wrote}
 use Rattle.run_history.specs.Fits.{Fits}
-use Rattle.run_history.specs.Witnesses.{CountersList, TimersList, Witness}
+use Rattle.run_history.specs.Objects.{IsLegalObject}
+use Rattle.run_history.specs.Witnesses.{CountersList, TimersList, Witness, entries_in}
+use Rattle.script_text.specs.Declarations.{declareds_of, kind_of, terms_of}
 use Rattle.run_cases.specs.BesideRuns.{early_wait_record, early_wait_script, set_again_record, set_again_script, two_runs_record, two_runs_script, two_waits_record, two_waits_script}
 use Rattle.run_cases.specs.Lines.{accepted_entry, at, counted_entry, set_entry_of, set_start}
 use Rattle.run_cases.proofs.Calls.{right}
 use Rattle.run_cases.proofs.SignalsFitting.{accepts, counted_on, line_of, second_of}
 use Rattle.run_cases.proofs.Small.{fits_by}
 use Rattle.run_cases.proofs.Tests.{le, lt, point_passes}
-use Rattle.run_cases.proofs.Witnesses.{armed_by, did, done_by, fired, ran, set_anew, stays, step, three, turn_of, two, witness_queued}
+use Rattle.run_cases.proofs.Witnesses.{Along, armed_by, did, done_by, fired, ran, set_anew, stays, step, three, turn_of, two, witness_queued}
 
 -- ---- a lane looks at a queued timer before it expires, and then finds no signal
 
@@ -70,6 +72,27 @@ two_runs_witness = witness_queued two_runs_script two_runs_record (line_of 0 3 0
     ∷ did 1 (Signalled 4 2 (second_of 1) ∷ turn_of 1 2 [] (accepted_entry 1)) 20 23 ∷ [])
     ∷ (did 1 [] 12 12 ∷ ran 0 1 (counted_on 3 2 1 ∷ []) 12 17 ∷ []) ∷ [])
 
+-- two queued timers are set, and expire in turn
+two_expire : IsSystemHistory two_runs_script.bases (declareds_of two_runs_script) (terms_of two_runs_script) (entries_in two_runs_witness)
+unfolding after_entry changed passed
+two_expire = two tt (two (step refl (inr refl, inl (lt refl)) refl tt) (two tt (two tt (two (step refl (inr refl, inl (lt refl)) refl tt) (two tt (two tt (two
+    (step refl (refl, refl, refl, refl, le refl) refl (refl, refl)) (two tt (two tt (two tt (two (step refl refl refl tt) (two (step refl (
+      refl,
+      refl,
+      refl,
+      refl,
+      le refl,
+    ) refl (refl, refl)) (two tt (two tt (two tt (two (step refl refl refl tt) (two tt (two tt (two tt (two tt (two tt (two tt
+    tt))))))))))))))))))))))
+
+-- and the signal of each is accepted
+two_accept : Along (λ i. IsLegalObject two_runs_script two_runs_record i (kind_of two_runs_script i)) 0 two_runs_script.timers
+unfolding after_entry changed passed
+two_accept = two (three (lt refl, refl, le refl, le refl, (λ e. absurd (cc), λ e. absurd (cc))) refl
+    (three (lt refl) refl (three (lt refl, (λ e. refl, λ e. refl)) refl tt)))
+    (two (three (lt refl, refl, le refl, le refl, (λ e. absurd (cc), λ e. absurd (cc))) refl
+    (three (lt refl) refl (three (lt refl, (λ e. refl, λ e. refl)) refl tt))) tt)
+
 -- law: it fits
 pub two_runs_fit : Fits two_runs_script two_runs_record
 unfolding after_entry changed passed
@@ -81,17 +104,8 @@ two_runs_fit = fits_by two_runs_witness (record {
   bases = (refl, tt);
   clock = refl;
   objects = (refl, (refl, tt));
-  history = two tt (two (step refl (inr refl, inl (lt refl)) refl tt) (two tt (two tt (two (step refl (inr refl, inl (lt refl)) refl tt) (two tt (two tt (two
-      (step refl (refl, refl, refl, refl, le refl) refl (refl, refl)) (two tt (two tt (two tt (two (step refl refl refl tt) (two (step refl (
-        refl,
-        refl,
-        refl,
-        refl,
-        le refl,
-      ) refl (refl, refl)) (two tt (two tt (two tt (two (step refl refl refl tt) (two tt (two tt (two tt (two tt (two tt (two tt
-      tt))))))))))))))))))))));
-  object_histories = two (three (lt refl, refl, le refl, le refl, (λ e. absurd (cc), λ e. absurd (cc))) refl (three (lt refl) refl (three (lt refl, (λ e. refl, λ e. refl)) refl tt)))
-      (two (three (lt refl, refl, le refl, le refl, (λ e. absurd (cc), λ e. absurd (cc))) refl (three (lt refl) refl (three (lt refl, (λ e. refl, λ e. refl)) refl tt))) tt);
+  history = two_expire;
+  object_histories = two_accept;
   placed = (refl, (refl, tt));
   calls = two (two (right refl refl refl (refl, (refl, tt)) (refl, (refl, tt)) (refl, (refl, tt))
       (set_anew 0 1 refl (record { known = refl; good_value = lt refl; good_interval = lt refl })
@@ -142,17 +156,8 @@ two_waits_fit = fits_by two_waits_witness (record {
   bases = (refl, tt);
   clock = refl;
   objects = (refl, (refl, tt));
-  history = two tt (two (step refl (inr refl, inl (lt refl)) refl tt) (two tt (two tt (two (step refl (inr refl, inl (lt refl)) refl tt) (two tt (two tt (two
-      (step refl (refl, refl, refl, refl, le refl) refl (refl, refl)) (two tt (two tt (two tt (two (step refl refl refl tt) (two (step refl (
-        refl,
-        refl,
-        refl,
-        refl,
-        le refl,
-      ) refl (refl, refl)) (two tt (two tt (two tt (two (step refl refl refl tt) (two tt (two tt (two tt (two tt (two tt (two tt
-      tt))))))))))))))))))))));
-  object_histories = two (three (lt refl, refl, le refl, le refl, (λ e. absurd (cc), λ e. absurd (cc))) refl (three (lt refl) refl (three (lt refl, (λ e. refl, λ e. refl)) refl tt)))
-      (two (three (lt refl, refl, le refl, le refl, (λ e. absurd (cc), λ e. absurd (cc))) refl (three (lt refl) refl (three (lt refl, (λ e. refl, λ e. refl)) refl tt))) tt);
+  history = two_expire;
+  object_histories = two_accept;
   placed = (refl, (refl, tt));
   calls = two (two (right refl refl refl (refl, (refl, tt)) (refl, (refl, tt)) (refl, (refl, tt))
       (set_anew 0 1 refl (record { known = refl; good_value = lt refl; good_interval = lt refl })
