@@ -1,9 +1,8 @@
 -- Lemmas about handles.
-pub mod Boxes
+pub mod HandleKinds
+pub mod HandleWalks
 pub mod Handles
 pub mod Looking
 pub mod Returned
-pub mod SeatBoxes
-pub mod SeatHandles
 pub mod SeatLaws
 pub mod Words

@@ -2,7 +2,6 @@
 pub mod Calls
 pub mod Handles
 pub mod Numbers
-pub mod SeatHandles
 pub mod SeatLaws
 pub mod Seats
 pub mod Shared

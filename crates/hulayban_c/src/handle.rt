@@ -1,7 +1,8 @@
 //! A handle of C: null, or the pointer of a box.
 ghost use Rattle.std.specs.Prelude.{◌≡◌, Option, Some, None, MatchOption};
+ghost use Rattle.std.specs.Coded.{coded_option};
 ghost use Rattle.timer_core.specs.Kept.{Kept};
-ghost use Rattle.hulayban_c.specs.Handles.{kept_coded};
+ghost use Rattle.hulayban_c.specs.contracts.home.Home.{the_row};
 
 use crate::home::Home;
 use crate::unboxed::Unboxed;
@@ -16,13 +17,14 @@ use std::ptr::null_mut;
 pub struct Handle {
     at: *mut u8,
     alloc: Global,
-    pub ghost kept: { Option Kept } by { kept_coded },
+    pub ghost kept: { Option Kept } by { coded_option the_row.coded },
 }
 
 impl Model for Handle {
     ghost use Rattle.hulayban_c.specs.Handles.{handle_owns};
+    ghost use Rattle.hulayban_c.specs.contracts.home.Home.{the_row};
 
-    ghost also_owns = { λ s. handle_owns s.alloc s.at s.kept };
+    ghost also_owns = { λ s. handle_owns the_row s.alloc s.at s.kept };
 }
 
 impl Handle {
@@ -61,15 +63,6 @@ impl Handle {
             })
         }
     }
-}
-
-impl Handle {
-    /// A handle of all timers.
-    pub fn full(home: Box<Home>) -> Handle
-        ensures { result.kept ≡ Some home.value }
-    {
-        Handle::of_unboxed(Unboxed::unbox(home))
-    }
 
     /// All timers of a handle, if it has any. It has none afterwards.
     pub fn take(&mut self, alloc: Global) -> Option<Box<Home>>
@@ -87,7 +80,7 @@ impl Handle {
     pub fn put(&mut self, home: Box<Home>)
         ensures { self.new.kept ≡ Some home.value }
     {
-        drop(mem::replace(self, Handle::full(home)));
+        drop(mem::replace(self, Handle::of_unboxed(Unboxed::unbox(home))));
     }
 }
 

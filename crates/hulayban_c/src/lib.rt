@@ -5,12 +5,12 @@ ghost use Rattle.std.specs.Prelude.{◌≡◌, None};
 ghost use Rattle.hulayban_c.specs.declared.codes.TheConstants.{DONE};
 ghost use Rattle.hulayban_c.specs.Calls.{AnswersCancel, AnswersClaim, AnswersFinish, AnswersForward, OnTimers, AnswersNew, AnswersNext, AnswersPeek, AnswersStart};
 
-use codes::{DONE, IN_USE, NO_MEMORY, NO_TIMERS};
+use codes::{DONE, IN_USE, NO_MEMORY};
 use crossing::{Answer, Declares, Time};
 use handle::Handle;
 use opening::{fault_new, open};
 use std::alloc::Global;
-use told::give;
+use told::on_timers;
 
 mod calls;
 mod codes;
@@ -72,12 +72,7 @@ pub extern "C" fn hrt_start(
 ) -> i32
     ensures { OnTimers (λ old told new. AnswersStart old timer mode ns slack base now.now told new) timers.old.kept timers.new.kept result out.old out.new }
 {
-    let Some(mut home) = timers.take(alloc) else {
-        return NO_TIMERS;
-    };
-    let told = home.start(timer, mode, ns, slack, base, now);
-    timers.put(home);
-    give(out, told)
+    on_timers!(alloc, out, timers.start(timer, mode, ns, slack, base, now))
 }
 
 /// Disarms a timer, if its function isn't running (`hrtimer_try_to_cancel`).
@@ -91,12 +86,7 @@ pub extern "C" fn hrt_cancel(
 ) -> i32
     ensures { OnTimers (λ old told new. AnswersCancel old timer told new) timers.old.kept timers.new.kept result out.old out.new }
 {
-    let Some(mut home) = timers.take(alloc) else {
-        return NO_TIMERS;
-    };
-    let told = home.cancel(timer);
-    timers.put(home);
-    give(out, told)
+    on_timers!(alloc, out, timers.cancel(timer))
 }
 
 /// Claims the timer of a context that is the next to expire on a base: its function is to run.
@@ -112,12 +102,7 @@ pub extern "C" fn hrt_claim(
 ) -> i32
     ensures { OnTimers (λ old told new. AnswersClaim old context base now.now told new) timers.old.kept timers.new.kept result out.old out.new }
 {
-    let Some(mut home) = timers.take(alloc) else {
-        return NO_TIMERS;
-    };
-    let told = home.claim(context, base, now);
-    timers.put(home);
-    give(out, told)
+    on_timers!(alloc, out, timers.claim(context, base, now))
 }
 
 /// Moves the expiry of a timer whose function runs past the reading by whole intervals (`hrtimer_forward`).
@@ -133,12 +118,7 @@ pub extern "C" fn hrt_forward(
 ) -> i32
     ensures { OnTimers (λ old told new. AnswersForward old timer now.now interval told new) timers.old.kept timers.new.kept result out.old out.new }
 {
-    let Some(mut home) = timers.take(alloc) else {
-        return NO_TIMERS;
-    };
-    let told = home.forward(timer, now, interval);
-    timers.put(home);
-    give(out, told)
+    on_timers!(alloc, out, timers.forward(timer, now, interval))
 }
 
 /// Ends the run of a timer's function. Any number but 0 asks for a restart.
@@ -153,12 +133,7 @@ pub extern "C" fn hrt_finish(
 ) -> i32
     ensures { OnTimers (λ old told new. AnswersFinish old timer restart told new) timers.old.kept timers.new.kept result out.old out.new }
 {
-    let Some(mut home) = timers.take(alloc) else {
-        return NO_TIMERS;
-    };
-    let told = home.finish(timer, restart);
-    timers.put(home);
-    give(out, told)
+    on_timers!(alloc, out, timers.finish(timer, restart))
 }
 
 /// How long a base may be left alone: the least time that a timer which is armed there still has to its expiry.
@@ -173,12 +148,7 @@ pub extern "C" fn hrt_next(
 ) -> i32
     ensures { OnTimers (λ old told new. AnswersNext old base now.now told new) timers.old.kept timers.new.kept result out.old out.new }
 {
-    let Some(mut home) = timers.take(alloc) else {
-        return NO_TIMERS;
-    };
-    let told = home.next(base, now);
-    timers.put(home);
-    give(out, told)
+    on_timers!(alloc, out, timers.next(base, now))
 }
 
 /// How a timer is kept.
@@ -187,10 +157,5 @@ pub extern "C" fn hrt_next(
 pub extern "C" fn hrt_peek(alloc: Global, timers: &mut Handle, timer: u32, out: &mut Answer) -> i32
     ensures { OnTimers (λ old told new. AnswersPeek old timer told new) timers.old.kept timers.new.kept result out.old out.new }
 {
-    let Some(mut home) = timers.take(alloc) else {
-        return NO_TIMERS;
-    };
-    let told = home.peek(timer);
-    timers.put(home);
-    give(out, told)
+    on_timers!(alloc, out, timers.peek(timer))
 }

@@ -6,7 +6,7 @@ ghost use Rattle.hulayban_c.specs.SharedSeats.{SharedLeave, SharedOpen, SharedSp
 
 use crate::codes::{CARRIES, DONE, HOLDS_CLAIM, IN_USE, NO_MEMORY, NO_TIMERS};
 use crate::crossing::{Declares, Time};
-use crate::told::give;
+use crate::told::on_timers;
 use answer::SharedAnswer;
 use handle::SeatHandle;
 use held::Held;
@@ -114,12 +114,7 @@ pub extern "C" fn hrt_shared_start(
 ) -> i32
     ensures { OnTimers (λ old told new. SharedStart old timer mode ns slack base now.now told new) seat.old.kept seat.new.kept result out.old out.new }
 {
-    let Some(mut mine) = seat.take(alloc) else {
-        return NO_TIMERS;
-    };
-    let told = mine.start(timer, mode, ns, slack, base, now);
-    seat.put(mine);
-    give(out, told)
+    on_timers!(alloc, out, seat.start(timer, mode, ns, slack, base, now))
 }
 
 /// Disarms a timer, if its function isn't running (`hrtimer_try_to_cancel`).
@@ -133,12 +128,7 @@ pub extern "C" fn hrt_shared_cancel(
 ) -> i32
     ensures { OnTimers (λ old told new. SharedCancel old timer told new) seat.old.kept seat.new.kept result out.old out.new }
 {
-    let Some(mut mine) = seat.take(alloc) else {
-        return NO_TIMERS;
-    };
-    let told = mine.cancel(timer);
-    seat.put(mine);
-    give(out, told)
+    on_timers!(alloc, out, seat.cancel(timer))
 }
 
 /// Claims the timer of a context that is the next to expire on a base: its function is to run, and the seat has the claim.
@@ -154,12 +144,7 @@ pub extern "C" fn hrt_shared_claim(
 ) -> i32
     ensures { OnTimers (λ old told new. SharedClaim old context base now.now told new) seat.old.kept seat.new.kept result out.old out.new }
 {
-    let Some(mut mine) = seat.take(alloc) else {
-        return NO_TIMERS;
-    };
-    let told = mine.claim(context, base, now);
-    seat.put(mine);
-    give(out, told)
+    on_timers!(alloc, out, seat.claim(context, base, now))
 }
 
 /// Moves the expiry of the timer of the seat's claim past the reading by whole intervals (`hrtimer_forward`).
@@ -175,12 +160,7 @@ pub extern "C" fn hrt_shared_forward(
 ) -> i32
     ensures { OnTimers (λ old told new. SharedForward old timer now.now interval told new) seat.old.kept seat.new.kept result out.old out.new }
 {
-    let Some(mut mine) = seat.take(alloc) else {
-        return NO_TIMERS;
-    };
-    let told = mine.forward(timer, now, interval);
-    seat.put(mine);
-    give(out, told)
+    on_timers!(alloc, out, seat.forward(timer, now, interval))
 }
 
 /// Ends the run of the function of the seat's claim. Any number but 0 asks for a restart.
@@ -195,12 +175,7 @@ pub extern "C" fn hrt_shared_finish(
 ) -> i32
     ensures { OnTimers (λ old told new. SharedFinish old timer restart told new) seat.old.kept seat.new.kept result out.old out.new }
 {
-    let Some(mut mine) = seat.take(alloc) else {
-        return NO_TIMERS;
-    };
-    let told = mine.finish(timer, restart);
-    seat.put(mine);
-    give(out, told)
+    on_timers!(alloc, out, seat.finish(timer, restart))
 }
 
 /// How long this thread may leave a base alone: the least wait that a look at each of its queues finds.
@@ -215,12 +190,7 @@ pub extern "C" fn hrt_shared_next(
 ) -> i32
     ensures { OnTimers (λ old told new. SharedNext old base now.now told new) seat.old.kept seat.new.kept result out.old out.new }
 {
-    let Some(mut mine) = seat.take(alloc) else {
-        return NO_TIMERS;
-    };
-    let told = mine.next(base, now);
-    seat.put(mine);
-    give(out, told)
+    on_timers!(alloc, out, seat.next(base, now))
 }
 
 /// How a timer is, by one load of its word.
@@ -234,10 +204,5 @@ pub extern "C" fn hrt_shared_peek(
 ) -> i32
     ensures { OnTimers (λ old told new. SharedPeek old timer told new) seat.old.kept seat.new.kept result out.old out.new }
 {
-    let Some(mut mine) = seat.take(alloc) else {
-        return NO_TIMERS;
-    };
-    let told = mine.peek(timer);
-    seat.put(mine);
-    give(out, told)
+    on_timers!(alloc, out, seat.peek(timer))
 }

@@ -163,3 +163,17 @@ pub fn give<A: Copy>(out: &mut A, told: Result<(i32, A), i32>) -> i32
         Err(code) => code,
     }
 }
+
+// What a call does on what a handle keeps: takes it out, makes the call, puts it back, and gives C what was told.
+macro_rules! on_timers {
+    ($alloc:ident, $out:ident, $handle:ident.$call:ident($($argument:ident),*)) => {{
+        let Some(mut kept) = $handle.take($alloc) else {
+            return $crate::codes::NO_TIMERS;
+        };
+        let told = kept.$call($($argument),*);
+        $handle.put(kept);
+        $crate::told::give($out, told)
+    }};
+}
+
+pub(crate) use on_timers;

@@ -1,7 +1,9 @@
-//! A seat's handle of C: null, or the pointer of a box. It is `Handle` again, of seats: a type with parameters can't cross to C.
+//! A seat's handle of C: null, or the pointer of a box. It is `Handle` again, of seats: no type with parameters can cross to C, nor be a
+//! field of what crosses. The proofs of the two are one, in `proofs/HandleWalks.antt`.
 ghost use Rattle.std.specs.Prelude.{◌≡◌, Option, Some, None, MatchOption};
+ghost use Rattle.std.specs.Coded.{coded_option};
 ghost use Rattle.hulayban_c.specs.Seats.{SeatAt};
-ghost use Rattle.hulayban_c.specs.SeatHandles.{seat_coded};
+ghost use Rattle.hulayban_c.specs.contracts.shared.seat.Seat.{the_row};
 
 use crate::shared::seat::Seat;
 use crate::unboxed::Unboxed;
@@ -15,13 +17,14 @@ use std::ptr::null_mut;
 pub struct SeatHandle {
     at: *mut u8,
     alloc: Global,
-    pub ghost kept: { Option SeatAt } by { seat_coded },
+    pub ghost kept: { Option SeatAt } by { coded_option the_row.coded },
 }
 
 impl Model for SeatHandle {
-    ghost use Rattle.hulayban_c.specs.SeatHandles.{seat_handle_owns};
+    ghost use Rattle.hulayban_c.specs.Handles.{handle_owns};
+    ghost use Rattle.hulayban_c.specs.contracts.shared.seat.Seat.{the_row};
 
-    ghost also_owns = { λ s. seat_handle_owns s.alloc s.at s.kept };
+    ghost also_owns = { λ s. handle_owns the_row s.alloc s.at s.kept };
 }
 
 impl SeatHandle {
@@ -60,15 +63,6 @@ impl SeatHandle {
             })
         }
     }
-}
-
-impl SeatHandle {
-    /// The handle of a seat.
-    pub fn full(seat: Box<Seat>) -> SeatHandle
-        ensures { result.kept ≡ Some seat.value }
-    {
-        SeatHandle::of_unboxed(Unboxed::unbox(seat))
-    }
 
     /// The seat of a handle, if it has one. It has none afterwards.
     pub fn take(&mut self, alloc: Global) -> Option<Box<Seat>>
@@ -86,7 +80,7 @@ impl SeatHandle {
     pub fn put(&mut self, seat: Box<Seat>)
         ensures { self.new.kept ≡ Some seat.value }
     {
-        drop(mem::replace(self, SeatHandle::full(seat)));
+        drop(mem::replace(self, SeatHandle::of_unboxed(Unboxed::unbox(seat))));
     }
 }
 
