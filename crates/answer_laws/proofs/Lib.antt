@@ -17,3 +17,6 @@ pub mod RowCalls
 pub mod SignalCalls
 pub mod TimerCalls
 pub mod TryCalls
+pub mod Between
+pub mod CallsBetween
+pub mod InOneHistory

@@ -8,3 +8,5 @@ pub mod Outcomes
 pub mod Rows
 pub mod Signals
 pub mod Tries
+pub mod Between
+pub mod Lives

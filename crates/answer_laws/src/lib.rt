@@ -1,4 +1,5 @@
-//! Each call's clause fixes its answer and what it leaves, given the moment of the call: laws with no code, one for each clause that is a relation.
+//! Each call's clause fixes its answer and what it leaves, given the moment of the call: laws with no code, one for each clause that is a relation. And all
+//! calls of a system's handles stand in one history.
 #![tactic(auto)]
 
 mod bases;
@@ -6,6 +7,7 @@ mod clocks;
 mod expiries;
 mod handlers;
 mod handoffs;
+mod lives;
 mod objects;
 mod rows;
 mod signals;
@@ -20,6 +22,10 @@ pub use clocks::a_write_is_fixed;
 pub use expiries::an_expiry_run_is_fixed;
 pub use handlers::{a_callback_is_fixed, a_queued_expiry_is_fixed, a_trigger_is_fixed};
 pub use handoffs::a_seat_is_fixed;
+pub use lives::{
+    a_call_stands_in_the_one_history, all_calls_stand_in_one_history,
+    an_expiry_run_stands_in_the_one_history,
+};
 pub use objects::{
     a_gettime_is_fixed, a_look_at_an_object_is_fixed, a_next_signal_is_fixed, a_read_is_fixed,
     a_settime_is_fixed, a_sleep_is_fixed, an_accept_is_fixed, an_interrupt_is_fixed,
