@@ -70,8 +70,8 @@ pub fn an_expiry_run_stands_in_the_one_history<H: Handler>()
 {}
 
 /// All calls of all handles stand in one history, where each goes on so. Handles were split off a first one, made their calls, and were taken in again. What a
-/// handle has seen before and behind each call begins that history; the calls of a handle stand in their order; and each entry of a timer or a base that was
-/// made since is one call's, once, and stands between that call's begin and its end.
+/// handle has seen before and behind each call begins that history, and the calls of a handle stand in their order. Where the first one is then the only
+/// handle, each entry of a timer or a base is one call's, once, and stands between that call's begin and its end, or the first one had made it before.
 pub fn all_calls_stand_in_one_history()
     ensures { (x : SystemOf) (old mid new : HandleOf) (lives : List Life) → SplitsEach x old (map (λ (l : Life). l.begun) lives) mid
         → AllByRecursion (IsLife x) lives → RetiresEach x mid (map last_handle lives) new → AreInOneHistory x old new lives }
