@@ -7,16 +7,18 @@ use Rattle.timer_queue.proofs.Pairs.{IsQueue-put}
 use Rattle.timer_tree.specs.Nodes.{none, pick, node_at, with_links, is_leaf}
 use Rattle.timer_tree.specs.Moves.{inserted}
 use Rattle.timer_tree.specs.Links.{with_child}
-use Rattle.timer_tree.specs.Trees.{Leaf, Fork, top, pairs, Stands, IsBalanced, one, times, first_id, Keeps}
+use Rattle.timer_tree.specs.Trees.{Leaf, Fork, top, pairs, Stands, IsBalanced, one, times, first_id, last_id, Keeps}
 use Rattle.timer_tree.specs.Contexts.{Frame, parent_of, root_of, IsAround, around, pairs_before, pairs_after, Cut, IsStored, Becomes, IsUnbalanced}
 use Rattle.timer_tree.specs.Contexts.{IsRepaired, IsOver}
-use Rattle.timer_tree.specs.Places.{side_of, first_on, IsOnSide, IsPlace}
+use Rattle.timer_tree.specs.Places.{side_of, first_on, last_on, IsOnSide, IsPlace}
 use Rattle.timer_tree.proofs.Trees.{with_child-with_links, times-append, one_same, once_with, Keeps-then, Keeps-for, Fit-size}
 use Rattle.timer_tree.proofs.Trees.{set_keeps, set_stands, Stands-kept, IsAround-kept}
 use Rattle.timer_tree.proofs.Trees.{frame_written, pairs-plug, cut_times, cut_unbalanced}
 use Rattle.timer_tree.proofs.Puts.{times-put}
 use Rattle.timer_tree.proofs.Counts.{cut_low}
 use Rattle.timer_tree.proofs.Stores.{times-absent, fit_of}
+use Rattle.timer_tree.proofs.Ends.{last_frame}
+use Rattle.timer_tree.specs.declared.add.Link.{Link}
 use Rattle.timer_tree.specs.declared.node.Node.{Node}
 use Rattle.timer_tree.specs.declared.node.Side.{Side}
 use Rattle.timer_tree.specs.declared.node.Side.TheVariants as sides
@@ -27,12 +29,17 @@ HasSide side [] = side ≡ sides.Left
 HasSide side (f ∷ c) = side ≡ f.side
 
 -- the context, with the new node in its hole
-record Inserted (xs : List Node) (c : List Frame) (expires id : ℕ) (new : List Node × ℕ × Side) : Type 0 where
+record Inserted (xs : List Node) (c : List Frame) (expires id : ℕ) (new : List Node × ℕ × Link) : Type 0 where
   at : IsAround new.0 id c
   stands : Stands new.0 id (record { expires = expires; left = none; right = none; parent = parent_of c; rank = 1 })
   root_is : new.1 ≡ root_of id c
-  side_is : HasSide new.2 c
+  side_is : HasSide new.2.side c
+  over : IsOver c new.2.leaf
   kept : Keeps (λ k. times k (around c) + one k id) xs new.0
+
+leaf_is : (s : Side) (e b p h : ℕ) → is_leaf (with_links s e none b p h) ≡ nat_eq b none
+leaf_is sides.Left e b p h = refl
+leaf_is sides.Right e b p h = elim (nat_eq b none) as (λ x. x && nat_eq none none ≡ x) [ true ↦ refl | false ↦ refl ]
 
 inserted_at : (xs : List Node) (root expires id : ℕ) (c : List Frame) → length xs ≤ none → id < length xs → ((k : ℕ) → times k (around c) + one k id ≤ 1) →
     IsOnSide expires c → IsAround xs none c → root ≡ root_of none c → Inserted xs c expires id (inserted xs root (parent_of c) expires id)
@@ -40,7 +47,7 @@ unfolding inserted
 inserted_at xs root expires id [] small inside once side linked root_is =
     let node : Node = record { expires = expires; left = none; right = none; parent = none; rank = 1 } in
     let stands = set_stands xs id node inside in
-    record { at = tt; stands = stands; root_is = refl; side_is = refl; kept = Keeps-for (λ k gone. omega (arith, gone)) (set_keeps xs id node) }
+    record { at = tt; stands = stands; root_is = refl; side_is = refl; over = tt; kept = Keeps-for (λ k gone. omega (arith, gone)) (set_keeps xs id node) }
 inserted_at xs root expires id (f ∷ c) small inside once side linked root_is =
     let node : Node = record { expires = expires; left = none; right = none; parent = f.n; rank = 1 } in
     let ys = slice_set xs id node in
@@ -53,26 +60,15 @@ inserted_at xs root expires id (f ∷ c) small inside once side linked root_is =
     ∙ ap (λ x. with_child x f.side id) kept.0.is ∙ with_child-with_links f.side f.e none (top f.other) (parent_of c) f.h id in
     let some : nat_eq f.n none ≡ false = ne_eqb f.n none (λ same. omega (arith, same, linked.0.inside, small)) in
     let done = frame_written ys none id f c new (λ k. omega (arith, once k)) kept is in
-    subst (λ b. Inserted xs (f ∷ c) expires id (if b then (ys, id, sides.Left) else (zs, root, side_of expires (node_at ys f.n).expires))) (sym some) (record {
+    subst (λ b. Inserted xs (f ∷ c) expires id (if b then (ys, id, record { side = sides.Left; leaf = false })
+    else (zs, root, record { side = side_of expires (node_at ys f.n).expires; leaf = is_leaf (node_at ys f.n) }))) (sym some) (record {
       at = done.0;
       stands = Stands-kept done.1 (omega (arith, once id, one_same id)) (set_stands xs id node inside);
       root_is = root_is;
       side_is = on;
+      over = ap is_leaf kept.0.is ∙ leaf_is f.side f.e (top f.other) (parent_of c) f.h;
       kept = Keeps-for (λ k gone. omega (arith, gone)) (Keeps-then first done.1);
     })
-
--- ---- the parent of the new timer
-
-leaf_is : (s : Side) (e b p h : ℕ) → is_leaf (with_links s e none b p h) ≡ nat_eq b none
-leaf_is sides.Left e b p h = refl
-leaf_is sides.Right e b p h = elim (nat_eq b none) as (λ x. x && nat_eq none none ≡ x) [ true ↦ refl | false ↦ refl ]
-
-over_in : (xs : List Node) (root : ℕ) (c : List Frame) (leaf : Bool) (ps : List (ℕ × ℕ)) → Cut xs root c Leaf 0 ps →
-    ((parent_of c ≡ none → ⊥) → leaf ≡ is_leaf (node_at xs (parent_of c))) → IsOver c leaf
-over_in xs root [] leaf ps cut known = tt
-over_in xs root (f ∷ c) leaf ps cut known =
-    known (λ end. omega (arith, end, cut.linked.0.inside, cut.fit.small)) ∙ ap is_leaf cut.linked.0.is
-    ∙ leaf_is f.side f.e (top f.other) (parent_of c) f.h
 
 -- ---- the first timer
 
@@ -103,9 +99,19 @@ first_placed side parent (f ∷ c) first id expires parent_is side_is once is =
     ap (λ s. first_on s parent first id) side_is ∙ ap (λ k. first_on f.side k first id) parent_is
     ∙ first_frame f.side (pairs f.other) (pairs_before c) (pairs_after c) f.e f.n first id expires (once f.n) is
 
+last_placed : {xs : List Node} {root : ℕ} {ps : List (ℕ × ℕ)} (side : Side) (parent : ℕ) (c : List Frame) (last id expires : ℕ) →
+    Cut xs root c Leaf 0 ps → parent ≡ parent_of c → HasSide side c → ((k : ℕ) → times k (pairs_before c ++ pairs_after c) ≤ 1) →
+    last ≡ last_id (pairs_before c ++ pairs_after c) → last_on side parent last id ≡ last_id (pairs_before c ++ (expires, id) ∷ pairs_after c)
+last_placed side parent [] last id expires cut parent_is side_is once is =
+    ap (λ s. last_on s parent last id) side_is ∙ ap (λ b. if b then id else last) (eq-eqb parent none parent_is)
+last_placed side parent (f ∷ c) last id expires cut parent_is side_is once is =
+    ap (λ s. last_on s parent last id) side_is ∙ ap (λ k. last_on f.side k last id) parent_is
+    ∙ last_frame f.side (pairs f.other) (pairs_before c) (pairs_after c) f.e f.n last id expires
+    (λ end. omega (arith, end, cut.linked.0.inside, cut.fit.small)) (once f.n) is
+
 -- ---- the whole call
 
-module _ (xs : List Node) (root first parent expires id : ℕ) (ps : List (ℕ × ℕ)) (old steps : ℕ) (new : List Node × ℕ × Side)
+module _ (xs : List Node) (root first parent expires id : ℕ) (ps : List (ℕ × ℕ)) (old steps : ℕ) (new : List Node × ℕ × Link)
     (stored : IsStored xs root first ps)
     (absent : has_id id ps ≡ false) (inside : id < length xs) (found : IsPlace xs root parent expires ps old steps)
     (is : new ≡ inserted xs root parent expires id) where
@@ -119,10 +125,9 @@ module _ (xs : List Node) (root first parent expires id : ℕ) (ps : List (ℕ �
       found.side cut.linked cut.root_is))
 
   -- what a repair is asked for
-  pub inserted_can : (leaf : Bool) → ((parent ≡ none → ⊥) → leaf ≡ is_leaf (node_at xs parent)) →
-      (b : IsUnbalanced true new.0 new.1 (record { at = parent; child = id; rank = 1 }) (put expires id ps)) × IsOver b.context leaf ×
-      (length b.context ≡ length found.context) × Keeps (λ k. times k (put expires id ps)) xs new.0
-  inserted_can leaf known =
+  pub inserted_can : (b : IsUnbalanced true new.0 new.1 (record { at = parent; child = id; rank = 1 }) (put expires id ps)) ×
+      IsOver b.context new.2.leaf × (length b.context ≡ length found.context) × Keeps (λ k. times k (put expires id ps)) xs new.0
+  inserted_can =
       let c = found.context in
       let done = inserted_new in
       let t = Fork Leaf id expires 1 Leaf in
@@ -132,28 +137,37 @@ module _ (xs : List Node) (root first parent expires id : ℕ) (ps : List (ℕ �
       let pairs_are = pairs-plug c t ∙ sym (found.puts id) in
       let hung : Cut new.0 new.1 c t 0 (put expires id ps) = search arith in (
         cut_unbalanced _ hung found.parent_is refl refl (omega arith, omega arith, λ up more. let never : ⊥ = omega (arith, more) in absurd never),
-        over_in xs root c leaf ps found.cut (subst (λ k. (k ≡ none → ⊥) → leaf ≡ is_leaf (node_at xs k)) found.parent_is known),
+        done.over,
         refl,
         Keeps-for (λ k gone. omega (arith, gone, times-put k expires id ps, cut_times found.cut k)) done.kept,
       )
 
+  whole : ps ≡ pairs_before found.context ++ pairs_after found.context
+  whole = sym found.cut.pairs_are ∙ pairs-plug found.context Leaf
+
+  whole_once : (k : ℕ) → times k (pairs_before found.context ++ pairs_after found.context) ≤ 1
+  whole_once k = subst (λ qs. times k qs ≤ 1) whole (found.cut.fit.once k)
+
+  -- the last timer after one was added
+  pub added_last : (last new_last : ℕ) → last ≡ last_id ps → new_last ≡ last_on new.2.side parent last id → new_last ≡ last_id (put expires id ps)
+  added_last last new_last last_is is = is ∙ last_placed new.2.side parent found.context last id expires found.cut found.parent_is inserted_new.side_is
+      whole_once (last_is ∙ ap last_id whole) ∙ sym (ap last_id (found.puts id))
+
   -- the queue after a timer was added
-  pub added : (leaf : Bool) (inserted_steps : ℕ) (zs : List Node) (new_root new_first new_steps : ℕ) →
-      ((parent ≡ none → ⊥) → leaf ≡ is_leaf (node_at xs parent)) →
-      inserted_steps ≤ steps + 3 → ((qs : List (ℕ × ℕ)) (b : IsUnbalanced true new.0 new.1 (record { at = parent; child = id; rank = 1 }) qs) →
-      IsOver b.context leaf → IsRepaired new.0 zs new_root qs (length b.context) inserted_steps new_steps) → new_first ≡ first_on new.2 parent first id →
+  pub added : (inserted_steps : ℕ) (zs : List Node) (new_root new_first new_steps : ℕ) → inserted_steps ≤ steps + 3 → ((qs : List (ℕ × ℕ)) (b : IsUnbalanced true new.0 new.1 (record { at = parent; child = id; rank = 1 }) qs) →
+      IsOver b.context new.2.leaf → IsRepaired new.0 zs new_root qs (length b.context) inserted_steps new_steps) →
+      new_first ≡ first_on new.2.side parent first id →
       Becomes ps (put expires id ps) xs zs new_root new_first old new_steps
-  added leaf inserted_steps zs new_root new_first new_steps known few repairs first_is =
+  added inserted_steps zs new_root new_first new_steps few repairs first_is =
       let c = found.context in
-      let can = inserted_can leaf known in
+      let can = inserted_can in
       let repaired = repairs (put expires id ps) can.0 can.1 in
       let kept = Keeps-then can.3 repaired.kept in
-      let whole : ps ≡ pairs_before c ++ pairs_after c = sym found.cut.pairs_are ∙ pairs-plug c Leaf in
       record {
         stored = record {
           is_tree = repaired.tree;
-          first_is = first_is ∙ first_placed new.2 parent c first id expires found.parent_is inserted_new.side_is
-              (λ k. subst (λ qs. times k qs ≤ 1) whole (found.cut.fit.once k)) (stored.first_is ∙ ap first_id whole) ∙ sym (ap first_id (found.puts id));
+          first_is = first_is ∙ first_placed new.2.side parent c first id expires found.parent_is inserted_new.side_is whole_once
+              (stored.first_is ∙ ap first_id whole) ∙ sym (ap first_id (found.puts id));
           queue = repaired.tree.whole.fit.queue;
         };
         kept = Keeps-for (λ k gone. omega (arith, gone)) kept;

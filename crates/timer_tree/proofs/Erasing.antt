@@ -1,18 +1,19 @@
 -- The queue after a timer was taken out.
 use Rattle.std.proofs.Common.{◌≡◌, ℕ, true, false, ◌+◌, ◌<◌, ◌≤◌, List, [], ◌∷◌, ◌++◌, length, nat_eq, if◌then◌else◌, arith, refl, ap, ◌∙◌, sym}
-use Rattle.std.proofs.Common.{subst, append_assoc, length-append, inl, inr}
+use Rattle.std.proofs.Common.{subst, append_assoc, append-nil, length-append, inl, inr}
 use Rattle.std.proofs.lemmas.Bool.{ne_eqb, cases_eq}
 use Rattle.timer_queue.specs.Pairs.{without, has_id}
 use Rattle.timer_tree.specs.Nodes.{none, node_at, pick}
 use Rattle.timer_tree.specs.Rotate.{ranked}
-use Rattle.timer_tree.specs.Trees.{Tree, Leaf, Fork, top, tall, pairs, IsAt, IsBalanced, one, times, first_id, Keeps}
+use Rattle.timer_tree.specs.Trees.{Tree, Leaf, Fork, top, tall, pairs, IsAt, IsBalanced, one, times, first_id, last_id, Keeps}
 use Rattle.timer_tree.specs.Contexts.{Frame, parent_of, pairs_before, pairs_after, IsStored, Becomes, IsRepairing, IsRepaired, Cut}
-use Rattle.timer_tree.specs.Places.{first_off}
+use Rattle.timer_tree.specs.Places.{first_off, last_off}
 use Rattle.timer_tree.specs.Takes.{IsTaking, IsTaken}
 use Rattle.timer_tree.proofs.Trees.{by_eq, times-append, one_same, apart_one, once_with, Keeps-then, Keeps-for, Fit-size, set_keeps}
 use Rattle.timer_tree.proofs.Trees.{set_stands, IsAt-kept, IsAround-kept, pairs-plug}
 use Rattle.timer_tree.proofs.Trees.{tall-le, cut_times}
 use Rattle.timer_tree.proofs.Stores.{present_times}
+use Rattle.timer_tree.proofs.Ends.{last_stays, nothing_behind, low_last}
 use Rattle.timer_tree.proofs.Climbs.{repairing_start}
 use Rattle.timer_tree.proofs.Taking.{place_of, without_part, gone_times, other_times}
 use Rattle.timer_tree.specs.declared.node.Node.{Node}
@@ -53,9 +54,21 @@ low_first xs p (Fork Leaf m f g b) c small at balanced low nothing =
 low_first xs p (Fork (Fork a m' f' g' b') m f g b) c small at balanced low nothing = let never : ⊥ =
     omega (arith, balanced.0.below_a, balanced.1.0.below_a, low) in absurd never
 
-erased_first : (xs : List Node) (root first id : ℕ) (node : Node) (ps : List (ℕ × ℕ)) (new_first : ℕ) → IsTaking xs root id ps → first ≡ first_id ps →
-    node ≡ node_at xs id → new_first ≡ first_off node first id → new_first ≡ first_id (without id ps)
-erased_first xs root first id node ps new_first taking first_is node_is new_is =
+-- what stands before a timer and behind it
+record Parts (xs : List Node) (root id : ℕ) (node : Node) (ps : List (ℕ × ℕ)) : Type 0 where
+  c : List Frame
+  l : Tree
+  e : ℕ
+  h : ℕ
+  r : Tree
+  cut : Cut xs root c (Fork l id e h r) h ps
+  here : node ≡ record { expires = e; left = top l; right = top r; parent = parent_of c; rank = h }
+  whole : ps ≡ (pairs_before c ++ pairs l) ++ (e, id) ∷ (pairs r ++ pairs_after c)
+  rest : without id ps ≡ (pairs_before c ++ pairs l) ++ (pairs r ++ pairs_after c)
+  gone : times id (pairs_before c ++ pairs l) + times id (pairs r ++ pairs_after c) ≡ 0
+
+parts : (xs : List Node) (root id : ℕ) (node : Node) (ps : List (ℕ × ℕ)) → IsTaking xs root id ps → node ≡ node_at xs id → Parts xs root id node ps
+parts xs root id node ps taking node_is =
     let place = place_of xs root id ps taking in
     let c = place.context in
     let l = place.l in
@@ -64,21 +77,67 @@ erased_first xs root first id node ps new_first taking first_is node_is new_is =
     let cut = place.cut in
     let left = pairs_before c ++ pairs l in
     let right = pairs r ++ pairs_after c in
-    let here = node_is ∙ cut.under.0.is in
     let whole : ps ≡ left ++ (e, id) ∷ right = sym cut.pairs_are ∙ pairs-plug c (Fork l id e place.h r) ∙ simp append_assoc refl in
-    let rest : without id ps ≡ left ++ right = sym (without_part c l e id place.h r ps cut.pairs_are cut.fit.once) ∙ simp append_assoc refl in
     let sum : times id ps ≡ times id left + (one id id + times id right) = subst (λ qs. times id qs ≡ times id left + (one id id + times id right))
     (sym whole) (times-append id left ((e, id) ∷ right)) in
-    let gone : times id left ≡ 0 = omega (arith, sum, cut.fit.once id, one_same id) in
+    record {
+      c = c;
+      l = l;
+      e = e;
+      h = place.h;
+      r = r;
+      cut = cut;
+      here = node_is ∙ cut.under.0.is;
+      whole = whole;
+      rest = sym (without_part c l e id place.h r ps cut.pairs_are cut.fit.once) ∙ simp append_assoc refl;
+      gone = omega (arith, sum, cut.fit.once id, one_same id);
+    }
+
+erased_first : (xs : List Node) (root first id : ℕ) (node : Node) (ps : List (ℕ × ℕ)) (new_first : ℕ) → IsTaking xs root id ps → first ≡ first_id ps →
+    node ≡ node_at xs id → new_first ≡ first_off node first id → new_first ≡ first_id (without id ps)
+erased_first xs root first id node ps new_first taking first_is node_is new_is =
+    let p = parts xs root id node ps taking node_is in
+    let c = p.c in
+    let l = p.l in
+    let e = p.e in
+    let r = p.r in
+    let cut = p.cut in
+    let left = pairs_before c ++ pairs l in
+    let right = pairs r ++ pairs_after c in
+    let here = p.here in
+    let whole = p.whole in
+    let rest = p.rest in
     by_eq (λ b. new_first ≡ (if b then (if nat_eq node.right none then node.parent else node.right) else first) → new_first ≡ first_id (without id ps))
     first id (λ same is.
-    let both = nothing_both (pairs_before c) (pairs l) (nothing_before left right e id gone (sym (ap first_id whole) ∙ sym first_is ∙ same)) in
+    let both = nothing_both (pairs_before c) (pairs l) (nothing_before left right e id (omega (arith, p.gone)) (sym (ap first_id whole) ∙ sym first_is ∙ same)) in
     let flat : tall l ≤ 0 = omega (arith, tall-le l cut.balanced.1, ap length both.1) in
     let low = low_first xs id r c cut.fit.small cut.under.2 cut.balanced.2 (omega (arith, cut.balanced.0.near_a, cut.balanced.0.below_b, flat)) both.0 in
     is ∙ ap (λ (x : Node). if nat_eq x.right none then x.parent else x.right) here
     ∙ sym (ap first_id rest ∙ ap (λ qs. first_id (qs ++ right)) (ap (λ qs. qs ++ pairs l) both.0 ∙ both.1) ∙ low))
     (λ other is. is ∙ first_is ∙ ap first_id whole ∙ first_stays left right e id (λ same. other (first_is ∙ ap first_id whole ∙ same))
     ∙ sym (ap first_id rest)) new_is
+
+-- the last timer after one was taken out
+pub erased_last : (xs : List Node) (root last id : ℕ) (node : Node) (ps : List (ℕ × ℕ)) (new_last : ℕ) → IsTaking xs root id ps → last ≡ last_id ps →
+    node ≡ node_at xs id → new_last ≡ last_off node last id → new_last ≡ last_id (without id ps)
+erased_last xs root last id node ps new_last taking last_is node_is new_is =
+    let p = parts xs root id node ps taking node_is in
+    let c = p.c in
+    let l = p.l in
+    let r = p.r in
+    let cut = p.cut in
+    let left = pairs_before c ++ pairs l in
+    let right = pairs r ++ pairs_after c in
+    by_eq (λ b. new_last ≡ (if b then (if nat_eq node.left none then node.parent else node.left) else last) → new_last ≡ last_id (without id ps))
+    last id (λ same is.
+    let both = nothing_both (pairs r) (pairs_after c)
+    (nothing_behind left right p.e id (omega (arith, p.gone)) (sym (ap last_id p.whole) ∙ sym last_is ∙ same)) in
+    let flat : tall r ≤ 0 = omega (arith, tall-le r cut.balanced.2, ap length both.0) in
+    let low = low_last xs id l c cut.fit.small cut.under.1 cut.balanced.1 (omega (arith, cut.balanced.0.near_b, cut.balanced.0.below_a, flat)) both.1 in
+    is ∙ ap (λ (x : Node). if nat_eq x.left none then x.parent else x.left) p.here
+    ∙ sym (ap last_id p.rest ∙ ap (λ qs. last_id (left ++ qs)) (ap (λ qs. qs ++ pairs_after c) both.0 ∙ both.1) ∙ ap last_id (append-nil left) ∙ low))
+    (λ other is. is ∙ last_is ∙ ap last_id p.whole ∙ last_stays left right p.e id (λ same. other (last_is ∙ ap last_id p.whole ∙ same))
+    ∙ sym (ap last_id p.rest)) new_is
 
 -- ---- the node that was taken out is written
 

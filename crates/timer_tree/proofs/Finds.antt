@@ -83,14 +83,14 @@ pub finding_inside : (xs : List Node) (root parent at expires : ℕ) (ps : List 
 finding_inside xs root parent at expires ps old steps some so_far = subst (λ k. k < length xs) (sym so_far.at_is)
     (top_inside xs (parent_of so_far.context) so_far.subtree (λ same. some (so_far.at_is ∙ same)) so_far.cut.under)
 
-pub finding_end : (xs : List Node) (root parent at expires : ℕ) (ps : List (ℕ × ℕ)) (old steps : ℕ) → at ≡ none →
-    IsFinding xs root parent at expires ps old steps → IsPlace xs root parent expires ps old steps
-finding_end xs root parent at expires ps old steps end so_far =
+pub finding_end : (xs : List Node) (root parent expires : ℕ) (ps : List (ℕ × ℕ)) (old begun steps : ℕ) → begun ≡ old + 1 →
+    IsFinding xs root parent none expires ps begun steps → IsPlace xs root parent expires ps old steps
+finding_end xs root parent expires ps old begun steps read so_far =
     let c = so_far.context in
-    let leaf = no_top xs (parent_of c) so_far.subtree so_far.cut.fit.small so_far.cut.under (sym so_far.at_is ∙ end) in
+    let leaf = no_top xs (parent_of c) so_far.subtree so_far.cut.fit.small so_far.cut.under (sym so_far.at_is) in
     let cut = subst (λ t. Cut xs root c t (tall t) ps) leaf so_far.cut in
     let puts = subst (λ t. Puts expires c t ps) leaf so_far.puts in
-    record { context = c; cut = cut; parent_is = so_far.parent_is; side = so_far.side; puts = puts; count = so_far.count }
+    record { context = c; cut = cut; parent_is = so_far.parent_is; side = so_far.side; puts = puts; count = omega (arith, read, so_far.count) }
 
 pub finding_start : (xs : List Node) (root expires : ℕ) (ps : List (ℕ × ℕ)) (steps : ℕ) → IsTree xs root ps →
     IsFinding xs root none root expires ps steps steps

@@ -5,7 +5,7 @@ use Rattle.std.proofs.lemmas.Bool.{cases_eq, true≢false}
 use Rattle.std.proofs.lemmas.Bool.Decides.{nat_tests}
 use Rattle.std.proofs.lemmas.List.{length-set, get_or-map, get_or-set_same, get_or-set_other, same_lists, length-map}
 use Rattle.timer_tree.specs.Nodes.{none, blank, node_at}
-use Rattle.timer_tree.specs.Trees.{queue_at, one, times}
+use Rattle.timer_tree.specs.Trees.{last_id, queue_at, one, times}
 use Rattle.timer_tree.specs.Contexts.{IsStored, Becomes}
 use Rattle.timer_tree.specs.Forests.{no_root, queues_of, times_all, AreStored}
 use Rattle.timer_tree.specs.declared.node.Node.{Node}
@@ -39,6 +39,7 @@ queue_in xs rs i inside = get_or-map (λ (r : Root). queue_at xs r.root) rs i no
 
 module _ (xs zs : List Node) (rs : List Root) (i : ℕ) (r : Root) (qs : List (ℕ × ℕ)) (old steps : ℕ) (all : AreStored xs rs) (inside : i < length rs)
     (gives : Becomes (queue_at xs (slice_index_or rs i no_root).root) qs xs zs r.root r.first old steps)
+    (last : r.last ≡ last_id qs)
     (once : (k : ℕ) → times_all k (slice_set (queues_of xs rs) i qs) ≤ 1) where
   wide : i < length (queues_of xs rs)
   wide = omega (arith, inside, length-map rs (λ (r : Root). queue_at xs r.root))
@@ -86,6 +87,15 @@ module _ (xs zs : List Node) (rs : List Root) (i : ℕ) (r : Root) (qs : List (�
           (queue_again zs r.root r.first qs gives.stored)
       | inr apart ↦ subst (λ (t : Root). IsStored zs t.root t.first (queue_at zs t.root)) (sym (get_or-set_other rs i j r no_root apart))
           (queue_again zs _ _ _ (beside j (omega (arith, within, length-set rs i r)) apart))
+    ];
+    ends = λ j within. elim (cases_eq j i) [
+      | inl same ↦ subst (λ (t : Root). t.last ≡ last_id (queue_at zs t.root))
+          (sym (ap (λ n. slice_index_or (slice_set rs i r) n no_root) same ∙ get_or-set_same rs i r no_root inside))
+          (last ∙ sym (ap last_id (queue_at-is zs r.root qs gives.stored.is_tree)))
+      | inr apart ↦
+          let there : j < length rs = omega (arith, within, length-set rs i r) in
+          subst (λ (t : Root). t.last ≡ last_id (queue_at zs t.root)) (sym (get_or-set_other rs i j r no_root apart))
+          (all.ends j there ∙ sym (ap last_id (queue_at-is zs _ _ (beside j there apart).is_tree)))
     ];
     once = λ k. subst (λ all. times_all k all ≤ 1) (sym queues_after) (once k);
     free = λ k gone. free_after (λ n. times_all n (slice_set (queues_of xs rs) i [])) gives
@@ -145,11 +155,12 @@ times_replicate k (suc n) = omega (arith, times_replicate k n)
 
 -- trees of an empty store
 pub all_empty : (xs : List Node) (room : ℕ) (rs : List Root) → room ≤ none → xs ≡ replicate room blank →
-    ((j : ℕ) → j < length rs → slice_index_or rs j no_root ≡ record { root = none; first = none }) →
+    ((j : ℕ) → j < length rs → slice_index_or rs j no_root ≡ record { root = none; first = none; last = none }) →
     ((k : ℕ) → times_all k (queues_of xs rs) ≡ 0) → AreStored xs rs
 all_empty xs room rs small is roots gone =
     let empty = empty_stored xs room small is in record {
       each = λ j within. subst (λ (t : Root). IsStored xs t.root t.first (queue_at xs t.root)) (sym (roots j within)) empty.0;
+      ends = λ j within. subst (λ (t : Root). t.last ≡ last_id (queue_at xs t.root)) (sym (roots j within)) (sym (ap last_id empty.1));
       once = λ k. omega (arith, gone k);
       free = λ k none_here. empty.2 k;
     }

@@ -1,6 +1,7 @@
 pub mod Adding
 pub mod Climbs
 pub mod Counts
+pub mod Ends
 pub mod Erasing
 pub mod Finds
 pub mod Forests

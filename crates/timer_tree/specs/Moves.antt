@@ -1,6 +1,6 @@
 -- How the tree is rebalanced above a subtree that has changed, and how a timer's link is inserted and taken out.
 use Rattle.std.specs.Prelude.{ℕ, ◌+◌, ◌-◌, List, nat_eq, nat_lt, if◌then◌else◌, ◌||◌, Bool, true, false, slice_set}
-use Rattle.timer_tree.specs.Nodes.{none, node_at, far, next, other_side, child_side, is_high_leaf}
+use Rattle.timer_tree.specs.Nodes.{none, node_at, far, next, other_side, child_side, is_leaf, is_high_leaf}
 use Rattle.timer_tree.specs.Links.{with_child, adopted, relinked}
 use Rattle.timer_tree.specs.Places.{side_of}
 use Rattle.timer_tree.specs.Rotate.{ranked, rotated_up}
@@ -10,6 +10,7 @@ use Rattle.timer_tree.specs.declared.node.Side.TheVariants as sides
 use Rattle.timer_tree.specs.declared.rotate.Numbered.{Numbered}
 use Rattle.timer_tree.specs.declared.rotate.Top.{Top}
 use Rattle.timer_tree.specs.declared.repair.Unbalanced.{Unbalanced}
+use Rattle.timer_tree.specs.declared.add.Link.{Link}
 
 -- the nodes, the number of the root, and where a repair goes on
 abbrev pub Repairing : Type 0
@@ -62,12 +63,13 @@ repair_step true xs root r = risen xs root r (node_at xs r.at)
 repair_step false xs root r = lowered xs root r (node_at xs r.at)
 
 -- a timer inserted into its place
-unfoldable pub inserted : List Node → (root parent expires id : ℕ) → List Node × ℕ × Side
+unfoldable pub inserted : List Node → (root parent expires id : ℕ) → List Node × ℕ × Link
 inserted xs root parent expires id =
     let linked = slice_set xs id (record { expires = expires; left = none; right = none; parent = parent; rank = 1 }) in
     let node = node_at linked parent in
     let side = side_of expires node.expires in
-    if nat_eq parent none then (linked, id, sides.Left) else (slice_set linked parent (with_child node side id), root, side)
+    if nat_eq parent none then (linked, id, record { side = sides.Left; leaf = false })
+    else (slice_set linked parent (with_child node side id), root, record { side = side; leaf = is_leaf node })
 
 -- the subtree of a node with at most one, and its rank
 abbrev pub only_child : Node → Top

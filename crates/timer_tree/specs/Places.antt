@@ -1,7 +1,7 @@
 -- A place in the tree where a timer is to be inserted.
-use Rattle.std.specs.Prelude.{ℕ, ◌+◌, ◌≡◌, nat_eq, nat_lt, if◌then◌else◌, List, [], ◌∷◌, ◌++◌, length}
+use Rattle.std.specs.Prelude.{ℕ, ◌+◌, ◌≤◌, ◌≡◌, nat_eq, nat_lt, if◌then◌else◌, List, [], ◌∷◌, ◌++◌, length}
 use Rattle.timer_queue.specs.Pairs.{put}
-use Rattle.timer_tree.specs.Nodes.{none}
+use Rattle.timer_tree.specs.Nodes.{none, pick}
 use Rattle.timer_tree.specs.Trees.{Tree, Leaf, top, tall, pairs}
 use Rattle.timer_tree.specs.Contexts.{Frame, parent_of, pairs_before, pairs_after, Cut}
 use Rattle.timer_tree.specs.declared.node.Node.{Node}
@@ -35,7 +35,7 @@ pub record IsPlace (xs : List Node) (root parent expires : ℕ) (ps : List (ℕ 
   pub parent_is : parent ≡ parent_of context
   pub side : IsOnSide expires context
   pub puts : (id : ℕ) → put expires id ps ≡ pairs_before context ++ ((expires, id) ∷ pairs_after context)
-  pub count : steps ≡ old_steps + length context
+  pub count : steps ≤ old_steps + length context + 1
 
 -- the number of the first timer once this one is inserted on a side of this parent
 abbrev pub first_on : Side → (parent first id : ℕ) → ℕ
@@ -45,3 +45,11 @@ first_on sides.Right parent first id = first
 -- the number of the first timer once this one, with this node, is taken out
 abbrev pub first_off : Node → (first id : ℕ) → ℕ
 first_off node first id = if nat_eq first id then (if nat_eq node.right none then node.parent else node.right) else first
+
+-- the number of the last timer once this one is inserted on a side of this parent: the only one has no parent
+abbrev pub last_on : Side → (parent last id : ℕ) → ℕ
+last_on side parent last id = if nat_eq parent (pick side none last) then id else last
+
+-- the number of the last timer once this one, with this node, is taken out
+abbrev pub last_off : Node → (last id : ℕ) → ℕ
+last_off node last id = if nat_eq last id then (if nat_eq node.left none then node.parent else node.left) else last

@@ -70,6 +70,12 @@ abbrev pub first_id : List (ℕ × ℕ) → ℕ
 first_id [] = none
 first_id (p ∷ ps) = p.1
 
+-- the number of the last pair
+abbrev pub last_id : List (ℕ × ℕ) → ℕ
+last_id [] = none
+last_id (p ∷ []) = p.1
+last_id (p ∷ q ∷ ps) = last_id (q ∷ ps)
+
 -- no node has changed but those that this counts
 pub record Keeps (out : ℕ → ℕ) (xs ys : List Node) : Type 0 where
   pub size : length ys ≡ length xs

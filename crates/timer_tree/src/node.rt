@@ -1,6 +1,6 @@
 //! The links of one timer.
 ghost use Rattle.std.specs.Prelude.{◌≡◌};
-ghost use Rattle.timer_tree.specs.Nodes.{near, far, with_links, blank, other_side, child_side, is_high_leaf};
+ghost use Rattle.timer_tree.specs.Nodes.{near, far, with_links, blank, other_side, child_side, is_leaf, is_high_leaf};
 
 /// The number of no node: no room reaches so far.
 pub(crate) const NONE: u32 = u32::MAX;
@@ -45,6 +45,13 @@ impl Node {
         } else {
             Side::Right
         }
+    }
+
+    /// Whether nothing is below it.
+    pub(crate) fn is_leaf(self) -> bool
+        ensures { result ≡ is_leaf self }
+    {
+        self.left == NONE && self.right == NONE
     }
 
     /// Whether it is a leaf whose rank is too high.

@@ -6,7 +6,6 @@ ghost use Rattle.timer_tree.specs.declared.node.Node.{Node};
 ghost use Rattle.timer_tree.specs.Moves.{ended, raised, risen, sunk, lowered, repair_step};
 ghost use Rattle.timer_tree.specs.Rotate.{ranked};
 
-use crate::add::Place;
 use crate::block::Block;
 use crate::links::rank_of;
 use crate::node::{NONE, Node, Side};
@@ -27,16 +26,15 @@ pub(crate) struct Unbalanced {
 pub(crate) fn settle<L: Ledger>(
     block: &mut Block,
     root: &mut u32,
-    place: Place,
+    parent: u32,
+    leaf: bool,
     id: u32,
     steps: &mut Steps<L>,
 )
-    requires { (ps : List (ℕ × ℕ)) × (b : IsUnbalanced true block.old root.old (record { at = place.parent; child = id; rank = 1 }) ps) ×
-        IsOver b.context place.leaf }
-    ensures { (ps : List (ℕ × ℕ)) (b : IsUnbalanced true block.old root.old (record { at = place.parent; child = id; rank = 1 }) ps) →
-        IsOver b.context place.leaf → IsRepaired block.old block.new root.new ps (length b.context) steps.old steps.new }
+    requires { (ps : List (ℕ × ℕ)) × (b : IsUnbalanced true block.old root.old (record { at = parent; child = id; rank = 1 }) ps) × IsOver b.context leaf }
+    ensures { (ps : List (ℕ × ℕ)) (b : IsUnbalanced true block.old root.old (record { at = parent; child = id; rank = 1 }) ps) →
+        IsOver b.context leaf → IsRepaired block.old block.new root.new ps (length b.context) steps.old steps.new }
 {
-    let Place { parent, leaf } = place;
     if parent == NONE {
         return;
     }

@@ -44,9 +44,8 @@ impl SixTrees {
         // Where d binary digits hold the number of the queue's timers before the call and one more.
         ensures steps { (d : ℕ) → length (get_or self.old.0 queue []) + 1 < 2 ^ d → steps.new ≤ steps.old + 32 * (d + 1) }
     {
-        let mut tree = self.trees[queue as usize];
-        add_to(&mut self.block, &mut tree, expires, id, steps);
-        self.trees[queue as usize] = tree;
+        let tree = &mut self.trees[queue as usize];
+        add_to(&mut self.block, tree, expires, id, steps);
     }
 
     /// As `erase`, counting the links that are read or written.
@@ -58,9 +57,8 @@ impl SixTrees {
         // Where d binary digits hold the number of the queue's timers before the call and one more.
         ensures steps { (d : ℕ) → length (get_or self.old.0 queue []) + 1 < 2 ^ d → steps.new ≤ steps.old + 32 * (d + 1) }
     {
-        let mut tree = self.trees[queue as usize];
-        erase_from(&mut self.block, &mut tree, id, steps);
-        self.trees[queue as usize] = tree;
+        let tree = &mut self.trees[queue as usize];
+        erase_from(&mut self.block, tree, id, steps);
     }
 
     /// As `first`, counting the links that are read or written.

@@ -1,7 +1,7 @@
 //! A queue of timers as a tree, and the calls that count what they touch.
 ghost use Rattle.std.specs.Prelude.{◌≡◌, ℕ, ◌+◌, ◌*◌, ◌^◌, ◌<◌, ◌≤◌, false, List, length, IsTrue};
 ghost use Rattle.timer_queue.specs.Pairs.{put, without, first_of, has_id, IsQueue};
-ghost use Rattle.timer_tree.specs.Trees.{queue_at, times};
+ghost use Rattle.timer_tree.specs.Trees.{last_id, queue_at, times};
 ghost use Rattle.timer_tree.specs.Contexts.{IsStored, AreUnranked};
 
 use crate::block::Block;
@@ -14,7 +14,7 @@ use std::sync::ledger::{Blank, Ledger};
 use timer_queue::Queue;
 
 /// A queue of timers as a balanced tree. Its nodes lie in one block that is taken by `make` and given back when the queue is
-/// dropped: adding and erasing take and give nothing. Node n is the link of timer n, and the first node's number is kept.
+/// dropped: adding and erasing take and give nothing. Node n is the link of timer n, and the first and the last node's numbers are kept.
 #[derive(Drop)]
 pub struct TimerTree {
     block: Block,
@@ -27,7 +27,7 @@ impl Model for TimerTree {
     ghost view = { λ t. (queue_at t.block t.tree.root, length t.block) };
 
     ghost invariant = { λ t. IsStored t.block t.tree.root t.tree.first (queue_at t.block t.tree.root)
-        × AreUnranked t.block (λ k. times k (queue_at t.block t.tree.root)) };
+        × AreUnranked t.block (λ k. times k (queue_at t.block t.tree.root)) × (t.tree.last ≡ last_id (queue_at t.block t.tree.root)) };
 }
 
 impl TimerTree {

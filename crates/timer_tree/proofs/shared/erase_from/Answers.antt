@@ -2,7 +2,7 @@ use Rattle.std.proofs.Common.{arith, length}
 use Rattle.timer_queue.specs.Pairs.{without}
 use Rattle.timer_tree.specs.Trees.{queue_at}
 use Rattle.timer_tree.specs.Contexts.{Becomes}
-use Rattle.timer_tree.proofs.Erasing.{erased, takes, taken_can}
+use Rattle.timer_tree.proofs.Erasing.{erased, erased_last, takes, taken_can}
 use Rattle.timer_tree.proofs.Stores.{has_inside, queue_at-is}
 use Rattle.timer_tree.proofs.shared.erase_from.Given.{Over}
 use Rattle.timer_tree.proofs.shared.erase_from.Goals as goal
@@ -41,4 +41,8 @@ done g c =
     (c.take_out-broken.ensures ps taking) c.forget.ensures.block c.forget.ensures.steps c.repair.ensures
 
 pub returns : goal.returns
-returns g c = record { pairs = queue_at-is _ _ _ (done g c).stored.is_tree; gives = done g c }
+returns g c = record {
+  last = erased_last _ _ _ _ _ _ _ (takes _ _ _ _ _ c.requires.stored c.requires.present) c.requires.last c.read-node.ensures.node c.drop_last.ensures;
+  pairs = queue_at-is _ _ _ (done g c).stored.is_tree;
+  gives = done g c;
+}

@@ -13,11 +13,14 @@ add_to-requires-clause-absent g c =
     (has_any-none c.args.id c.args.queue (queues_of c.self.inside.block c.self.inside.trees)
     (subst (λ v. has_any c.args.id v.0 ≡ false) (sym c.self.view_is) c.requires.absent))
 
+pub add_to-requires-clause-last : goal.add_to-requires-clause-last
+add_to-requires-clause-last g c = c.self.invariant.0.ends c.args.queue (omega (arith, c.self.invariant.1, c.requires.queue))
+
 pub invariant_of-self : goal.invariant_of-self
 invariant_of-self g c =
     let rs = c.self.inside.trees in
     let inside : c.args.queue < length rs = omega (arith, c.self.invariant.1, c.requires.queue) in (
-      all_after _ _ rs c.args.queue c.add_to.new.tree _ _ _ c.self.invariant.0 inside c.add_to.ensures.gives
+      all_after _ _ rs c.args.queue c.add_to.new.tree _ _ _ c.self.invariant.0 inside c.add_to.ensures.gives c.add_to.ensures.last
           (put_once _ rs c.args.queue c.args.id c.self.invariant.0 inside c.args.expires
           (subst (λ v. has_any c.args.id v.0 ≡ false) (sym c.self.view_is) c.requires.absent)),
       length-set rs c.args.queue c.add_to.new.tree ∙ c.self.invariant.1,
@@ -28,7 +31,7 @@ returns-clause-queues g c =
     let xs = c.self.inside.block in
     let rs = c.self.inside.trees in
     let inside : c.args.queue < length rs = omega (arith, c.self.invariant.1, c.requires.queue) in
-    queues_after xs _ rs c.args.queue c.add_to.new.tree _ _ _ c.self.invariant.0 inside c.add_to.ensures.gives
+    queues_after xs _ rs c.args.queue c.add_to.new.tree _ _ _ c.self.invariant.0 inside c.add_to.ensures.gives c.add_to.ensures.last
     (put_once _ rs c.args.queue c.args.id c.self.invariant.0 inside c.args.expires
     (subst (λ v. has_any c.args.id v.0 ≡ false) (sym c.self.view_is) c.requires.absent))
     ∙ ap (λ q. slice_set (queues_of xs rs) c.args.queue (put c.args.expires c.args.id q)) (sym (queue_in xs rs c.args.queue inside))

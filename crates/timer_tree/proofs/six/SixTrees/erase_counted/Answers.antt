@@ -13,11 +13,14 @@ erase_from-requires-clause-present g c =
     subst (λ q. has_id c.args.id q ≡ true) (queue_in c.self.inside.block c.self.inside.trees c.args.queue (omega (arith, c.self.invariant.1, c.requires.queue)))
     (subst (λ v. has_id c.args.id (slice_index_or v.0 c.args.queue []) ≡ true) (sym c.self.view_is) c.requires.present)
 
+pub erase_from-requires-clause-last : goal.erase_from-requires-clause-last
+erase_from-requires-clause-last g c = c.self.invariant.0.ends c.args.queue (omega (arith, c.self.invariant.1, c.requires.queue))
+
 pub invariant_of-self : goal.invariant_of-self
 invariant_of-self g c =
     let rs = c.self.inside.trees in
     let inside : c.args.queue < length rs = omega (arith, c.self.invariant.1, c.requires.queue) in (
-      all_after _ _ rs c.args.queue c.erase_from.new.tree _ _ _ c.self.invariant.0 inside c.erase_from.ensures.gives
+      all_after _ _ rs c.args.queue c.erase_from.new.tree _ _ _ c.self.invariant.0 inside c.erase_from.ensures.gives c.erase_from.ensures.last
           (without_once _ rs c.args.queue c.args.id c.self.invariant.0 inside),
       length-set rs c.args.queue c.erase_from.new.tree ∙ c.self.invariant.1,
     )
@@ -27,7 +30,7 @@ returns-clause-queues g c =
     let xs = c.self.inside.block in
     let rs = c.self.inside.trees in
     let inside : c.args.queue < length rs = omega (arith, c.self.invariant.1, c.requires.queue) in
-    queues_after xs _ rs c.args.queue c.erase_from.new.tree _ _ _ c.self.invariant.0 inside c.erase_from.ensures.gives
+    queues_after xs _ rs c.args.queue c.erase_from.new.tree _ _ _ c.self.invariant.0 inside c.erase_from.ensures.gives c.erase_from.ensures.last
     (without_once _ rs c.args.queue c.args.id c.self.invariant.0 inside)
     ∙ ap (λ q. slice_set (queues_of xs rs) c.args.queue (without c.args.id q)) (sym (queue_in xs rs c.args.queue inside))
     ∙ ap (λ v. slice_set v.0 c.args.queue (without c.args.id (slice_index_or v.0 c.args.queue []))) c.self.view_is

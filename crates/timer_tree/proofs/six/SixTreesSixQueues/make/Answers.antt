@@ -10,7 +10,7 @@ use Rattle.timer_tree.proofs.Forests.{all_empty}
 use Rattle.timer_tree.proofs.six.SixTreesSixQueues.make.Goals as goal
 
 abbrev start : Root
-start = record { root = none; first = none }
+start = record { root = none; first = none; last = none }
 
 starts : (n j : ℕ) → j < n → slice_index_or (replicate n start) j no_root ≡ start
 starts zero j within = let never : ⊥ = omega (arith, within) in absurd never
