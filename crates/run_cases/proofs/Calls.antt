@@ -77,7 +77,7 @@ are_placed w lane index before (p ∷ ps) (a ∷ more) =
 are_placed w lane index before ps given = true
 
 -- a call that could have read the clock there did so in its turn, if it read it
-in_turn : (w : Witness) (c : Label) (call : Call) (from : ℕ) → HasRead w c from → ReadsInTurn w c call from
+pub in_turn : (w : Witness) (c : Label) (call : Call) (from : ℕ) → HasRead w c from → ReadsInTurn w c call from
 in_turn w c (calls.Cancel timer) from read = tt
 in_turn w c (calls.Peek timer) from read = tt
 in_turn w c (calls.Overrun timer) from read = tt

@@ -1,5 +1,5 @@
--- The record in which 65 signals wait doesn't fit.
-use Rattle.std.proofs.Common.{◌≡◌, ◌≤◌, ◌<◌, ℕ, ◌+◌, zero, suc, true, if◌then◌else◌, nat_lt, List, [], ◌∷◌, ◌++◌, Some, get_or, map, replicate, arith, refl, sym, ap, ◌∙◌, subst}
+-- Records of many queued timers that expire: lists that are made of their numbers, and the signals that were sent.
+use Rattle.std.proofs.Common.{◌≡◌, ◌<◌, ℕ, ◌+◌, zero, suc, true, nat_lt, List, [], ◌++◌, Some, get_or, map, replicate, arith, refl, sym, ap, ◌∙◌, subst}
 use Rattle.std.specs.List.{AllByRecursion, range_with_len, slice_get}
 use Rattle.std.proofs.lemmas.Bool.Decides.{nat_tests}
 use Rattle.record_text.specs.declared.record.Answer.{Answer}
@@ -16,14 +16,11 @@ use Rattle.script_text.specs.declared.script.Kind.{Kind}
 use Rattle.script_text.specs.declared.script.Kind.TheVariants as kinds
 use Rattle.script_text.specs.Declarations.{kind_of}
 use Rattle.signal_queue.specs.declared.signal.Signal.{Signal}
-use Rattle.run_history.specs.Fits.{Fits}
 use Rattle.run_history.specs.Objects.{lines_of_object}
 use Rattle.run_history.specs.Signals.{SendsSignals}
-use Rattle.fit_laws.specs.Signals.{AreDistinct, NamedNoLater, Sent, SentBefore}
-use Rattle.fit_laws.proofs.SignalLaws.{found_room}
-use Rattle.run_cases.specs.Lines.{at, counted_entry}
-use Rattle.run_cases.specs.Wrong.{crowded_lines, crowded_record, crowded_run, crowded_script}
-use Rattle.run_cases.proofs.SignalsWrong.{NamesNot, signal_of, unnamed}
+use Rattle.fit_laws.specs.Signals.{AreDistinct, Sent}
+use Rattle.run_cases.specs.Lines.{counted_entry}
+use Rattle.run_cases.proofs.SignalsWrong.{NamesNot, signal_of}
 
 -- ---- what is made of numbers
 
@@ -82,10 +79,6 @@ sent_of s r lines c timers objects i less there = record {
         none : (n : ℕ) → 0 + n ≡ n
         none n = omega arith
 
--- each was sent by the run by which its timer expired
-sent : (i : ℕ) → i < 65 → Sent crowded_script crowded_record (at 0 (crowded_run i)) (signal_of i)
-sent i less = sent_of crowded_script crowded_record crowded_lines (at 0 (crowded_run i)) refl refl i less refl
-
 -- no answer names one
 pub old_answers : (x : Signal) (k n : ℕ) (rest : List Answer) → AllByRecursion (NamesNot x) rest
     → AllByRecursion (NamesNot x) (map (λ timer. answers.Old 0 0) (range_with_len k n) ++ rest)
@@ -94,33 +87,3 @@ old_answers x k (suc n) rest all = (λ e. e, old_answers x (k + 1) n rest all)
 
 pub below : (i : ℕ) → i < 64 → nat_lt i 64 ≡ true
 below i less = grind (arith, nat_tests, less)
-
-first_run : (i : ℕ) → i < 64 → crowded_run i ≡ 66
-first_run i less = ap (λ b. if b then 66 else 67) (below i less)
-
--- the signals of the first run are left where the second one begins
-Left : Signal → Type 0
-Left x = SentBefore crowded_script crowded_record (at 0 67) x × (NamedNoLater crowded_script crowded_record (at 0 67) x → ⊥)
-
-left_one : (i : ℕ) → i < 64 → Left (signal_of i)
-unfolding Left
-left_one i less = (
-  (at 0 66, subst (λ n. Sent crowded_script crowded_record (at 0 n) (signal_of i)) (first_run i less) (sent i (omega (arith, less))), refl),
-  λ named. unnamed crowded_record (signal_of i) (
-    old_answers (signal_of i) 0 65
-        (answers.Clock 1 ∷ answers.More 1 (range_with_len 0 64) ∷ answers.Done 1 (64 ∷ []) ∷ []) (λ e. e, (λ e. e, (λ e. e, tt))),
-    tt,
-  ) named.0 named.1,
-)
-
-left_all : (k n : ℕ) → k + n ≤ 64 → AllByRecursion Left (map signal_of (range_with_len k n))
-left_all k zero few = tt
-left_all k (suc n) few = (left_one k (omega (arith, few)), left_all (k + 1) n (omega (arith, few)))
-
--- law: it does not fit
-pub crowded_doesnt_fit : Fits crowded_script crowded_record → ⊥
-unfolding Left
-crowded_doesnt_fit fits =
-    let room = found_room crowded_script crowded_record fits (at 0 67) (signal_of 64) (sent 64 (omega arith)) (map signal_of (range_with_len 0 64))
-    (differ 0 64) (left_all 0 64 (omega arith)) in
-    absurd (omega (arith, room))

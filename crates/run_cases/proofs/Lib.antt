@@ -4,6 +4,12 @@ pub mod Calls
 pub mod ClaimedFirst
 pub mod CrowdedQueue
 pub mod ExpiryRuns
+pub mod FullQueue
+pub mod FullQueueCalls
+pub mod FullQueueFits
+pub mod FullQueueHistory
+pub mod FullQueueOwn
+pub mod FullQueuePlaces
 pub mod FittingRecords
 pub mod LooksAndWrites
 pub mod MovedInTurn
@@ -11,6 +17,7 @@ pub mod ObjectsFitting
 pub mod ObjectsWrong
 pub mod OffLine
 pub mod Orders
+pub mod OverfullQueue
 pub mod Readings
 pub mod RefusedHeir
 pub mod RefusedStart

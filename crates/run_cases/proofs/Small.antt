@@ -19,7 +19,7 @@ use Rattle.script_text.specs.declared.script.Script.{Script}
 use Rattle.run_history.specs.Histories.{answers_of, AreWrites, clock_labels}
 use Rattle.script_text.specs.Declarations.{declareds_of, terms_of, kind_of}
 use Rattle.run_history.specs.Objects.{IsLegalObject}
-use Rattle.run_history.specs.Order.{AreUnder, calls_of}
+use Rattle.run_history.specs.Order.{AreUnder, IsInOrder, calls_of}
 use Rattle.run_history.specs.Witnesses.{BasesList, CountersList, RunLists, Witness, entries_in, is_owner, labels, line_of_base, line_of_object, line_of_signal, line_of_timer, lines_at, Move, moves_from, moves_on, Owner, owner_of, TimersList, twice}
 use Rattle.run_history.specs.Signals.{AreSignals, pop_counter, pops_at, push_counter, pushes_at, signals_in}
 use Rattle.run_history.proofs.Labels.{refuted}
@@ -72,9 +72,12 @@ are_sized w =
     (nat_eq (length w.run.timers) (length w.script.timers) && nat_eq (length w.run.objects) (length w.script.timers))
     && (nat_eq (length w.run.answers) w.script.lanes && nat_eq (length w.run.bases) w.script.bases)
 
--- all these tests
+-- these tests but that of order, and all of them
+abbrev pub is_whole : Witness → Bool
+is_whole w = (are_sized w && are_signals w) && (are_called w && (are_under w && are_there w))
+
 abbrev pub is_passed : Witness → Bool
-is_passed w = (are_sized w && are_signals w) && ((are_called w && are_ordered w) && (are_under w && are_there w))
+is_passed w = is_whole w && are_ordered w
 
 -- what makes the record of a small witness fit: the tests are passed, and the rest is said of each timer and each lane
 pub record IsSmall (w : Witness) : Type 0 where
@@ -89,6 +92,21 @@ pub record IsSmall (w : Witness) : Type 0 where
   pub object_histories : Along (λ i. IsLegalObject w.script w.run i (kind_of w.script i)) 0 w.script.timers
   pub placed : Along (λ lane. are_placed w lane 0 unseen (calls_of w.script lane) (answers_of w.run lane) ≡ true) 0 w.run.answers
   pub calls : Along (λ lane. AreRight w lane 0 (calls_of w.script lane) (answers_of w.run lane)) 0 w.run.answers
+
+-- what makes the record of a witness fit, however its calls and their order are shown
+pub record IsWhole (w : Witness) : Type 0 where
+  pub version : w.run.version ≡ w.script.version
+  pub passed : is_whole w ≡ true
+  pub clock_order : IsInOrder w.script (clock_labels w.run)
+  pub order : IsInOrder w.script (labels w)
+  pub writes : AreWrites (at_stamp 0) w.run.clock
+  pub all : Along (λ t. moves_on (TimersList t) w.moves ≡ moves_from 0 (lines_at (lists_in w) (TimersList t))) 0 w.run.timers
+  pub bases : Along (λ b. moves_on (BasesList b) w.moves ≡ moves_from 0 (lines_at (lists_in w) (BasesList b))) 0 w.run.bases
+  pub clock : moves_on (CountersList 0) w.moves ≡ moves_from 0 (lines_at (lists_in w) (CountersList 0))
+  pub objects : Along (λ i. moves_on (CountersList (suc i)) w.moves ≡ moves_from 0 (lines_at (lists_in w) (CountersList (suc i)))) 0 w.run.objects
+  pub history : IsSystemHistory w.script.bases (declareds_of w.script) (terms_of w.script) (entries_in w)
+  pub object_histories : Along (λ i. IsLegalObject w.script w.run i (kind_of w.script i)) 0 w.script.timers
+  pub lanes : Along (λ lane. FitsLane w lane 0 unseen (calls_of w.script lane) (answers_of w.run lane)) 0 w.run.answers
 
 under_passes : (s : Script) (line : TimerLine) → is_under s line ≡ true → AreUnder s (map (λ look. look.label) line.looks)
 under_passes s line e =
@@ -190,24 +208,23 @@ small_rises w same e i past less =
     (rises_pass Q 0 (moves_on (CountersList Q) w.moves) (w.signals Q) both.1))
     (cases_lt i (length w.run.objects + 1))
 
-small_fits : (w : Witness) → HasOthers w → IsSmall w → FitsIn w
-small_fits w others small =
+-- law: it fits
+pub whole_fits : (w : Witness) → HasOthers w → IsWhole w → FitsIn w
+whole_fits w others small =
     let s = w.script in
     let r = w.run in
     let of_looks = λ (lines : List TimerLine). list_all (is_under s) lines in
     let of_skips = λ (lines : List ObjectLine). list_all (is_refused_under s) lines in
-    let passed = and_parts (are_sized w && are_signals w) ((are_called w && are_ordered w) && (are_under w && are_there w)) small.passed in
+    let passed = and_parts (are_sized w && are_signals w) (are_called w && (are_under w && are_there w)) small.passed in
     let whole = and_parts (are_sized w) (are_signals w) passed.0 in
-    let tests = and_parts (are_called w && are_ordered w) (are_under w && are_there w) passed.1 in
-    let along = and_parts (are_called w) (are_ordered w) tests.0 in
+    let tests = and_parts (are_called w) (are_under w && are_there w) passed.1 in
     let within = and_parts (are_under w) (are_there w) tests.1 in
     let sized = and_parts (nat_eq (length r.timers) (length s.timers) && nat_eq (length r.objects) (length s.timers))
     (nat_eq (length r.answers) s.lanes && nat_eq (length r.bases) s.bases) whole.0 in
     let more_sized = and_parts (nat_eq (length r.answers) s.lanes) (nat_eq (length r.bases) s.bases) sized.1 in
     let each_sized = and_parts (nat_eq (length r.timers) (length s.timers)) (nat_eq (length r.objects) (length s.timers)) sized.0 in
     let objects : length r.objects ≡ length s.timers = eqb-true (length r.objects) (length s.timers) each_sized.1 in
-    let called = and_parts (are_calls s (clock_labels r)) (are_calls s (labels w)) along.0 in
-    let ordered = and_parts (are_in_order s (clock_labels r)) (are_in_order s (labels w)) along.1 in
+    let called = and_parts (are_calls s (clock_labels r)) (are_calls s (labels w)) tests.0 in
     let under = and_parts (list_all of_looks r.timers) (list_all of_skips r.objects) within.0 in
     let of_moves = λ (m : Move). is_list r 2 (owner_of m.shown) in
     let of_lanes = λ (c : LaneCall). nat_lt c.lane (length r.answers) in
@@ -238,17 +255,36 @@ small_fits w others small =
       object_histories = everywhere (λ i. IsLegalObject s r i (kind_of s i)) s.timers small.object_histories (λ i past.
           subst (IsLegalObject s r i) (sym (get_or_past (map (λ d. d.kind) s.timers) i (kinds.Raw contexts.Hard callbacks.Once)
           (subst (λ n. n ≤ i) (sym (length-map s.timers (λ d. d.kind))) past))) (get_or_past r.objects i [] (subst (λ n. n ≤ i) (sym objects) past)));
-      clock_order = order_passes s (clock_labels r) ordered.0;
-      order = order_passes s (labels w) ordered.1;
+      clock_order = small.clock_order;
+      order = small.order;
       signals = small_signals w others whole.1;
       calls = everywhere (λ lane. FitsLane w lane 0 unseen (calls_of s lane) (answers_of r lane)) r.answers
-          (both 0 r.answers small.placed small.calls) (λ lane past.
+          small.lanes (λ lane past.
           subst (λ ps. FitsLane w lane 0 unseen ps (answers_of r lane)) (sym (no_calls lane 0 s.rounds
           (all_true (λ (round : Round). AllByRecursion (λ c. nat_eq c.lane lane ≡ false) round.calls) of_rounds
           (λ round e. all_true (λ c. nat_eq c.lane lane ≡ false) of_lanes
           (λ c less. other c.lane (length r.answers) lane less past) round.calls e) s.rounds there.1)))
           (subst (FitsLane w lane 0 unseen []) (sym (get_or_past r.answers lane [] past)) tt));
     }
+
+small_fits : (w : Witness) → HasOthers w → IsSmall w → FitsIn w
+small_fits w others small =
+    let tests = and_parts (is_whole w) (are_ordered w) small.passed in
+    let ordered = and_parts (are_in_order w.script (clock_labels w.run)) (are_in_order w.script (labels w)) tests.1 in
+    whole_fits w others (record {
+      version = small.version;
+      passed = tests.0;
+      clock_order = order_passes w.script (clock_labels w.run) ordered.0;
+      order = order_passes w.script (labels w) ordered.1;
+      writes = small.writes;
+      all = small.all;
+      bases = small.bases;
+      clock = small.clock;
+      objects = small.objects;
+      history = small.history;
+      object_histories = small.object_histories;
+      lanes = both 0 w.run.answers small.placed small.calls;
+    })
   where
     both : {X : Type 0} (n : ℕ) (xs : List X) → Along (λ lane. are_placed w lane 0 unseen (calls_of w.script lane) (answers_of w.run lane) ≡ true) n xs
         → Along (λ lane. AreRight w lane 0 (calls_of w.script lane) (answers_of w.run lane)) n xs

@@ -1,6 +1,5 @@
 -- Scripts, each with a record that doesn't fit it, though each timer's lines by themselves are a history in all but one of them.
-use Rattle.std.specs.List.{range_with_len}
-use Rattle.std.specs.Prelude.{ℕ, nat_lt, if◌then◌else◌, true, false, List, [], ◌∷◌, ◌++◌, map}
+use Rattle.std.specs.Prelude.{ℕ, true, false, List, [], ◌∷◌, ◌++◌, map}
 use Rattle.ktime.specs.declared.mode.Mode.TheVariants as modes
 use Rattle.ktime.specs.declared.write.Write.TheVariants as writes
 use Rattle.seq_timer.specs.declared.context.Context.TheVariants as contexts
@@ -10,7 +9,6 @@ use Rattle.record_text.specs.declared.record.ClockLine.{ClockLine}
 use Rattle.record_text.specs.declared.record.Entry.{Entry}
 use Rattle.record_text.specs.declared.record.InterruptReply.TheVariants as ended
 use Rattle.record_text.specs.declared.record.ObjectEntry.TheVariants as object_entries
-use Rattle.record_text.specs.declared.record.ObjectLine.{ObjectLine}
 use Rattle.record_text.specs.declared.record.RunRecord.{RunRecord}
 use Rattle.record_text.specs.declared.record.TimerLine.{TimerLine}
 use Rattle.record_text.specs.declared.version.Version.TheVariants as versions
@@ -453,28 +451,6 @@ pending_record = record (object_record (advance_line 0 1 100 ∷ []) (claimed_by
 -- a record that breaks it
 abbrev pub roomless_record : RunRecord
 roomless_record = filled_by (answers.StaleSignal 0 2)
-
--- ---- of 65 timers that expire, with no signal taken, the last one's expiry counts too: its signal finds room
-
--- the script
-abbrev pub crowded_script : Script
-crowded_script = queued_script 65 (map (λ timer. settime_of timer 100) (range_with_len 0 65)
-    ++ calls.Clock (writes.Advance 100) ∷ hard_expire 0 64 ∷ hard_expire 0 4 ∷ [])
-
--- the run by which a timer expires
-abbrev pub crowded_run : ℕ → ℕ
-crowded_run timer = if nat_lt timer 64 then 66 else 67
-
--- a timer's object, which is set and expires
-abbrev pub crowded_lines : ℕ → List ObjectLine
-crowded_lines timer = case_object_line 0 timer (set_entry_of 100 0 1 0) ∷ case_object_line 0 (crowded_run timer) (counted_entry 1 1) ∷ []
-
--- a record that breaks it
-abbrev pub crowded_record : RunRecord
-crowded_record = queued_record (advance_line 0 65 100 ∷ [])
-    (map (λ timer. claimed_by timer 100 0 (crowded_run timer) 1) (range_with_len 0 65)) (map crowded_lines (range_with_len 0 65))
-    (map (λ timer. answers.Old 0 0) (range_with_len 0 65)
-    ++ answers.Clock 1 ∷ answers.More 1 (range_with_len 0 64) ∷ answers.Done 1 (64 ∷ []) ∷ [])
 
 -- ---- a signal is accepted whose timer was set anew since, and expired again
 

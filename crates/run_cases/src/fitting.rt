@@ -2,6 +2,7 @@
 ghost use Rattle.run_history.specs.Fits.{Fits};
 ghost use Rattle.run_cases.specs.BesideRuns as beside;
 ghost use Rattle.run_cases.specs.Fitting as fitting;
+ghost use Rattle.run_cases.specs.FullQueue as full;
 
 /// A timer is started, expires, is cancelled when it is idle, and is looked at.
 #[tactic(auto, using(crate::proofs::FittingRecords::idle_fits))]
@@ -207,4 +208,10 @@ pub fn two_lanes_take_two_signals()
 #[tactic(auto, using(crate::proofs::BesideRuns::set_again_fits))]
 pub fn two_signals_of_one_timer_are_taken_in_turn()
     ensures { Fits beside.set_again_script beside.set_again_record }
+{}
+
+/// A queued timer is set anew and expires, 65 times, and no signal is taken: the last expiry finds no room. Then the first signal is taken, and is stale.
+#[tactic(auto, using(crate::proofs::FullQueueFits::full_queue_fits))]
+pub fn the_65th_signal_finds_no_room()
+    ensures { Fits full.full_queue_script full.full_queue_record }
 {}

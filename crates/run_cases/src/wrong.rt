@@ -2,6 +2,7 @@
 ghost use Rattle.run_history.specs.Fits.{Fits};
 ghost use Rattle.run_cases.specs.BesideRuns as beside;
 ghost use Rattle.run_cases.specs.Fitting as fitting;
+ghost use Rattle.run_cases.specs.FullQueue as full;
 ghost use Rattle.run_cases.specs.Wrong as wrong;
 
 /// No two functions of one context run at once on a base: one lane is told, before and behind its own claim there, that another's timer runs.
@@ -276,9 +277,9 @@ pub fn no_signal_is_stale_that_was_pending_while_there_was_room()
 {}
 
 /// No signal is sent while as many wait as may: an expiry then finds no room.
-#[tactic(auto, using(crate::proofs::CrowdedQueue::crowded_doesnt_fit))]
+#[tactic(auto, using(crate::proofs::OverfullQueue::overfull_doesnt_fit))]
 pub fn no_signal_is_sent_where_as_many_wait_as_may()
-    ensures { Fits wrong.crowded_script wrong.crowded_record → ⊥ }
+    ensures { Fits full.full_queue_script full.overfull_queue_record → ⊥ }
 {}
 
 /// No signal is accepted whose timer was set anew since, though the timer has expired again and that signal is pending.
